@@ -1,0 +1,85 @@
+// Sequence numbers (003, seq.rs): 32 bits that wrap at 2^32.
+ghost use mathlib.Core.Path.{_≡_};
+ghost use lib.IntN.{pos};
+ghost use Rattle.seq.specs.Numbers.{seqOf, plus, minus, signed, before};
+
+// A sequence number.
+pub struct Seq(pub u32);
+
+impl Seq {
+    pub const ZERO: Self = Self(0);
+
+    pub const MINUS_ONE: Self = Self(0xFFFF_FFFF);
+    // The most that a received number may be past the next expected one.
+    pub const USABLE_INTERVAL: i32 = 65_536;
+
+    // The number n past this one.
+    pub fn add(self, n: u32) -> Self
+        ensures { λ r. ⌜ r ≡ seqOf (plus (self .0) n) ⌝ }
+    {
+        let a = self.0;
+        Self(std::num::wrapping_add_u32(a, n))
+    }
+
+    // The number n before this one.
+    pub fn sub(self, n: u32) -> Self
+        ensures { λ r. ⌜ r ≡ seqOf (minus (self .0) n) ⌝ }
+    {
+        let a = self.0;
+        Self(std::num::wrapping_sub_u32(a, n))
+    }
+
+    // How many numbers lead from other up to this one, going round at 2^32.
+    pub fn since(self, other: Self) -> u32
+        ensures { λ r. ⌜ r ≡ minus (self .0) (other .0) ⌝ }
+    {
+        let a = self.0;
+        let b = other.0;
+        std::num::wrapping_sub_u32(a, b)
+    }
+
+    // The difference, read as signed: negative where this number is before other.
+    pub fn distance(self, other: Self) -> i32
+        ensures { λ r. ⌜ r ≡ signed (minus (self .0) (other .0)) ⌝ }
+    {
+        as_signed(self.since(other))
+    }
+
+    // Not by comparing raw numbers: at the wrap the next tile would look old.
+    pub fn is_before(self, other: Self) -> bool
+        ensures { λ r. ⌜ r ≡ before (self .0) (other .0) ⌝ }
+    {
+        self.distance(other) < 0
+    }
+}
+
+// What the constants are worth, as promises: the code of the layers above has their values in place of their names.
+fn zero() -> Seq
+    ensures { λ r. ⌜ r ≡ seqOf 0 ⌝ }
+{
+    Seq::ZERO
+}
+
+fn minus_one() -> Seq
+    ensures { λ r. ⌜ r ≡ seqOf (minus 0 1) ⌝ }
+{
+    Seq::MINUS_ONE
+}
+
+fn usable_interval() -> i32
+    ensures { λ r. ⌜ r ≡ pos 65536 ⌝ }
+{
+    Seq::USABLE_INTERVAL
+}
+
+// A word of 32 bits read as signed. Rattle's `as` refuses a cast that changes the value.
+pub fn as_signed(d: u32) -> i32
+    ensures { λ r. ⌜ r ≡ signed d ⌝ }
+{
+    if d < 0x8000_0000 {
+        d as i32
+    } else {
+        let m = (0xFFFF_FFFF - d) as i32;
+        -1 - m
+    }
+}
