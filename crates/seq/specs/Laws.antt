@@ -1,6 +1,6 @@
 -- The laws of numbers that the layers above live on. `plus s k` is the number that count k has where s is the start.
 -- Assumes nothing.
-use mathlib.Core.Path.{_≡_, refl, ap, _∙_}
+use mathlib.Core.Path.{_≡_, ap, _∙_}
 use mathlib.Core.Bool.{true, false}
 use Prim.Native.Nat.{ℕ, _+_, _-_, _%_, _^_, _≤_, _<_, _∣_}
 use native.Mathlib.Nat.{mod-mod-of-dvd}

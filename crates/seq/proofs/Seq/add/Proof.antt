@@ -1,17 +1,13 @@
+-- The supplied sum wraps as `plus` does.
 use mathlib.Core.Path.{ap}
 use borrow.Author.Needs.{needs}
 use Rattle.seq.specs.Numbers.{seqOf, plus}
 use Rattle.seq.proofs.Seq.add.Statement.{statement}
 use Rattle.seq.proofs.Seq.add.Tie as tie
-use Rattle.seq.proofs.Seq.add.Reads as reads
-use Rattle.seq.proofs.Seq.add.Lts as lts
-use Rattle.std.proofs.num.wrapping_add_u32.Reads as wrapping-add-u32-reads
 
--- src/lib.rt:19:14
 wrapping-add-u32-requires : tie.Need-wrapping-add-u32-requires
 wrapping-add-u32-requires c κs = search needs
 
--- src/lib.rt:15:5
 returns : tie.Need-returns
 unfolding plus
 returns c = ap seqOf (c .wrapping-add-u32 .ensures)

@@ -1,3 +1,4 @@
+-- Below 0 is negative.
 use mathlib.Core.Path.{ap, _∙_}
 use borrow.Author.Needs.{needs}
 use lib.IntN.{pos}
@@ -8,15 +9,10 @@ use Rattle.seq.specs.Numbers.{negative, before}
 use Rattle.seq.proofs.Signed.{below-zero}
 use Rattle.seq.proofs.Seq.is_before.Statement.{statement}
 use Rattle.seq.proofs.Seq.is_before.Tie as tie
-use Rattle.seq.proofs.Seq.is_before.Reads as reads
-use Rattle.seq.proofs.Seq.is_before.Lts as lts
-use Rattle.seq.proofs.Seq.distance.Reads as distance-reads
 
--- src/lib.rt:50:9
 distance-requires : tie.Need-distance-requires
 distance-requires c κs = search needs
 
--- src/lib.rt:47:5
 returns : tie.Need-returns
 unfolding before
 returns c =
