@@ -1,4 +1,9 @@
 // The refusals of document 01 by name, with their numbers. Every call of every layer refuses by one of these.
+pub mod verdict;
+
+pub use verdict::Verdict;
+pub use verdict::both;
+pub use verdict::gate;
 ghost use mathlib.Core.Path.{_≡_};
 ghost use Rattle.refusal.specs.Refusals.{numberOf};
 

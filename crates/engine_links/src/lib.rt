@@ -1,0 +1,2 @@
+// The engine's calls on links: adding, removing, confirming, unconfirming and blocking them, pings and the limit mark.
+pub mod changes;

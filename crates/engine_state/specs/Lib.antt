@@ -1,0 +1,15 @@
+pub mod Ring
+pub mod Packets
+pub mod Cells
+pub mod Roster
+pub mod Tally
+pub mod CellTally
+pub mod Decide
+pub mod Sound
+pub mod Rows
+pub mod Answer
+pub mod Fresh
+pub mod Queue
+pub mod DecidedTables
+pub mod DecidedPackets
+pub mod Decided

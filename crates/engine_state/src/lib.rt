@@ -1,0 +1,21 @@
+// The engine's state (000, agg/task.rs): its fields, when it is sound, and how it starts.
+pub mod answer;
+pub mod fresh;
+pub mod packets;
+pub mod queue;
+pub mod received;
+pub mod roster;
+pub mod rows;
+pub mod sound;
+pub mod state;
+
+pub use answer::Changed;
+pub use answer::Outcome;
+pub use state::Flushed;
+pub use state::Held;
+pub use state::Receiving;
+pub use state::RxCell;
+pub use state::Sending;
+pub use state::SentReliable;
+pub use state::SentReliableStatus;
+pub use state::State;

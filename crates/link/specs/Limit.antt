@@ -1,0 +1,30 @@
+-- Document 01, the limit mark: "setting the limit mark to any number", "Ack of number a" and "Resend". Assumes nothing.
+use mathlib.Core.Bool.{true, cond}
+use Prim.Native.Nat.{ℕ}
+use Rattle.seq.specs.Numbers.{seqOf, before}
+use Rattle.link.specs.declared.row.LinkRow.{LinkRow}
+use Rattle.link.specs.declared.row.Limit.{Limit}
+use Rattle.link.specs.declared.row.Limit.the-variants.{Clear, At}
+use Rattle.link.specs.Fields.{withTrip, withSending}
+
+-- "setting the limit mark to any number": a plain change of a row
+unfoldable pub markedRow : LinkRow → Limit → LinkRow
+markedRow r m = withSending r m (r .«txed_unacked_data»)
+
+-- "First, a mark at or before a is cleared; any other mark makes the zero-estimate flag true."
+unfoldable pub markAckedAs : Limit → LinkRow → ℕ → LinkRow
+unfolding markedRow
+markAckedAs Clear r a = r
+markAckedAs (At m) r a = cond (before a (m .0)) (withTrip r (r .roundtrip) true (r .«current_ping_sent»)) (markedRow r Clear)
+
+abbrev pub markAcked : LinkRow → ℕ → LinkRow
+markAcked r a = markAckedAs (r .«limit_increased») r a
+
+-- "If the number is before the mark, the mark becomes the number."
+unfoldable pub markResentAs : Limit → LinkRow → ℕ → LinkRow
+unfolding markedRow
+markResentAs Clear r n = r
+markResentAs (At m) r n = cond (before n (m .0)) (markedRow r (At (seqOf n))) r
+
+abbrev pub markResent : LinkRow → ℕ → LinkRow
+markResent r n = markResentAs (r .«limit_increased») r n
