@@ -3,26 +3,16 @@
 use mathlib.Core.Bool.{Bool}
 use Prim.Native.Nat.{ℕ}
 use Rattle.seq.specs.declared.Seq.{Seq}
-use Rattle.refusal.specs.declared.verdict.Verdict.{Verdict}
 use Rattle.refusal.specs.declared.verdict.Verdict.the-variants.{Pass}
-use Rattle.refusal.specs.Verdicts.{gate}
 use Rattle.link.specs.declared.row.Limit.the-variants.{At}
 use Rattle.link.specs.Row.{confirmed, blockedRow}
 use Rattle.link.specs.Limit.{markedRow}
 use Rattle.link.specs.Roundtrip.{pinged, ponged}
 use Rattle.engine_state.specs.declared.state.State.{State}
 use Rattle.engine_state.specs.declared.answer.Changed.{Changed}
-use Rattle.engine_state.specs.Decide.{soundb}
-use Rattle.engine_state.specs.Rows.{rowOf, slotOk, timeOk, withRow, withTime}
+use Rattle.engine_state.specs.Gates.{slotVerdict, timedVerdict}
+use Rattle.engine_state.specs.Rows.{rowOf, withRow, withTime}
 use Rattle.engine_state.specs.Answer.{changedBy}
-
--- "1, those given a state; .. 4, those given a slot"
-unfoldable pub slotVerdict : State → ℕ → Verdict
-slotVerdict s slot = gate (soundb s) 1 (gate (slotOk s slot) 4 Pass)
-
--- "3, those given a time"
-unfoldable pub timedVerdict : State → ℕ → ℕ → Verdict
-timedVerdict s slot time = gate (soundb s) 1 (gate (timeOk s time) 3 (gate (slotOk s slot) 4 Pass))
 
 unfoldable pub confirmOf : State → ℕ → Changed
 confirmOf s slot = changedBy (slotVerdict s slot) s (withRow s slot (confirmed (rowOf s slot)))
@@ -35,8 +25,8 @@ markOf s slot seq = changedBy (slotVerdict s slot) s (withRow s slot (markedRow 
 
 -- the last accepted time moves in every accepted call that is given one
 unfoldable pub pingOf : State → ℕ → ℕ → Changed
-pingOf s slot time = changedBy (timedVerdict s slot time) s (withTime (withRow s slot (pinged (rowOf s slot) time)) time)
+pingOf s slot time = changedBy (timedVerdict s slot time Pass) s (withTime (withRow s slot (pinged (rowOf s slot) time)) time)
 
 -- "With none, it is accepted and only the last accepted time moves."
 unfoldable pub pongOf : State → ℕ → ℕ → Changed
-pongOf s slot time = changedBy (timedVerdict s slot time) s (withTime (withRow s slot (ponged (rowOf s slot) time)) time)
+pongOf s slot time = changedBy (timedVerdict s slot time Pass) s (withTime (withRow s slot (ponged (rowOf s slot) time)) time)

@@ -13,3 +13,7 @@ pub mod Queue
 pub mod DecidedTables
 pub mod DecidedPackets
 pub mod Decided
+pub mod Table
+pub mod Mapped
+pub mod Gates
+pub mod InTable

@@ -1,13 +1,16 @@
 // The engine's state (000, agg/task.rs): its fields, when it is sound, and how it starts.
 pub mod answer;
 pub mod fresh;
+pub mod gates;
 pub mod packets;
 pub mod queue;
 pub mod received;
 pub mod roster;
 pub mod rows;
+pub mod shape;
 pub mod sound;
 pub mod state;
+pub mod table;
 
 pub use answer::Changed;
 pub use answer::Outcome;

@@ -1,8 +1,8 @@
 -- The gates, in the order of their numbers.
-use Rattle.engine_links.specs.Changes.{slotVerdict}
+use Rattle.engine_state.specs.Gates.{slotVerdict}
 use borrow.Author.Needs.{needs}
-use Rattle.engine_links.proofs.changes.slot_verdict.Statement.{statement}
-use Rattle.engine_links.proofs.changes.slot_verdict.Tie as tie
+use Rattle.engine_state.proofs.gates.slot_verdict.Statement.{statement}
+use Rattle.engine_state.proofs.gates.slot_verdict.Tie as tie
 
 is-sound-requires : tie.Need-is-sound-requires
 is-sound-requires c κs = search needs

@@ -1,0 +1,3 @@
+pub mod Settle
+pub mod Sweep
+pub mod Ack

@@ -1,0 +1,47 @@
+-- The next number's cell, and the sums.
+use Rattle.engine_send.specs.Send.{sentTx}
+use borrow.Author.Needs.{needs}
+use Rattle.engine_send.proofs.send.sent_tx.Statement.{statement}
+use Rattle.engine_send.proofs.send.sent_tx.Tie as tie
+
+cast-at : tie.Need-cast-at
+cast-at c = search needs
+
+finished-after-requires : tie.Need-finished-after-requires
+finished-after-requires c κs = search needs
+
+add-requires : tie.Need-add-requires
+add-requires c κs = search needs
+
+mul-p : tie.Need-mul-p
+mul-p c = search needs
+
+element-set-from-p : tie.Need-element-set-from-p
+element-set-from-p c = search needs
+
+add-out : tie.Need-add-out
+add-out c = search needs
+
+add-out-2 : tie.Need-add-out-2
+add-out-2 c = search needs
+
+add-out-3 : tie.Need-add-out-3
+add-out-3 c = search needs
+
+returns : tie.Need-returns
+unfolding sentTx
+returns c = simp (c .before .before .before .add .ensures, c .before .before .before .before .finished-after .ensures)
+
+pub sent-tx-spec : {M : Type 1} → statement M
+sent-tx-spec =
+    tie.close
+    (tie.spec
+    cast-at
+    finished-after-requires
+    add-requires
+    mul-p
+    element-set-from-p
+    add-out
+    add-out-2
+    add-out-3
+    returns)

@@ -1,0 +1,3 @@
+pub mod Flush
+pub mod Resend
+pub mod Send

@@ -1,0 +1,4 @@
+// The engine's sending calls: sending, flushing and resending.
+pub mod flush;
+pub mod resend;
+pub mod send;
