@@ -70,10 +70,10 @@ pub(crate) fn settle_tx(tx: Sending, slot: u8, seq: Seq, p: SentReliable) -> Sen
         SentReliableStatus::Sent {
             sent: _,
             flushed: _,
-            slot: on,
+            slot: there,
             link: _,
         } => {
-            if on != slot {
+            if there != slot {
                 return tx;
             }
             received_tx(tx, seq, p)
