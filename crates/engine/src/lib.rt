@@ -3,6 +3,7 @@ pub use engine_ack::ack;
 pub use engine_links::add;
 pub use engine_links::changes;
 pub use engine_links::unconfirm;
+pub use engine_receive::receive;
 pub use engine_send::flush;
 pub use engine_send::resend;
 pub use engine_send::send;

@@ -1,3 +1,3 @@
-// The engine's receiving calls. So far: the receive table and the refusals of receive.
+// The engine's receiving calls. Showing and taking what is ready are not here yet.
 pub mod cells;
 pub mod receive;

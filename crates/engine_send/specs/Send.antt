@@ -3,12 +3,11 @@
 -- Consumed reduces the taken-and-untold count by its amount (P)." Assumes nothing.
 use mathlib.Core.Path.{_≡_, sym, _∙_}
 use mathlib.Core.Bool.{Bool, true, not, _&&_}
-use mathlib.Core.List.{List, [], _++_, append-nil}
-use Prim.Native.Nat.{ℕ, _+_, _-_, _*_, _%_, _^_, _≤_, _<_}
+use mathlib.Core.List.{List}
+use Prim.Native.Nat.{ℕ, _+_, _-_, _%_, _^_, _≤_, _<_}
 use native.Mathlib.Omega.{arith}
 use lib.Dec.{eqb, leb, ltb}
-use lib.ListN.{length, set, take, drop, length-take, drop-of-length-le}
-use lib.Seq.{take-length, drop-drop}
+use lib.ListN.{length, set}
 use borrow.Author.Tests.{eqb-true, leb-true, leb-false, ltb-true, le-leb, lt-leb}
 use Rattle.seq.specs.Numbers.{seqOf, plus}
 use Rattle.msg.specs.declared.reliable.ReliableMsg.{ReliableMsg}
@@ -27,6 +26,7 @@ use Rattle.engine_state.specs.Decide.{soundb}
 use Rattle.engine_state.specs.Tally.{lengthOk}
 use Rattle.engine_state.specs.DecidedTables.{length-le}
 use Rattle.engine_state.specs.Rows.{rowOf, slotOk, timeOk}
+use Rattle.engine_state.specs.Stores.{cellStart, placed, storeBy}
 use Rattle.engine_send.specs.declared.send.SendAnswer.{SendAnswer}
 use Rattle.engine_send.specs.declared.send.SendAnswer.the-variants.{Number, No}
 use Rattle.engine_send.specs.declared.send.SendResult.{SendResult}
@@ -139,17 +139,6 @@ unfoldable pub sendOf : State → ℕ → ℕ → ℕ → ReliableMsg → ℕ �
 unfolding sendVerdict sentState
 sendOf s store slot time msg len = sentBy (sendVerdict s store slot time msg len) s (sentState s slot time msg len)
 
--- "number n uses cell n mod 64", of 1,024 bytes; a store with bytes from a place on, and every other byte as it was
-abbrev pub cellStart : ℕ → ℕ
-cellStart n = n % 64 * 1024
-
-abbrev pub placed : List ℕ → ℕ → List ℕ → List ℕ
-placed store at bytes = take at store ++ (bytes ++ drop (at + length bytes) store)
-
-abbrev pub storeBy : Verdict → List ℕ → List ℕ → List ℕ
-storeBy verdicts.Pass old new = new
-storeBy (verdicts.No e) old new = old
-
 -- "copies data to its own cell and no other byte"
 unfoldable pub sendStore : State → List ℕ → ℕ → ℕ → ReliableMsg → List ℕ → List ℕ
 unfolding sendVerdict
@@ -220,14 +209,3 @@ fits-same total len h =
     by-test (leb (total + len) (2 ^ 32 - 1))
     (λ e. le-leb len (4294967295 - total) (omega (arith, leb-true (total + len) (2 ^ 32 - 1) e)) ∙ sym e)
     (λ e. lt-leb len (4294967295 - total) (omega (arith, leb-false (total + len) (2 ^ 32 - 1) e)) ∙ sym e)
-
--- what copying into the middle part leaves of the store
-pub mid-placed : (store bytes new : List ℕ) (at : ℕ) → new ≡ take (length bytes) bytes ++ drop (length bytes) (take (at + length bytes - at) (drop at store))
-    → take at store ++ (new ++ drop (at + length bytes - at) (drop at store)) ≡ placed store at bytes
-mid-placed store bytes new at e =
-    let k : at + length bytes - at ≡ length bytes = omega arith in
-    let none : drop (length bytes) (take (length bytes) (drop at store)) ≡ [] =
-    let h : length (take (length bytes) (drop at store)) ≤ length bytes = simp length-take (omega arith) in
-    drop-of-length-le (take (length bytes) (drop at store)) h
-    in
-    simp (e, k, take-length, none, append-nil, drop-drop)

@@ -17,3 +17,4 @@ pub mod Table
 pub mod Mapped
 pub mod Gates
 pub mod InTable
+pub mod Stores

@@ -2,7 +2,8 @@
 use mathlib.Core.Path.{sym, _∙_}
 use native.Mathlib.Omega.{arith}
 use denote.Ref.{now}
-use Rattle.engine_send.specs.Send.{passed, sendOf, sendStore, cellStart, mid-placed}
+use Rattle.engine_state.specs.Stores.{cellStart, mid-placed}
+use Rattle.engine_send.specs.Send.{passed, sendOf, sendStore}
 use borrow.Author.Needs.{needs}
 use Rattle.engine_send.proofs.send.send.Statement.{statement}
 use Rattle.engine_send.proofs.send.send.Tie as tie
