@@ -1,5 +1,10 @@
 // The engine (000, agg/task.rs): every call under one roof. The calls are proved in the crates engine_*, a crate for each family.
 pub use engine_ack::ack;
+pub use engine_handout::acks;
+pub use engine_handout::due;
+pub use engine_handout::ready;
+pub use engine_handout::show;
+pub use engine_handout::take;
 pub use engine_links::add;
 pub use engine_links::changes;
 pub use engine_links::unconfirm;

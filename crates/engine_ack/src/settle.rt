@@ -4,18 +4,12 @@ use engine_state::SentReliable;
 use engine_state::SentReliableStatus;
 use engine_state::queue::requeue;
 use engine_state::table::with_packet;
+use engine_state::totals::less;
 use link::LinkRow;
 use seq::Seq;
 ghost use mathlib.Core.Path.{_≡_};
-ghost use Prim.Native.Nat.{_+_, _-_, _<_, _^_};
+ghost use Prim.Native.Nat.{_+_, _<_, _^_};
 ghost use Rattle.engine_ack.specs.Settle.{settledRow, receivedTx, settledTx};
-
-// a less b, or 0: in a sound state b is never more.
-pub(crate) fn less(a: u32, b: u32) -> u32
-    ensures { λ r. ⌜ r ≡ a - b ⌝ }
-{
-    if b <= a { a - b } else { 0 }
-}
 
 // The row, where the packet was Sent over its slot.
 pub(crate) fn settle_row(row: LinkRow, p: SentReliable, slot: u8, time: u64) -> LinkRow

@@ -1,7 +1,7 @@
 // Sweeping the front of the table: what is Received there is consumed.
-use crate::settle::less;
 use engine_state::Sending;
 use engine_state::packets::is_received;
+use engine_state::totals::less;
 use seq::Seq;
 ghost use mathlib.Core.Path.{_≡_};
 ghost use Rattle.engine_ack.specs.Sweep.{sweepOf, sweptTx};

@@ -1,3 +1,3 @@
-// The engine's receiving calls. Showing and taking what is ready are not here yet.
+// The engine's receiving: the receive table, and receiving a message.
 pub mod cells;
 pub mod receive;

@@ -11,6 +11,7 @@ pub mod shape;
 pub mod sound;
 pub mod state;
 pub mod table;
+pub mod totals;
 
 pub use answer::Changed;
 pub use answer::Outcome;
