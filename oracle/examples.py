@@ -242,10 +242,10 @@ class State:
         self.need_time(time)
         link = self.need_slot(slot)
         if link.mark is not None:
-            if before(number, link.mark):
-                link.flag = True
-            else:
+            if link.mark == number or before(link.mark, number):
                 link.mark = None
+            else:
+                link.flag = True
         back = (self.next - number) % WRAP
         if 1 <= back <= self.count:
             self.settle(self.packets[self.count - back], slot, link, time)

@@ -1,6 +1,7 @@
 -- Document 01, the limit mark: "setting the limit mark to any number", "Ack of number a" and "Resend". Assumes nothing.
-use mathlib.Core.Bool.{true, cond}
+use mathlib.Core.Bool.{Bool, true, cond, _||_}
 use Prim.Native.Nat.{ℕ}
+use lib.Dec.{eqb}
 use Rattle.seq.specs.Numbers.{seqOf, before}
 use Rattle.link.specs.declared.row.LinkRow.{LinkRow}
 use Rattle.link.specs.declared.row.Limit.{Limit}
@@ -11,11 +12,15 @@ use Rattle.link.specs.Fields.{withTrip, withSending}
 unfoldable pub markedRow : LinkRow → Limit → LinkRow
 markedRow r m = withSending r m (r .«txed_unacked_data»)
 
+-- "a mark at or before a"
+unfoldable pub atOrBefore : ℕ → ℕ → Bool
+atOrBefore m a = eqb m a || before m a
+
 -- "First, a mark at or before a is cleared; any other mark makes the zero-estimate flag true."
 unfoldable pub markAckedAs : Limit → LinkRow → ℕ → LinkRow
-unfolding markedRow
+unfolding markedRow atOrBefore
 markAckedAs Clear r a = r
-markAckedAs (At m) r a = cond (before a (m .0)) (withTrip r (r .roundtrip) true (r .«current_ping_sent»)) (markedRow r Clear)
+markAckedAs (At m) r a = cond (atOrBefore (m .0) a) (markedRow r Clear) (withTrip r (r .roundtrip) true (r .«current_ping_sent»))
 
 abbrev pub markAcked : LinkRow → ℕ → LinkRow
 markAcked r a = markAckedAs (r .«limit_increased») r a

@@ -3,7 +3,17 @@ use crate::row::Limit;
 use crate::row::LinkRow;
 use seq::Seq;
 ghost use mathlib.Core.Path.{_≡_};
-ghost use Rattle.link.specs.Limit.{markedRow, markAcked, markResent};
+ghost use Rattle.link.specs.Limit.{atOrBefore, markedRow, markAcked, markResent};
+
+// Whether a mark is at an acked number or before it. At 2^31 apart each of two numbers is before the other.
+fn at_or_before(mark: Seq, received: Seq) -> bool
+    ensures { λ r. ⌜ r ≡ atOrBefore (mark .0) (received .0) ⌝ }
+{
+    if mark.0 == received.0 {
+        return true;
+    }
+    mark.is_before(received)
+}
 
 impl LinkRow {
     // Sets the limit mark.
@@ -37,12 +47,12 @@ impl LinkRow {
         match limit {
             Limit::Clear => self,
             Limit::At(mark) => {
-                if received.is_before(mark) {
-                    let mut out = self;
-                    out.zero_estimate = true;
-                    return out;
+                if at_or_before(mark, received) {
+                    return self.mark(Limit::Clear);
                 }
-                self.mark(Limit::Clear)
+                let mut out = self;
+                out.zero_estimate = true;
+                out
             }
         }
     }
