@@ -12,5 +12,6 @@ pub use engine_receive::receive;
 pub use engine_send::flush;
 pub use engine_send::resend;
 pub use engine_send::send;
+pub use engine_slow::slow;
 pub use engine_state::State;
 pub use engine_state::fresh;

@@ -1,0 +1,248 @@
+-- The packet table's view where every packet is changed in its place, and where one is added at the end: the packets, the sums,
+-- the resend queue. Assumes nothing.
+use mathlib.Core.Path.{_≡_, refl, sym, ap, ap₂, _∙_}
+use mathlib.Core.Bool.{false}
+use mathlib.Core.List.{List, [], _∷_, _++_, map, append-nil}
+use Prim.Native.Nat.{ℕ, zero, suc, _+_, _%_, _^_, _≤_, _<_}
+use native.Mathlib.Decide.{ℕ-discrete}
+use native.Mathlib.Nat.{mod-add-mod}
+use native.Mathlib.Numerals.{add-one}
+use native.Mathlib.Omega.{arith}
+use borrow.Author.Tests.{lt-ltb}
+use lib.ListN.{length, getD, set, take, length-set, List·getD-append}
+use lib.Seq.{take-suc-set, append-snoc, getD-at}
+use Rattle.seq.specs.declared.Seq.{Seq}
+use Rattle.seq.specs.Numbers.{plus, minus}
+use Rattle.seq.specs.Laws.{plus-minus, cell-counted}
+use Rattle.refusal.specs.Verdicts.{by-test}
+use Rattle.link.specs.declared.row.LinkRow.{LinkRow}
+use Rattle.engine_state.specs.declared.state.SentReliableStatus.{SentReliableStatus}
+use Rattle.engine_state.specs.declared.state.SentReliable.{SentReliable}
+use Rattle.engine_state.specs.declared.state.Sending.{Sending}
+use Rattle.engine_state.specs.declared.state.State.{State}
+use Rattle.engine_state.specs.Ring.{window, window-length, window-snoc}
+use Rattle.engine_state.specs.Packets.{noPacket, firstOf, packets, queue, isReceived, isQueued, queuedOf, Pick, Outstanding, Settled, weightAs, weight, sumOf}
+use Rattle.engine_state.specs.Queue.{putIn, gatherFrom, gatherOf, withTable, requeued}
+use Rattle.engine_state.specs.Table.{withStatus, withPackets}
+use Rattle.engine_state.specs.InTable.{cells-divide}
+use Rattle.engine_state.specs.Sound.{Shaped, SentHere, SentBy}
+use Rattle.engine_state.specs.DecidedPackets.{Good}
+use Rattle.laws.specs.Parts.{SendingSound}
+
+-- the table has as many packets as it counts
+pub packets-count : (tx : Sending) → length (packets tx) ≡ tx .«txed_count»
+packets-count tx = window-length noPacket (tx .«txed_packets») (firstOf tx % 64) (tx .«txed_count»)
+
+-- ---- every packet is changed in its place
+
+pub map-length : {A : Type 0} (f : A → A) (xs : List A) → length (map f xs) ≡ length xs
+map-length f [] = refl
+map-length f (x ∷ xs) = ap suc (map-length f xs)
+
+module _ {A : Type 0} (f : A → A) (d : A) where
+  pub map-at : (xs : List A) (i : ℕ) → i < length xs → getD (map f xs) i d ≡ f (getD xs i d)
+  map-at [] i h = absurd (omega arith)
+  map-at (x ∷ xs) zero h = refl
+  map-at (x ∷ xs) (suc i) h = map-at xs i (omega arith)
+
+  -- the ring's cells are changed, and with them the view
+  pub window-map : (cells : List A) (at n : ℕ) → at < 64 → length cells ≡ 64 → window d (map f cells) at n ≡ map f (window d cells at n)
+  unfolding window
+  window-map cells at zero h c = refl
+  window-map cells at (suc n) h c =
+      ap₂ (λ (y : A) (l : List A). y ∷ l) (map-at cells at (omega arith)) (window-map cells ((at + 1) % 64) n (omega arith) c)
+
+module _ (f : SentReliable → SentReliable) where
+  pub packets-mapped : (tx : Sending) → length (tx .«txed_packets») ≡ 64 → packets (withPackets tx (map f (tx .«txed_packets»))) ≡ map f (packets tx)
+  packets-mapped tx c = window-map f noPacket (tx .«txed_packets») (firstOf tx % 64) (tx .«txed_count») (omega arith) c
+
+  -- a sum stays where every packet keeps its weight ..
+  pub sum-mapped : (k : Pick) → ((p : SentReliable) → weight k (f p) ≡ weight k p) → (ps : List SentReliable) → sumOf k (map f ps) ≡ sumOf k ps
+  unfolding sumOf
+  sum-mapped k e [] = refl
+  sum-mapped k e (p ∷ ps) = ap₂ (λ a b. a + b) (e p) (sum-mapped k e ps)
+
+  -- .. and is none where none has any
+  pub sum-cleared : (k : Pick) → ((p : SentReliable) → weight k (f p) ≡ 0) → (ps : List SentReliable) → sumOf k (map f ps) ≡ 0
+  unfolding sumOf
+  sum-cleared k e [] = refl
+  sum-cleared k e (p ∷ ps) = ap₂ (λ a b. a + b) (e p) (sum-cleared k e ps)
+
+  -- the queued packets stay where every packet keeps its number and whether it is queued
+  pub queued-mapped : ((p : SentReliable) → f p .seq ≡ p .seq) → ((p : SentReliable) → isQueued (f p .status) ≡ isQueued (p .status))
+      → (ps : List SentReliable) → queuedOf (map f ps) ≡ queuedOf ps
+  unfolding queuedOf
+  queued-mapped n q [] = refl
+  queued-mapped n q (p ∷ ps) = simp (n p, q p, queued-mapped n q ps)
+
+  -- what holds of each packet, place by place
+  pub each-mapped : (P Q : ℕ → SentReliable → Type 0) (ps : List SentReliable) (count : ℕ) → length ps ≡ count
+      → ((i : ℕ) (p : SentReliable) → P i p → Q i (f p))
+      → ((i : ℕ) → i < count → P i (getD ps i noPacket)) → (i : ℕ) → i < count → Q i (getD (map f ps) i noPacket)
+  each-mapped P Q ps count l step h i g = rw (map-at f noPacket ps i (omega arith)) (step i (getD ps i noPacket) (h i g))
+
+-- ---- one packet is added at the end
+
+module _ (p : SentReliable) where
+  -- it adds its weight to each sum
+  pub sum-added : (k : Pick) (ps : List SentReliable) → sumOf k (ps ++ (p ∷ [])) ≡ sumOf k ps + weight k p
+  unfolding sumOf
+  sum-added k [] = omega arith
+  sum-added k (q ∷ qs) = omega (arith, sum-added k qs)
+
+  -- the queued packets stay where it isn't one
+  pub queued-added : isQueued (p .status) ≡ false → (ps : List SentReliable) → queuedOf (ps ++ (p ∷ [])) ≡ queuedOf ps
+  unfolding queuedOf
+  queued-added e [] = simp e
+  queued-added e (q ∷ qs) = simp (queued-added e qs)
+
+  -- what holds of each packet, place by place
+  pub each-added : (P : ℕ → SentReliable → Type 0) (ps : List SentReliable) (count : ℕ) → length ps ≡ count
+      → ((i : ℕ) → i < count → P i (getD ps i noPacket)) → P count p → (i : ℕ) → i < count + 1 → P i (getD (ps ++ (p ∷ [])) i noPacket)
+  each-added P ps count l h last i g =
+      elim (ℕ-discrete i count) [
+        | yes e ↦ rw e (rw (getD-at ps p [] noPacket count l) last)
+        | no ne ↦ rw (List·getD-append ps (p ∷ []) noPacket i (omega arith)) (h i (omega arith))
+      ]
+
+-- the next number's cell is the one after the last packet's
+next-cell : (t count : ℕ) → t < 2 ^ 32 → count < 64 → t % 64 ≡ (minus t count % 64 + count) % 64
+next-cell t count ht hc =
+    ap (λ n. n % 64) (sym (plus-minus t count ht (omega arith)))
+    ∙ cell-counted 64 (minus t count) count cells-divide
+    ∙ sym (mod-add-mod (minus t count) 64 count)
+
+-- the first number stays
+pub first-same : (t count : ℕ) → t < 2 ^ 32 → count < 64 → minus (plus t 1) (count + 1) ≡ minus t count
+unfolding plus minus
+first-same t count ht hc = omega arith
+
+pub packets-added : (cells : List SentReliable) (t count : ℕ) (p : SentReliable) → t < 2 ^ 32 → count < 64 → length cells ≡ 64
+    → window noPacket (set cells (t % 64) p) (minus (plus t 1) (count + 1) % 64) (count + 1) ≡ window noPacket cells (minus t count % 64) count ++ (p ∷ [])
+packets-added cells t count p ht hc l =
+    ap (λ n. window noPacket (set cells (t % 64) p) (n % 64) (count + 1)) (first-same t count ht hc)
+    ∙ ap (λ i. window noPacket (set cells i p) (minus t count % 64) (count + 1)) (next-cell t count ht hc)
+    ∙ ap (window noPacket (set cells ((minus t count % 64 + count) % 64) p) (minus t count % 64)) (add-one count)
+    ∙ window-snoc noPacket cells (minus t count % 64) count p (omega arith) l hc
+
+-- ---- the resend queue is made anew
+
+-- the numbers of packets gathered into a queue of 64 places, after the first `count` of it
+record Gathers (ps : List SentReliable) (before : List Seq) (count : ℕ) (after : List Seq) (total : ℕ) : Type 0 where
+  lists : take total after ≡ take count before ++ queuedOf ps
+  counts : total ≡ count + length (queuedOf ps)
+  long : length after ≡ length before
+
+gathers : (ps : List SentReliable) (numbers : List Seq) (count : ℕ) → length numbers ≡ 64 → count + length ps ≤ 64
+    → Gathers ps numbers count (gatherFrom ps (record { numbers = numbers; count = count }) .numbers) (gatherFrom ps (record { numbers = numbers; count = count }) .count)
+unfolding gatherFrom putIn queuedOf
+gathers [] numbers count l h = record { lists = sym (append-nil (take count numbers)); counts = omega arith; long = refl }
+gathers (p ∷ ps) numbers count l h =
+    by-test (isQueued (p .status))
+    (λ q.
+    let room : count < 64 = omega arith in
+    let r = gathers ps (set numbers count (p .seq)) (count + 1) (length-set numbers count (p .seq) ∙ l) (omega arith) in
+    let here : take (count + 1) (set numbers count (p .seq)) ≡ take count numbers ++ (p .seq ∷ []) = rw add-one (take-suc-set numbers count (p .seq) (omega arith)) in
+    simp (q, lt-ltb count 64 room) (record {
+      lists = simp q (r .lists ∙ ap (λ (l : List Seq). l ++ queuedOf ps) here ∙ append-snoc (take count numbers) (p .seq) (queuedOf ps));
+      counts = simp q (omega (arith, r .counts));
+      long = r .long ∙ length-set numbers count (p .seq);
+    }))
+    (λ q.
+    let r = gathers ps numbers count l (omega arith) in
+    simp q (record { lists = simp q (r .lists); counts = simp q (r .counts); long = r .long }))
+
+-- no more are queued than there are
+queued-le : (ps : List SentReliable) → length (queuedOf ps) ≤ length ps
+unfolding queuedOf
+queued-le [] = omega arith
+queued-le (p ∷ ps) =
+    by-test (isQueued (p .status))
+    (λ q. simp q (omega (arith, queued-le ps)))
+    (λ q. simp q (omega (arith, queued-le ps)))
+
+-- a queue made anew is that of the packets
+module _ (tx : Sending) (few : tx .«txed_count» ≤ 64) (long : length (tx .«resend_queue») ≡ 64) where
+  made : Gathers (packets tx) (tx .«resend_queue») 0 (requeued tx .«resend_queue») (requeued tx .«resend_count»)
+  unfolding requeued gatherOf
+  made =
+      let whole : tx .«txed_count» % 2 ^ 32 ≡ tx .«txed_count» = omega arith in
+      rw whole (gathers (packets tx) (tx .«resend_queue») 0 long (omega (arith, packets-count tx)))
+
+  pub requeued-queue : queue (requeued tx) ≡ queuedOf (packets tx)
+  requeued-queue = made .lists
+
+  pub requeued-count : requeued tx .«resend_count» ≤ 64
+  requeued-count = omega (arith, made .counts, queued-le (packets tx), packets-count tx)
+
+  pub requeued-long : length (requeued tx .«resend_queue») ≡ 64
+  requeued-long = made .long ∙ long
+
+-- ---- the sending half
+
+-- every packet gets another status, and keeps its number, message and length
+abbrev pub Restatused : (SentReliable → SentReliable) → (SentReliableStatus → SentReliableStatus) → Type 0
+Restatused f g = (p : SentReliable) → f p ≡ withStatus p (g (p .status))
+
+-- the state with the packets changed, and other rows, another queue and another time
+abbrev pub withStatuses : State → (SentReliable → SentReliable) → List LinkRow → List Seq → ℕ → ℕ → State
+withStatuses s f links q n time = record { links = links; tx = withTable (s .tx) (map f (s .tx .«txed_packets»)) q n; rx = s .rx; time = time }
+
+pub shaped-restatused : (s : State) (f : SentReliable → SentReliable) (links : List LinkRow) (q : List Seq) (n time : ℕ) → Shaped s
+    → length links ≡ 8 → length q ≡ 64 → n < 2 ^ 64 → Shaped (withStatuses s f links q n time)
+shaped-restatused s f links q n time shaped eight long small = record {
+  links-eight = eight;
+  packets-64 = map-length f (s .tx .«txed_packets») ∙ shaped .packets-64;
+  queue-64 = long;
+  cells-64 = shaped .cells-64;
+  next-u32 = shaped .next-u32;
+  expected-u32 = shaped .expected-u32;
+  oldest-u32 = shaped .oldest-u32;
+  count-usize = shaped .count-usize;
+  queue-usize = small;
+  unacked-u32 = shaped .unacked-u32;
+  unconsumable-u32 = shaped .unconsumable-u32;
+  size-u32 = shaped .size-u32;
+}
+
+module _ (f : SentReliable → SentReliable) (g : SentReliableStatus → SentReliableStatus) (same : Restatused f g) where
+  pub weight-restatused : (k : Pick) → ((st : SentReliableStatus) (n : ℕ) → weightAs k (g st) n ≡ weightAs k st n) → (p : SentReliable) → weight k (f p) ≡ weight k p
+  weight-restatused k e p = ap (weight k) (same p) ∙ e (p .status) (p .len)
+
+  -- a packet that was as Sound asks still is, where its new status is
+  good-restatused : (s t : State) (n : ℕ) (p : SentReliable) → ((st : SentReliableStatus) → SentHere s st → SentHere t (g st))
+      → ((st : SentReliableStatus) → SentBy (s .time) st → SentBy (t .time) (g st)) → Good s p n → Good t (f p) n
+  good-restatused s t n p here timed good =
+      rw (same p) (record { number = good .number; fits = good .fits; here = here (p .status) (good .here); timed = timed (p .status) (good .timed) })
+
+  module _ (s : State) (links : List LinkRow) (q : List Seq) (n time : ℕ) (cells : length (s .tx .«txed_packets») ≡ 64) where
+    -- the packets afterwards
+    pub packets-restatused : packets (withStatuses s f links q n time .tx) ≡ map f (packets (s .tx))
+    packets-restatused = packets-mapped f (s .tx) cells
+
+    pub sending-restatused : SendingSound s
+        → ((st : SentReliableStatus) → SentHere s st → SentHere (withStatuses s f links q n time) (g st))
+        → ((st : SentReliableStatus) → SentBy (s .time) st → SentBy time (g st))
+        → ((st : SentReliableStatus) → isReceived (g st) ≡ isReceived st)
+        → ((st : SentReliableStatus) (len : ℕ) → weightAs Outstanding (g st) len ≡ weightAs Outstanding st len)
+        → ((st : SentReliableStatus) (len : ℕ) → weightAs Settled (g st) len ≡ weightAs Settled st len)
+        → take n q ≡ queuedOf (map f (packets (s .tx))) → n ≤ 64
+        → SendingSound (withStatuses s f links q n time)
+    sending-restatused sending here timed received outstanding settled queued few =
+        let t = withStatuses s f links q n time in
+        let ps = packets (s .tx) in
+        record {
+          each = λ i h. rw packets-restatused
+              (each-mapped f (λ i p. Good s p (plus (firstOf (s .tx)) i)) (λ i p. Good t p (plus (firstOf (s .tx)) i)) ps (s .tx .«txed_count») (packets-count (s .tx))
+              (λ i p good. good-restatused s t (plus (firstOf (s .tx)) i) p here timed good) (sending .each) i h);
+          first = λ h.
+              ap (λ (l : List SentReliable). isReceived (getD l 0 noPacket .status)) packets-restatused
+              ∙ ap (λ (p : SentReliable). isReceived (p .status)) (map-at f noPacket ps 0 (omega (arith, packets-count (s .tx))) ∙ same (getD ps 0 noPacket))
+              ∙ received (getD ps 0 noPacket .status)
+              ∙ sending .first h;
+          queued = queued ∙ ap queuedOf (sym packets-restatused);
+          unacked = sending .unacked ∙ sym (ap (sumOf Outstanding) packets-restatused ∙ sum-mapped f Outstanding (weight-restatused Outstanding outstanding) ps);
+          unconsumable = sending .unconsumable ∙ sym (ap (sumOf Settled) packets-restatused ∙ sum-mapped f Settled (weight-restatused Settled settled) ps);
+          packet-count = sending .packet-count;
+          queue-count = few;
+        }

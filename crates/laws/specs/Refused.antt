@@ -1,0 +1,117 @@
+-- Document 01: "Each returns its number alone; state and lent bytes stay as they came." One statement over all calls: where the
+-- answer's number is not 0, state and stores are those that came in. Assumes nothing.
+use mathlib.Core.Path.{_≡_, refl, ap}
+use mathlib.Core.Logic.{_≢_}
+use mathlib.Core.Bool.{cond}
+use mathlib.Core.List.{List, map}
+use Prim.Native.Nat.{ℕ}
+use lib.ListN.{length}
+use Rattle.refusal.specs.declared.verdict.Verdict.{Verdict}
+use Rattle.refusal.specs.declared.verdict.Verdict.the-variants as verdicts
+use Rattle.engine_state.specs.declared.state.State.{State}
+use Rattle.engine_state.specs.Answer.{outcomeNumber, changedBy}
+use Rattle.engine_state.specs.Gates.{slotVerdict, timedVerdict}
+use Rattle.link.specs.declared.row.Limit.the-variants.{At}
+use Rattle.link.specs.Row.{emptyRow, freshRow, confirmed, blockedRow}
+use Rattle.link.specs.Limit.{markedRow}
+use Rattle.link.specs.Roundtrip.{pinged, ponged}
+use Rattle.engine_state.specs.Rows.{rowOf, withRow, withTx, withTime}
+use Rattle.engine_state.specs.Table.{withPackets}
+use Rattle.engine_state.specs.Stores.{cellStart, placed, storeBy}
+use Rattle.engine_links.specs.Add.{addOf, addNumber, addedBy, addVerdict, lowestIn}
+use Rattle.engine_links.specs.Changes.{confirmOf, blockOf, markOf, pingOf, pongOf}
+use Rattle.engine_links.specs.Unconfirm.{unconfirmedState, unconfirmOf, removeOf}
+use Rattle.engine_send.specs.Send.{sendOf, sendStore, sendNumber, sentBy, sendVerdict, sentState}
+use Rattle.engine_send.specs.Flush.{flushOf, flushedPacket}
+use Rattle.engine_send.specs.Resend.{resendOf, resendNumber, resentBy, resendVerdict, resentState}
+use Rattle.engine_ack.specs.Ack.{ackOf, ackVerdict, ackedState}
+use Rattle.engine_receive.specs.Receive.{receiveOf, receiveStore, receiveVerdict, repeatedState, receivedState}
+use Rattle.engine_receive.specs.Cells.{isRepeat}
+use Rattle.engine_handout.specs.declared.ready.HandOut.{HandOut}
+use Rattle.engine_handout.specs.declared.ready.HandOut.the-variants as handouts
+use Rattle.engine_handout.specs.declared.acks.TakeAck.the-variants as acks
+use Rattle.engine_handout.specs.declared.acks.TakeAck.{TakeAck as AckAnswer}
+use Rattle.engine_handout.specs.Ready.{handOutNumber}
+use Rattle.engine_handout.specs.Take.{takeOf, takenBy}
+use Rattle.engine_handout.specs.Acks.{takeAckOf, takeAckNumber, takenAckBy}
+use Rattle.laws.specs.Calls.{Call, Add, Remove, Confirm, Unconfirm, Block, Mark, Ping, Pong, Flush, Send, Resend, Ack, Receive, Show, Take, Due, TakeAck, Holding, withState, number, next}
+
+-- ---- by the shape of an answer
+
+changed-same : (v : Verdict) (s after : State) → outcomeNumber (changedBy v s after .outcome) ≢ 0 → changedBy v s after .state ≡ s
+changed-same verdicts.Pass s after h = absurd (h refl)
+changed-same (verdicts.No e) s after h = refl
+
+added-same : (v : Verdict) (slot : ℕ) (s after : State) → addNumber (addedBy v slot s after .answer) ≢ 0 → addedBy v slot s after .state ≡ s
+added-same verdicts.Pass slot s after h = absurd (h refl)
+added-same (verdicts.No e) slot s after h = refl
+
+sent-same : (v : Verdict) (s after : State) → sendNumber (sentBy v s after .answer) ≢ 0 → sentBy v s after .state ≡ s
+sent-same verdicts.Pass s after h = absurd (h refl)
+sent-same (verdicts.No e) s after h = refl
+
+sent-store-same : (v : Verdict) (s after : State) (old new : List ℕ) → sendNumber (sentBy v s after .answer) ≢ 0 → storeBy v old new ≡ old
+sent-store-same verdicts.Pass s after old new h = absurd (h refl)
+sent-store-same (verdicts.No e) s after old new h = refl
+
+changed-store-same : (v : Verdict) (s after : State) (old new : List ℕ) → outcomeNumber (changedBy v s after .outcome) ≢ 0 → storeBy v old new ≡ old
+changed-store-same verdicts.Pass s after old new h = absurd (h refl)
+changed-store-same (verdicts.No e) s after old new h = refl
+
+resent-same : (v : Verdict) (s : State) (n : ℕ) (after : State) → resendNumber (resentBy v s n after .answer) ≢ 0 → resentBy v s n after .state ≡ s
+resent-same verdicts.Pass s n after h = absurd (h refl)
+resent-same (verdicts.No e) s n after h = refl
+
+taken-same : (answer : HandOut) (s : State) → handOutNumber answer ≢ 0 → takenBy answer s ≡ s
+taken-same (handouts.Message msg seq len) s h = absurd (h refl)
+taken-same (handouts.No e) s h = refl
+
+ack-taken-same : (answer : AckAnswer) (s : State) (slot : ℕ) → takeAckNumber answer ≢ 0 → takenAckBy answer s slot ≡ s
+ack-taken-same (acks.Number seq) s slot h = absurd (h refl)
+ack-taken-same (acks.No e) s slot h = refl
+
+-- ---- the statement
+
+pub refused : (c : Call) (h : Holding) → number c h ≢ 0 → next c h ≡ h
+unfolding addOf removeOf confirmOf unconfirmOf blockOf markOf pingOf pongOf flushOf sendOf sendStore resendOf ackOf receiveOf receiveStore takeOf takeAckOf
+refused (Add id roundtrip max blocked unconfirmed) h told =
+    let s = h .state in
+    ap (withState h) (added-same (addVerdict s (lowestIn s) id roundtrip max) (lowestIn s) s (withRow s (lowestIn s) (freshRow id roundtrip max blocked unconfirmed)) told)
+refused (Remove slot) h told = let s = h .state in ap (withState h) (changed-same (slotVerdict s slot) s (withRow (unconfirmedState s slot) slot emptyRow) told)
+refused (Confirm slot) h told = let s = h .state in ap (withState h) (changed-same (slotVerdict s slot) s (withRow s slot (confirmed (rowOf s slot))) told)
+refused (Unconfirm slot) h told = let s = h .state in ap (withState h) (changed-same (slotVerdict s slot) s (unconfirmedState s slot) told)
+refused (Block slot blocked) h told = let s = h .state in ap (withState h) (changed-same (slotVerdict s slot) s (withRow s slot (blockedRow (rowOf s slot) blocked)) told)
+refused (Mark slot seq) h told = let s = h .state in ap (withState h) (changed-same (slotVerdict s slot) s (withRow s slot (markedRow (rowOf s slot) (At seq))) told)
+refused (Ping slot time) h told =
+    let s = h .state in
+    ap (withState h) (changed-same (timedVerdict s slot time verdicts.Pass) s (withTime (withRow s slot (pinged (rowOf s slot) time)) time) told)
+refused (Pong slot time) h told =
+    let s = h .state in
+    ap (withState h) (changed-same (timedVerdict s slot time verdicts.Pass) s (withTime (withRow s slot (ponged (rowOf s slot) time)) time) told)
+refused (Flush slot time) h told =
+    let s = h .state in
+    let after = withTime (withTx s (withPackets (s .tx) (map (flushedPacket slot time) (s .tx .«txed_packets»)))) time in
+    ap (withState h) (changed-same (timedVerdict s slot time verdicts.Pass) s after told)
+refused (Send slot time msg bytes) h told =
+    let v = sendVerdict (h .state) (length (h .sent)) slot time msg (length bytes) in
+    let after = sentState (h .state) slot time msg (length bytes) in
+    λ d. record {
+      state = sent-same v (h .state) after told d;
+      sent = sent-store-same v (h .state) after (h .sent) (placed (h .sent) (cellStart (h .state .tx .«tx_seq» .0)) bytes) told d;
+      received = h .received;
+    }
+refused (Resend slot time n) h told = let s = h .state in ap (withState h) (resent-same (resendVerdict s slot time n) s n (resentState s slot time n) told)
+refused (Ack slot time n) h told = let s = h .state in ap (withState h) (changed-same (ackVerdict s slot time n) s (ackedState s slot time n) told)
+refused (Receive slot msg n bytes) h told =
+    let v = receiveVerdict (h .state) (length (h .received)) slot msg n (length bytes) in
+    let again = isRepeat 64 (h .state .rx) n in
+    let after = cond again (repeatedState (h .state) slot n) (receivedState (h .state) slot msg n (length bytes)) in
+    λ d. record {
+      state = changed-same v (h .state) after told d;
+      sent = h .sent;
+      received = changed-store-same v (h .state) after (h .received) (cond again (h .received) (placed (h .received) (cellStart n) bytes)) told d;
+    }
+refused Show h told = refl
+refused Take h told = ap (withState h) (taken-same (takeOf (h .state) .answer) (h .state) told)
+refused Due h told = refl
+refused (TakeAck slot) h told = ap (withState h) (ack-taken-same (takeAckOf (h .state) slot .answer) (h .state) slot told)

@@ -1,0 +1,178 @@
+-- The sweep drops the Received packets at the front of the table, and a nearly sound state becomes sound. Assumes nothing.
+use mathlib.Core.Path.{_≡_, refl, sym, ap, _∙_}
+use mathlib.Core.Bool.{true, false}
+use mathlib.Core.List.{List, [], _∷_}
+use Prim.Native.Nat.{ℕ, suc, _+_, _-_, _%_, _^_, _≤_, _<_}
+use native.Mathlib.Nat.{mod-add-mod}
+use native.Mathlib.Omega.{arith}
+use lib.ListN.{length, getD, drop}
+use lib.Seq.{getD-drop}
+use Rattle.seq.specs.declared.Seq.{Seq}
+use Rattle.seq.specs.Numbers.{seqOf, plus}
+use Rattle.seq.specs.Laws.{plus-plus, cell-counted}
+use Rattle.refusal.specs.Verdicts.{by-test, false-true}
+use Rattle.engine_state.specs.declared.state.SentReliableStatus.{SentReliableStatus}
+use Rattle.engine_state.specs.declared.state.SentReliableStatus.the-variants.{Sent, Received, ResendQueued}
+use Rattle.engine_state.specs.declared.state.SentReliable.{SentReliable}
+use Rattle.engine_state.specs.declared.state.State.{State}
+use Rattle.engine_state.specs.Ring.{window, window-drop}
+use Rattle.engine_state.specs.Packets.{noPacket, firstOf, packets, isReceived, isQueued, queuedOf, Pick, SentOn, Outstanding, Settled, weight, weightAs, sumOf}
+use Rattle.engine_state.specs.InTable.{cells-divide}
+use Rattle.engine_state.specs.Rows.{withTx}
+use Rattle.engine_state.specs.Sound.{Shaped, packetAt}
+use Rattle.engine_ack.specs.Sweep.{sweepFrom, sweepOf, sweptTx}
+use Rattle.laws.specs.RowsKept.{here-kept}
+use Rattle.laws.specs.PacketsKept.{packets-count}
+use Rattle.laws.specs.PacketReplaced.{number-past}
+use Rattle.laws.specs.NearlySound.{Nearly}
+
+-- ---- over a list of packets
+
+-- the first `gone` packets are Received, and the next is not: what the sweep leaves
+record Swept (ps : List SentReliable) (held left rest : ℕ) : Type 0 where
+  gone : ℕ
+  long : length ps ≡ gone + left
+  first : 0 < left → isReceived (getD (drop gone ps) 0 noPacket .status) ≡ false
+  queued : queuedOf (drop gone ps) ≡ queuedOf ps
+  sums : (k : Pick) → ((len : ℕ) → weightAs k Received len ≡ 0) → sumOf k (drop gone ps) ≡ sumOf k ps
+  settled : held ≡ sumOf Settled ps → rest ≡ sumOf Settled (drop gone ps)
+  less : rest ≤ held
+
+received-is : (st : SentReliableStatus) → isReceived st ≡ true → st ≡ Received
+received-is (Sent sent flushed slot link) e = false-true e
+received-is Received e = refl
+received-is (ResendQueued link) e = false-true e
+
+module _ (p : SentReliable) (ps : List SentReliable) where
+  sweep-yes : (last : Seq) (held : ℕ) → isReceived (p .status) ≡ true → sweepFrom (p ∷ ps) last held ≡ sweepFrom ps (p .seq) (held - p .len)
+  unfolding sweepFrom
+  sweep-yes last held u = simp u
+
+  sweep-no : (last : Seq) (held : ℕ) → isReceived (p .status) ≡ false
+      → sweepFrom (p ∷ ps) last held ≡ record { left = suc (length ps); last = p .seq; held = held }
+  unfolding sweepFrom
+  sweep-no last held u = simp u
+
+  received-queued : isReceived (p .status) ≡ true → queuedOf (p ∷ ps) ≡ queuedOf ps
+  unfolding queuedOf
+  received-queued u = simp (ap isQueued (received-is (p .status) u))
+
+  received-weight : (k : Pick) → isReceived (p .status) ≡ true → weight k p ≡ weightAs k Received (p .len)
+  received-weight k u = ap (λ st. weightAs k st (p .len)) (received-is (p .status) u)
+
+sweeps : (ps : List SentReliable) (last : Seq) (held : ℕ) → Swept ps held (sweepFrom ps last held .left) (sweepFrom ps last held .held)
+unfolding sweepFrom sumOf
+sweeps [] last held = record { gone = 0; long = refl; first = λ h. absurd (omega arith); queued = refl; sums = λ k z. refl; settled = λ e. e; less = omega arith }
+sweeps (p ∷ ps) last held =
+    by-test (isReceived (p .status))
+    (λ u.
+    let r = sweeps ps (p .seq) (held - p .len) in
+    rw (sweep-yes p ps last held u) (record {
+      gone = suc (r .gone);
+      long = omega (arith, r .long);
+      first = r .first;
+      queued = r .queued ∙ sym (received-queued p ps u);
+      sums = λ k z. omega (arith, r .sums k z, z (p .len), received-weight p ps k u);
+      settled = λ e. r .settled (omega (arith, e, received-weight p ps Settled u));
+      less = omega (arith, r .less);
+    }))
+    (λ u.
+    rw (sweep-no p ps last held u) (record {
+      gone = 0;
+      long = omega arith;
+      first = λ h. u;
+      queued = refl;
+      sums = λ k z. refl;
+      settled = λ e. e;
+      less = omega arith;
+    }))
+
+-- ---- the swept state
+
+module _ (s : State) (near : Nearly s) where
+  swept : Swept (packets (s .tx)) (s .tx .«txed_unconsumable») (sweptTx (s .tx) .«txed_count») (sweptTx (s .tx) .«txed_unconsumable»)
+  unfolding sweptTx sweepOf
+  swept =
+      let whole : s .tx .«txed_count» % 2 ^ 32 ≡ s .tx .«txed_count» = omega (arith, near .packet-count) in
+      rw whole (sweeps (packets (s .tx)) (s .tx .«txed_last_consumed») (s .tx .«txed_unconsumable»))
+
+  -- how many are dropped, and how many are left
+  abbrev off : ℕ
+  off = swept .gone
+
+  abbrev left : ℕ
+  left = sweptTx (s .tx) .«txed_count»
+
+  counts : s .tx .«txed_count» ≡ off + left
+  counts = sym (packets-count (s .tx)) ∙ swept .long
+
+  first-left : firstOf (sweptTx (s .tx)) ≡ plus (firstOf (s .tx)) off
+  unfolding sweptTx
+  first-left =
+      let e : s .tx .«txed_count» - left ≡ off = omega (arith, counts) in
+      number-past (s .tx .«tx_seq» .0) (s .tx .«txed_count») left (near .packet-count) (omega (arith, counts))
+      ∙ ap (plus (firstOf (s .tx))) e
+
+  packets-left : packets (sweptTx (s .tx)) ≡ drop off (packets (s .tx))
+  unfolding sweptTx
+  packets-left =
+      let cells = s .tx .«txed_packets» in
+      let at : firstOf (sweptTx (s .tx)) % 64 ≡ (firstOf (s .tx) % 64 + off) % 64 =
+      ap (λ n. n % 64) first-left
+      ∙ cell-counted 64 (firstOf (s .tx)) off cells-divide
+      ∙ sym (mod-add-mod (firstOf (s .tx)) 64 off)
+      in
+      let n : left ≡ s .tx .«txed_count» - off = omega (arith, counts) in
+      ap (λ k. window noPacket cells k left) at
+      ∙ ap (window noPacket cells ((firstOf (s .tx) % 64 + off) % 64)) n
+      ∙ sym (window-drop noPacket cells (firstOf (s .tx) % 64) (s .tx .«txed_count») off (omega arith) (omega (arith, counts)))
+
+  -- a place afterwards, and the place that it was
+  at-left : (i : ℕ) → getD (packets (sweptTx (s .tx))) i noPacket ≡ packetAt s (off + i)
+  at-left i = ap (λ (ps : List SentReliable). getD ps i noPacket) packets-left ∙ getD-drop off (packets (s .tx)) i noPacket
+
+  was-in : (i : ℕ) → i < left → off + i < s .tx .«txed_count»
+  was-in i h = omega (arith, counts)
+
+  pub swept-nearly : Nearly (withTx s (sweptTx (s .tx)))
+  unfolding sweptTx
+  swept-nearly = record {
+    each = λ i h.
+        let old = near .each (off + i) (was-in i h) in
+        rw (at-left i)
+        (record {
+          number = old .number ∙ ap seqOf (sym (plus-plus (firstOf (s .tx)) off i) ∙ ap (λ n. plus n i) (sym first-left));
+          fits = old .fits;
+          here = here-kept s (withTx s (sweptTx (s .tx))) (packetAt s (off + i) .status) (λ j l e. (e, refl)) (old .here);
+          timed = old .timed;
+        });
+    queued = near .queued ∙ sym (ap queuedOf packets-left ∙ swept .queued);
+    unacked = near .unacked ∙ sym (ap (sumOf Outstanding) packets-left ∙ swept .sums Outstanding (λ len. refl));
+    unconsumable = swept .settled (near .unconsumable) ∙ ap (sumOf Settled) (sym packets-left);
+    packet-count = omega (arith, counts, near .packet-count);
+    queue-count = near .queue-count;
+    rows = λ j h. rw (ap (sumOf (SentOn j)) packets-left ∙ swept .sums (SentOn j) (λ len. refl)) (near .rows j h);
+    apart = near .apart;
+    time-within = near .time-within;
+  }
+
+  -- "the first packet isn't Received"
+  pub swept-first : 0 < left → isReceived (getD (packets (sweptTx (s .tx))) 0 noPacket .status) ≡ false
+  swept-first h = ap (λ (ps : List SentReliable). isReceived (getD ps 0 noPacket .status)) packets-left ∙ swept .first h
+
+  pub swept-shaped : Shaped s → Shaped (withTx s (sweptTx (s .tx)))
+  unfolding sweptTx
+  swept-shaped shaped = record {
+    links-eight = shaped .links-eight;
+    packets-64 = shaped .packets-64;
+    queue-64 = shaped .queue-64;
+    cells-64 = shaped .cells-64;
+    next-u32 = shaped .next-u32;
+    expected-u32 = shaped .expected-u32;
+    oldest-u32 = shaped .oldest-u32;
+    count-usize = omega (arith, counts, shaped .count-usize);
+    queue-usize = shaped .queue-usize;
+    unacked-u32 = shaped .unacked-u32;
+    unconsumable-u32 = omega (arith, swept .less, shaped .unconsumable-u32);
+    size-u32 = shaped .size-u32;
+  }

@@ -1,0 +1,157 @@
+-- Taking keeps a sound state sound: the oldest ready message leaves its cell and the sum, and the oldest number moves on to the
+-- next ready message or to the next expected number; or a link's oldest ack is taken. Assumes nothing.
+use mathlib.Core.Path.{_≡_, refl, ap, _∙_}
+use mathlib.Core.Bool.{true, false, not}
+use Prim.Native.Nat.{ℕ, zero, suc, _+_, _%_, _^_, _≤_, _<_, _∣_}
+use native.Mathlib.Decide.{ℕ-discrete}
+use native.Mathlib.Omega.{arith}
+use lib.Dec.{eqb}
+use borrow.Author.Tests.{ne-eqb, eqb-false, not-true, not-false}
+use lib.ListN.{getD}
+use Rattle.seq.specs.declared.Seq.{Seq}
+use Rattle.seq.specs.Numbers.{minus}
+use Rattle.msg.specs.declared.reliable.ReliableMsg.{ReliableMsg}
+use Rattle.msg.specs.declared.reliable.ReliableMsg.the-variants.{Data, Consumed, SendFinish, ReceiveClose, ReceiveFinish}
+use Rattle.refusal.specs.declared.verdict.Verdict.{Verdict}
+use Rattle.refusal.specs.declared.verdict.Verdict.the-variants as verdicts
+use Rattle.refusal.specs.Verdicts.{false-true, split, by-test}
+use Rattle.link.specs.declared.acks.OldestAck.{OldestAck}
+use Rattle.link.specs.declared.acks.OldestAck.the-variants as oldest
+use Rattle.link.specs.Acks.{oldestAck}
+use Rattle.engine_state.specs.declared.state.Held.the-variants as helds
+use Rattle.engine_state.specs.declared.state.Receiving.{Receiving}
+use Rattle.engine_state.specs.declared.state.State.{State}
+use Rattle.engine_state.specs.Cells.{noCell, isFull, isReadyKind, heldBytes}
+use Rattle.engine_state.specs.Gates.{slotVerdict}
+use Rattle.engine_state.specs.Rows.{rowOf}
+use Rattle.engine_state.specs.Tally.{lengthOk}
+use Rattle.engine_state.specs.Sound.{Sound, Shaped, ReadyKind, LengthWithin}
+use Rattle.engine_receive.specs.Cells.{cellOf}
+use Rattle.engine_handout.specs.declared.ready.HandOut.{HandOut}
+use Rattle.engine_handout.specs.declared.ready.HandOut.the-variants.{Message, No}
+use Rattle.engine_handout.specs.Ready.{readyOf, handOutBy, dataLength, handed, ready-cell}
+use Rattle.engine_handout.specs.Take.{takeVerdict, canSkip, passedBy, skipped, takenRx, takenState, takenBy, takeOf}
+use Rattle.engine_handout.specs.Acks.{ackAs, ackAnswer, takenAckState, takenAckBy, takeAckOf}
+use Rattle.laws.specs.Passed.{slot-passed}
+use Rattle.laws.specs.AcksKept.{taken-sound, taken-shaped}
+use Rattle.laws.specs.CellsSeen.{seen}
+use Rattle.laws.specs.CellsKept.{SoundRx, SkippingRx, not-full, length-none, expected-here, here-expected, passed-by, taken}
+use Rattle.laws.specs.ReceivingKept.{cells-some, cells-half, cells-round, table-of, rx-sound, rx-shaped}
+
+-- ---- the oldest number and its message
+
+-- the oldest number's cell
+oldest-cell : (N : ℕ) (rx : Receiving) → seen N (rx .«rxed_reliable») (rx .«rx_oldest» .0) 0 ≡ cellOf N rx (rx .«rx_oldest» .0)
+unfolding seen cellOf
+oldest-cell N rx =
+    let e : rx .«rx_oldest» .0 + 0 ≡ rx .«rx_oldest» .0 = omega arith in
+    ap (λ m. getD (rx .«rxed_reliable») (m % N) noCell .held) e
+
+-- the oldest number isn't the next expected one just if that is some numbers past it
+expected-past : (e o : ℕ) → e < 2 ^ 32 → o < 2 ^ 32 → eqb o e ≡ false → 0 < minus e o
+expected-past e o he ho f =
+    elim (ℕ-discrete (minus e o) 0) [
+      | yes z ↦ absurd (eqb-false o e f (expected-here e o he ho z))
+      | no ne ↦ omega arith
+    ]
+
+past-expected : (e o : ℕ) → e < 2 ^ 32 → 0 < minus e o → eqb o e ≡ false
+past-expected e o he l = ne-eqb o e (λ q. let z = here-expected e o he q in omega (arith, z))
+
+-- a ready message's data bytes are all that its cell counts
+data-all : (msg : ReliableMsg) (len : ℕ) → isReadyKind msg ≡ true → lengthOk msg len ≡ true → len ≡ dataLength msg len
+data-all Data len r w = refl
+data-all (Consumed n) len r w = false-true r
+data-all SendFinish len r w = length-none SendFinish len refl w
+data-all ReceiveClose len r w = false-true r
+data-all ReceiveFinish len r w = false-true r
+
+module _ (N : ℕ) (some : 0 < N) (half : N ≤ 2 ^ 31) (round : N ∣ 2 ^ 32) where
+  -- the numbers that are passed by
+  skipped-sound : (left : ℕ) (rx : Receiving) → SkippingRx N left rx → SoundRx N (skipped N left rx)
+  unfolding skipped canSkip passedBy
+  skipped-sound zero rx was = record { kept = was .kept; oldest = λ l. absurd (omega (arith, was .few)); held = was .held }
+  skipped-sound (suc left) rx was =
+      let e = rx .«rx_seq» .0 in
+      let o = rx .«rx_oldest» .0 in
+      let cell = cellOf N rx o in
+      let eu = was .kept .expected-u32 in
+      let ou = was .kept .oldest-u32 in
+      by-test (canSkip N rx)
+      (λ t.
+      let both = split (not (eqb o e)) (not (isFull cell)) t in
+      let past : 0 < minus e o = expected-past e o eu ou (not-true (eqb o e) (both .0)) in
+      simp t (skipped-sound left (passedBy rx)
+      (passed-by N some half round left e o (rx .«rxed_reliable») (rx .«rxed_reliable_size») (rx .«recv_buffer») was past
+      (oldest-cell N rx ∙ not-full cell (not-true (isFull cell) (both .1))))))
+      (λ t. simp t (record {
+        kept = was .kept;
+        oldest = λ l. ap isFull (oldest-cell N rx) ∙ not-false (isFull cell) (simp (past-expected e o eu l) at t);
+        held = was .held;
+      }))
+
+  -- what is ready lies before the next expected number
+  ready-ahead : (rx : Receiving) (msg : ReliableMsg) (len : ℕ) → readyOf N rx ≡ helds.Message msg len → eqb (rx .«rx_oldest» .0) (rx .«rx_seq» .0) ≡ false
+  unfolding readyOf
+  ready-ahead rx msg len q =
+      by-test (eqb (rx .«rx_oldest» .0) (rx .«rx_seq» .0)) (λ t. false-true (ap isFull (simp t at q))) (λ t. t)
+
+  -- the message that is taken
+  taken-table : (rx : Receiving) (msg : ReliableMsg) (len : ℕ) → SoundRx N rx → readyOf N rx ≡ helds.Message msg len → SoundRx N (takenRx N rx (dataLength msg len))
+  unfolding takenRx
+  taken-table rx msg len was q =
+      let e = rx .«rx_seq» .0 in
+      let o = rx .«rx_oldest» .0 in
+      let cells = rx .«rxed_reliable» in
+      let kept = was .kept in
+      let past : 0 < minus e o = expected-past e o (kept .expected-u32) (kept .oldest-u32) (ready-ahead rx msg len q) in
+      let here : seen N cells o 0 ≡ helds.Message msg len = oldest-cell N rx ∙ ready-cell N rx msg len q in
+      let ready : ReadyKind (helds.Message msg len) = rw here at (kept .ready 0 past) in
+      let fits : LengthWithin (helds.Message msg len) = rw here at (kept .cell-length 0 some) in
+      skipped-sound N _
+      (taken N some half round e o cells (rx .«rxed_reliable_size») (rx .«recv_buffer») (dataLength msg len) was past (ap heldBytes here ∙ data-all msg len ready fits))
+
+-- ---- taking a message
+
+-- a refusal leaves the state as it came
+taken-keeps : (P : State → Type 0) (s : State) (h : HandOut) → P s
+    → ((msg : ReliableMsg) (seq : Seq) (len : ℕ) → h ≡ Message msg seq len → P (takenState s (dataLength msg len))) → P (takenBy h s)
+taken-keeps P s (Message msg seq len) old new = new msg seq len refl
+taken-keeps P s (No e) old new = old
+
+module _ (s : State) (shaped : Shaped s) (sound : Sound s) where
+  table-then : (msg : ReliableMsg) (seq : Seq) (len : ℕ) → handOutBy (takeVerdict s) (s .rx) ≡ Message msg seq len → SoundRx 64 (takenRx 64 (s .rx) (dataLength msg len))
+  unfolding handOutBy
+  table-then msg seq len h =
+      taken-table 64 cells-some cells-half cells-round (s .rx) msg len (table-of s shaped sound)
+      (handed (takeVerdict s) (readyOf 64 (s .rx)) (s .rx .«rx_oldest») msg seq len h .ready)
+
+  pub take-sound : Sound (takeOf s .state)
+  unfolding takeOf takenState
+  take-sound =
+      taken-keeps Sound s (handOutBy (takeVerdict s) (s .rx)) sound
+      (λ msg seq len h. rx-sound s (takenRx 64 (s .rx) (dataLength msg len)) (table-then msg seq len h) sound)
+
+  pub take-shaped : Shaped (takeOf s .state)
+  unfolding takeOf takenState
+  take-shaped =
+      taken-keeps Shaped s (handOutBy (takeVerdict s) (s .rx)) shaped
+      (λ msg seq len h. rx-shaped s (takenRx 64 (s .rx) (dataLength msg len)) (table-then msg seq len h) shaped)
+
+-- ---- taking an ack
+
+ack-keeps : (P : State → Type 0) (s : State) (slot : ℕ) (v : Verdict) (ack : OldestAck) → P s → (v ≡ verdicts.Pass → P (takenAckState s slot))
+    → P (takenAckBy (ackAs v ack) s slot)
+ack-keeps P s slot verdicts.Pass oldest.Nothing old new = old
+ack-keeps P s slot verdicts.Pass (oldest.Number seq) old new = new refl
+ack-keeps P s slot (verdicts.No e) ack old new = old
+
+module _ (s : State) (slot : ℕ) (shaped : Shaped s) where
+  pub take-ack-sound : Sound s → Sound (takeAckOf s slot .state)
+  unfolding takeAckOf ackAnswer takenAckState
+  take-ack-sound sound =
+      ack-keeps Sound s slot (slotVerdict s slot) (oldestAck (rowOf s slot)) sound (λ v. taken-sound s slot shaped sound (slot-passed s slot v .0))
+
+  pub take-ack-shaped : Shaped (takeAckOf s slot .state)
+  unfolding takeAckOf ackAnswer takenAckState
+  take-ack-shaped = ack-keeps Shaped s slot (slotVerdict s slot) (oldestAck (rowOf s slot)) shaped (λ v. taken-shaped s slot shaped)

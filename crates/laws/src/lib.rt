@@ -1,0 +1,1 @@
+// What holds of every call, proved of the definitions that the calls' promises cite (specs/). Theorems alone.
