@@ -1,0 +1,233 @@
+"""Runs scripts through the port and the original's driver, finds where their answers part, and makes such a script small.
+
+The model's answers come with each generated script and are held against the port's too.
+"""
+
+import collections
+import os
+import shlex
+import subprocess
+import tempfile
+
+from generator import script
+from model import WRAP, Model
+
+ROOT = os.path.dirname(os.path.dirname(os.path.abspath(__file__)))
+DRIVER = os.path.join(ROOT, "target", "oracle", "driver")
+PORT = os.environ.get("PORT", "./run calls")
+
+# Lines in one run of the port while a script is made small.
+LINES_A_RUN = 20000
+SECONDS = 900
+
+
+class Sides:
+    """The two programs that answer scripts."""
+
+    def __init__(self, port=PORT, driver=DRIVER):
+        self.port = shlex.split(port)
+        self.driver = driver
+
+    def answers(self, lines):
+        """For each line of a script, what the port and the original answered."""
+        with tempfile.TemporaryDirectory() as room:
+            script, told = os.path.join(room, "script"), os.path.join(room, "answers")
+            with open(script, "w", encoding="latin-1") as file:
+                file.writelines(line + "\n" for line in lines)
+            with open(script, "rb") as given, open(told, "wb") as taken:
+                done = subprocess.run(self.port, stdin=given, stdout=taken, cwd=ROOT, timeout=SECONDS, check=False)
+            with open(told, encoding="latin-1") as file:
+                text = file.read()
+            if done.returncode and not text:
+                raise RuntimeError("the port's command failed: " + " ".join(self.port))
+            port = by_call(lines, text)
+            run = subprocess.run([self.driver, script, told], capture_output=True, cwd=ROOT, timeout=SECONDS, check=False)
+            return port, by_call(lines, run.stdout.decode("latin-1"))
+
+
+def by_call(lines, text):
+    """The answer to each line: one line, but a dump's answer goes on to its full stop."""
+    rest = iter(text.split("\n")[:-1])
+    answers = []
+    for line in lines:
+        answer = next(rest, "(no answer)")
+        if line == "dump" and answer == "0":
+            told = [answer]
+            for more in rest:
+                told.append(more)
+                if more == ".":
+                    break
+            answer = "\n".join(told)
+        answers.append(answer)
+    answers[-1:] = ["\n".join(answers[-1:] + list(rest))]
+    return answers
+
+
+def first_difference(one, other):
+    return next((at for at, (a, b) in enumerate(zip(one, other)) if a != b), None)
+
+
+class Difference:
+    """Where the port parts from the original, or from the model."""
+
+    def __init__(self, seed, whom, lines):
+        self.seed = seed
+        self.whom = whom
+        self.lines = lines
+
+
+class Tally:
+    """What was run: calls by name, accepted ones, refusals by number."""
+
+    def __init__(self):
+        self.calls = collections.Counter()
+        self.accepted = collections.Counter()
+        self.refusals = collections.Counter()
+
+    def add(self, lines, answers):
+        for line, answer in zip(lines, answers):
+            name = line.split(" ", 1)[0]
+            first = answer.split(None, 1)[0] if answer else ""
+            if first == "?":
+                name = "?"
+            self.calls[name] += 1
+            if first == "0":
+                self.accepted[name] += 1
+            else:
+                self.refusals[first] += 1
+
+    def merge(self, other):
+        self.calls.update(other.calls)
+        self.accepted.update(other.accepted)
+        self.refusals.update(other.refusals)
+
+    def __str__(self):
+        accepted = sum(self.accepted.values())
+        numbers = sorted(self.refusals, key=lambda word: (not word.isdigit(), int(word) if word.isdigit() else 0))
+        return "%d calls, %d accepted, %d of these dumps\naccepted: %s\nrefused: %s" % (
+            sum(self.calls.values()),
+            accepted,
+            self.accepted["dump"],
+            ", ".join("%s %d" % item for item in sorted(self.accepted.items())),
+            ", ".join("%s: %d" % (word, self.refusals[word]) for word in numbers),
+        )
+
+
+def compare(sides, seeds, calls, mode="near"):
+    """Runs the seeds' scripts as one; answers the tally and each seed's first difference from the original and from the model."""
+    scripts = [script(mode, seed, calls) for seed in seeds]
+    lines = [line for one in scripts for line in one.lines]
+    port, original = sides.answers(lines)
+    tally = Tally()
+    tally.add(lines, port)
+    differences = []
+    at = 0
+    for seed, one in zip(seeds, scripts):
+        part = slice(at, at + len(one.lines))
+        at += len(one.lines)
+        for whom, other in (("original", original[part]), ("model", one.answers)):
+            place = first_difference(port[part], other)
+            if place is not None:
+                differences.append(Difference(seed, whom, one.lines[: place + 1]))
+    return tally, differences
+
+
+def both(sides, whom, lines):
+    port, original = sides.answers(lines)
+    if whom == "original":
+        return port, original
+    model = Model()
+    return port, [model.answer(line) for line in lines]
+
+
+def which_differ(sides, whom, scripts):
+    """Which of the scripts show a difference. Each starts over with its own `fresh`, so that one run serves all."""
+    port, other = both(sides, whom, [line for one in scripts for line in one])
+    answers, at = [], 0
+    for one in scripts:
+        part = slice(at, at + len(one))
+        at += len(one)
+        answers.append(port[part] != other[part])
+    return answers
+
+
+def first_that_differs(sides, whom, scripts):
+    """The first of the scripts that shows a difference, and its place."""
+    at = 0
+    while at < len(scripts):
+        run, lines = [], 0
+        while at + len(run) < len(scripts) and (not run or lines < LINES_A_RUN):
+            run.append(scripts[at + len(run)])
+            lines += len(run[-1])
+        for place, differs in enumerate(which_differ(sides, whom, run), at):
+            if differs:
+                return place, scripts[place]
+        at += len(run)
+    return None, None
+
+
+def fewer_lines(sides, whom, lines):
+    """Without every line that the difference does without. The first, `fresh`, stays."""
+    size = max(1, len(lines) // 2)
+    while size >= 1:
+        end = len(lines)
+        while end > 1:
+            starts = list(range(end - size, 0, -size)) or [1]
+            place, found = first_that_differs(sides, whom, [lines[:start] + lines[start + size :] for start in starts])
+            if found is None:
+                break
+            lines, end = found, starts[place]
+        size //= 2
+    return lines
+
+
+def later_start(sides, whom, lines):
+    """With a later start number, which makes up for a first message that is dropped."""
+    while True:
+        fresh = lines[0].split(" ")
+        fresh[1] = str((int(fresh[1]) + 1) % WRAP)
+        first = [next((at for at, line in enumerate(lines) if line.startswith(name)), None) for name in ("send ", "receive ")]
+        dropped = [[at] for at in first if at] + ([first] if all(first) else [])
+        shorter = [[" ".join(fresh)] + [line for at, line in enumerate(lines) if at and at not in drop] for drop in dropped]
+        _, found = first_that_differs(sides, whom, shorter)
+        if found is None:
+            return lines
+        lines = found
+
+
+def shorter_bytes(sides, whom, lines):
+    """With bytes cut to one, or to none."""
+    for at, line in enumerate(lines):
+        words = line.split(" ")
+        if words[0] in ("send", "receive") and len(words[-1]) > 1:
+            cut = [lines[:at] + [" ".join(words[:-1] + [word])] + lines[at + 1 :] for word in ("-", words[-1][:2])]
+            _, found = first_that_differs(sides, whom, [one for one in cut if one != lines])
+            lines = found or lines
+    return lines
+
+
+def smaller(sides, whom, lines):
+    """The script made small: fewer lines, then fewer messages before them, then fewer bytes."""
+    for make in (fewer_lines, later_start, fewer_lines, shorter_bytes, fewer_lines):
+        lines = make(sides, whom, lines)
+    return lines
+
+
+def only_here(here, there):
+    """An answer's lines that the other side's answer doesn't have; of a short answer, all."""
+    here, there = here.split("\n"), there.split("\n")
+    return [line for line in here if len(here) == 1 or line not in there] or ["(nothing that the other hasn't)"]
+
+
+def show(sides, difference):
+    """The difference's script made small, with what each side answers; of a dump, the lines that part."""
+    lines = smaller(sides, difference.whom, difference.lines)
+    port, other = both(sides, difference.whom, lines)
+    place = first_difference(port, other)
+    out = ["seed %d: the port and the %s part" % (difference.seed, difference.whom)]
+    out += ["%d of %d calls:" % (len(lines), len(difference.lines)), *("    " + line for line in lines)]
+    if place is None:
+        return "\n".join(out + ["only when run in one go with other scripts"])
+    for name, here, there in (("port", port[place], other[place]), (difference.whom, other[place], port[place])):
+        out += ["the %s answers the last:" % name, *("    " + line for line in only_here(here, there))]
+    return "\n".join(out)

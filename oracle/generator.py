@@ -1,0 +1,535 @@
+"""Scripts of calls, each from a seed: oracle/generate writes one, oracle/compare runs many.
+
+The model goes along, so that a script can aim at what its state makes interesting: the wrap, a full table, the window's edge, a
+buffer exactly full, repeats, late acks. Its answers come with the script.
+"""
+
+import random
+
+from model import (
+    ACKS,
+    CELLS,
+    CONSUMED,
+    DATA,
+    MOST_BUFFER,
+    MOST_DATA,
+    MOST_TIME,
+    PACKETS,
+    RECEIVE_CLOSE,
+    RECEIVE_FINISH,
+    SEND_FINISH,
+    SENT,
+    STORE,
+    USABLE_INTERVAL,
+    WRAP,
+    Model,
+)
+
+# Every number of a script is at most this far from its start, so that no two are 2^30 apart: document 01 and the original
+# order nearer numbers alike, and farther ones not.
+NEAR = 2**29 - 1
+
+# A dump comes at least this often.
+DUMP_EVERY = 10
+
+# Where the original's order turns, and the wrap itself.
+TURNS = (0, 2**30 - 1, 2**31, 3 * (2**30 - 1), 3 * 2**30)
+
+BUFFERS = (1, 2, 9, 10, 11, 19, 20, 100, 1023, 1024, 1025, 2048, 6553, 65535)
+
+# How often each step is taken, mood by mood; a mood lasts for some dozens of calls.
+MOODS = {
+    "fill": {"send": 60, "flush": 3, "ack": 3, "receive": 2, "block": 1},
+    "drain": {"ack": 60, "send": 6, "receive_consumed": 3},
+    "both": {"send": 20, "ack": 18, "receive": 20, "take": 10, "takeack": 10, "flush": 4},
+    "arrive": {"receive": 60, "show": 2, "take": 4, "takeack": 2, "pile": 1},
+    "window": {"receive_edge": 40, "receive": 20, "take": 8, "takeack": 6},
+    "hand out": {"take": 40, "takeack": 40, "receive": 10, "due": 6, "send_consumed": 8, "tenth": 2},
+    "repeat": {"receive_again": 40, "takeack": 20, "receive": 10, "pile": 1},
+    "links": {"add": 14, "remove": 10, "unconfirm": 12, "confirm": 8, "block": 6, "resend": 25, "send": 25, "ack": 10},
+    "lost": {"unconfirm": 12, "resend": 50, "ack": 20, "add": 5, "flush": 6, "mark": 6, "send": 12},
+    "trips": {"ping": 12, "pong": 14, "mark": 14, "ack": 30, "send": 30, "slow": 6, "flush": 6},
+    "slow": {"slow": 30, "add": 12, "remove": 8, "block": 10, "confirm": 10, "unconfirm": 6, "pong": 6, "ping": 6},
+    "messages": {"read": 50, "write": 50},
+    "odd": {"junk": 20, "lend": 6, "fresh": 1, "wrong_slot": 20, "wrong_time": 20, "send": 10, "receive": 10},
+}
+SELDOM = {"junk": 0.3, "lend": 0.3, "wrong_slot": 0.6, "wrong_time": 0.6, "mark": 0.3, "add": 0.4, "due": 0.4, "slow": 0.4}
+SELDOM.update({"ping": 0.4, "pong": 0.4, "read": 0.4, "write": 0.4, "confirm": 0.3, "send_consumed": 0.4, "show": 0.4})
+
+
+def weights(mood):
+    together = dict(SELDOM)
+    for name, weight in MOODS[mood].items():
+        together[name] = together.get(name, 0) + weight
+    names = list(together)
+    sums, total = [], 0
+    for name in names:
+        total += together[name]
+        sums.append(total)
+    return names, sums
+
+
+WEIGHTS = {mood: weights(mood) for mood in MOODS}
+
+
+class Script:
+    """A script in the making: its lines and the model's answers."""
+
+    def __init__(self, seed, calls, far=False):
+        self.random = random.Random("farthingkeg %d %d" % (seed, far))
+        self.calls = calls
+        self.far = far
+        self.lines = []
+        self.answers = []
+        self.since_dump = 0
+        self.model = Model()
+        self.begin()
+        while len(self.lines) < calls:
+            self.mood()
+        del self.lines[calls:], self.answers[calls:]
+
+    @property
+    def end(self):
+        return self.model.end
+
+    def call(self, *words):
+        """Adds the call, and a dump when one is due. What is past the script's length is dropped."""
+        if len(self.lines) >= self.calls:
+            return
+        self.put(" ".join(map(str, words)))
+        self.since_dump += 1
+        if self.since_dump >= DUMP_EVERY - 1 or self.chance(0.06):
+            self.put("dump")
+            self.since_dump = 0
+
+    def put(self, line):
+        self.lines.append(line)
+        self.answers.append(self.model.answer(line))
+
+    # Choices.
+
+    def chance(self, p):
+        return self.random.random() < p
+
+    def pick(self, *choices):
+        return self.random.choice(choices)
+
+    def below(self, n):
+        return self.random.randrange(n)
+
+    def live(self):
+        return [slot for slot, link in enumerate(self.end.links) if link]
+
+    def slot(self):
+        live = self.live()
+        if not live or self.chance(0.01):
+            return self.pick(0, 3, 7, 8, 255)
+        return self.random.choice(live)
+
+    def time(self):
+        """A time that is accepted."""
+        step = self.pick(0, 0, 1, 1, 2, 5, 10, 100, 1000, self.below(10**6), self.below(10**10))
+        if self.chance(0.0005):
+            return MOST_TIME
+        return min(self.end.time + step, MOST_TIME)
+
+    def size(self):
+        small = self.pick(0, 1, 1, 2, 3, 5, 8)
+        if self.style == "small":
+            return self.pick(MOST_DATA, MOST_DATA - 1, 100) if self.chance(0.01) else small
+        if self.style == "large":
+            return MOST_DATA if self.chance(0.9) else small
+        return self.pick(MOST_DATA, MOST_DATA - 1, self.below(MOST_DATA), 100, 31, 32) if self.chance(0.06) else small
+
+    def data(self, size):
+        return self.random.randbytes(size).hex() or "-"
+
+    def odd_data(self):
+        """More than a message takes."""
+        return self.data(self.pick(MOST_DATA + 1, MOST_DATA + 2, 2048))
+
+    def near(self, number):
+        """The number, or one that no rule meets often."""
+        if self.far and self.chance(0.08):
+            return (self.start + self.pick(2**30, 2**31, 3 * 2**30) + self.pick(-65, -1, 0, 1, 64)) % WRAP
+        if self.chance(0.01):
+            return (self.start + self.pick(-1, 1) * (NEAR - self.below(2000))) % WRAP
+        return number % WRAP
+
+    # The script.
+
+    def begin(self):
+        self.start = self.pick(
+            (WRAP - self.below(200)) % WRAP,
+            (self.random.choice(TURNS) - self.below(200)) % WRAP,
+            self.pick(0, 1, 63, 64),
+            self.below(WRAP),
+        )
+        buffer = self.pick(MOST_BUFFER, MOST_BUFFER, self.random.choice(BUFFERS), 1 + self.below(MOST_BUFFER))
+        self.style = self.random.choices(("small", "mixed", "large"), (70, 28, 2))[0]
+        # The ends of sending are final, so that most scripts meet them late or never.
+        self.finish_from = self.below(2 * self.calls)
+        self.call("fresh", self.start, buffer)
+        for _ in range(self.pick(1, 2, 2, 3, 8)):
+            self.step_add()
+
+    def mood(self):
+        names, sums = WEIGHTS[self.random.choice(list(MOODS))]
+        for _ in range(10 + self.below(90)):
+            name = self.random.choices(names, cum_weights=sums)[0]
+            getattr(self, "step_" + name)()
+
+    def may_finish(self):
+        return len(self.lines) >= self.finish_from
+
+    # Links.
+
+    def step_add(self):
+        identity = self.pick(self.below(12), self.below(12), 2**64 - 1, self.below(2**64))
+        trip = self.pick(0, 1, 50, 99, 100, 101, 1000, self.below(10**9), MOST_TIME)
+        limit = self.pick("-", trip, max(0, trip - 1), trip + 1, self.below(2000))
+        if self.chance(0.02):
+            trip, limit = self.pick((MOST_TIME + 1, "-"), (0, MOST_TIME + 1), (2**64 - 1, 2**64 - 1), (MOST_TIME, MOST_TIME))
+        self.call("add", identity, trip, limit, int(self.chance(0.2)), int(self.chance(0.3)))
+
+    def step_remove(self):
+        if len(self.live()) > 1 or self.chance(0.1):
+            self.call("remove", self.slot())
+
+    def step_confirm(self):
+        self.call("confirm", self.slot())
+
+    def step_unconfirm(self):
+        self.call("unconfirm", self.slot())
+
+    def step_block(self):
+        self.call("block", self.slot(), self.below(2))
+
+    def step_ping(self):
+        self.call("ping", self.slot(), self.time())
+
+    def step_pong(self):
+        self.call("pong", self.slot(), self.time())
+
+    def step_slow(self):
+        self.call("slow")
+
+    def step_mark(self):
+        self.call("mark", self.slot(), self.near(self.end.tx + self.pick(-64, -3, -2, -1, 0, 0, 1, 5)))
+
+    # Sending.
+
+    def step_send(self):
+        kind = self.random.choices((DATA, RECEIVE_CLOSE, RECEIVE_FINISH, SEND_FINISH), (90, 3, 3, 3))[0]
+        if kind == SEND_FINISH and not self.may_finish():
+            kind = DATA
+        data = self.data(self.size()) if kind == DATA else "-"
+        if self.chance(0.01):
+            data = self.pick(self.odd_data(), self.data(1))
+        self.call("send", self.slot(), self.time(), kind, 0, data)
+
+    def step_send_consumed(self):
+        untold = self.end.untold
+        count = self.pick(untold, untold, 1, self.below(untold + 1), untold + 1, 0, WRAP - 1)
+        self.call("send", self.slot(), self.time(), CONSUMED, count, "aa" if self.chance(0.01) else "-")
+
+    def step_flush(self):
+        self.call("flush", self.slot(), self.time())
+
+    def step_resend(self):
+        if not self.end.queue:
+            return self.step_unconfirm() if self.chance(0.3) else self.step_send()
+        number = self.pick(self.end.queue[0], self.random.choice(self.end.queue))
+        if self.chance(0.05):
+            number = self.near(self.end.tx - self.below(PACKETS + 2))
+        self.call("resend", self.slot(), self.time(), number)
+
+    def step_ack(self):
+        packets = self.end.packets
+        slot = self.slot()
+        if packets and self.chance(0.85):
+            packet = self.pick(packets[0], packets[0], packets[-1], self.random.choice(packets))
+            number = packet.number
+            # Mostly over the link that it went over; a late ack of a queued one may come over any.
+            if packet.status == SENT and self.chance(0.8):
+                slot = packet.slot
+        else:
+            first = packets[0].number if packets else self.end.tx
+            number = self.pick(self.end.tx, self.end.tx + 1, first - 1, first - 2, self.end.tx - PACKETS, first - self.below(200))
+        self.call("ack", slot, self.time(), self.near(number))
+
+    # Receiving and handing out.
+
+    def step_receive(self):
+        self.receive(self.end.rx + self.pick(0, 0, 0, 0, 1, 2, self.below(8)))
+
+    def step_receive_edge(self):
+        edge = self.end.oldest() + CELLS
+        end = self.end.rx + USABLE_INTERVAL
+        self.receive(self.pick(edge - 2, edge - 1, edge - 1, edge, edge + 1, self.end.rx, end - 1, end, end + 1, end + self.below(2**20)))
+
+    def step_receive_again(self):
+        held = list(self.end.held)
+        if held and self.chance(0.4):
+            return self.receive(self.random.choice(held))
+        self.receive(self.end.rx - 1 - self.pick(0, 1, self.below(80), CELLS, ACKS))
+
+    def step_receive_consumed(self):
+        self.receive(self.end.rx, CONSUMED)
+
+    def step_pile(self):
+        """More acks than a link keeps, by repeats and by new messages."""
+        slot = self.slot()
+        link = self.end.links[slot] if slot in self.live() else None
+        for _ in range(ACKS + 3 - len(link.acks) if link else 0):
+            self.receive(self.end.rx - self.pick(0, 1, 1, 1, 2), slot=slot)
+        for _ in range(self.pick(0, 1, 40)):
+            self.call("takeack", slot)
+
+    def receive(self, number, kind=None, slot=None, exactly=None):
+        if kind is None:
+            kinds = (DATA, CONSUMED, SEND_FINISH, RECEIVE_CLOSE, RECEIVE_FINISH)
+            kind = self.random.choices(kinds, (78, 10, 5, 4, 3))[0]
+        if kind == RECEIVE_FINISH and not self.may_finish():
+            kind = DATA
+        count, data = 0, "-"
+        if kind == CONSUMED:
+            unconsumed = self.end.unconsumed
+            count = self.pick(unconsumed, 0, 1, self.below(unconsumed + 1), self.below(unconsumed + 1), unconsumed + 1, WRAP - 1)
+        elif kind == DATA:
+            size = self.size()
+            left = self.end.buffer - self.end.untaken
+            if left < MOST_DATA and self.chance(0.3):
+                size = self.pick(left, left + 1)
+            data = self.data(size if exactly is None else exactly)
+        if self.chance(0.01):
+            data = self.pick(self.odd_data(), self.data(1))
+        self.call("receive", self.slot() if slot is None else slot, kind, self.near(number), count, data)
+
+    def step_show(self):
+        self.call("show")
+
+    def step_take(self):
+        if self.chance(0.5):
+            self.call("show")
+        self.call("take")
+        if self.chance(0.1):
+            self.call("due")
+
+    def step_takeack(self):
+        waiting = [slot for slot in self.live() if self.end.links[slot].acks]
+        self.call("takeack", self.random.choice(waiting) if waiting and self.chance(0.9) else self.slot())
+
+    def step_due(self):
+        self.call("due")
+
+    def step_tenth(self):
+        """Takes exactly a tenth of the receive buffer, when a Consumed is just not due, and then a byte more."""
+        slot = self.slot()
+        for _ in range(len(self.end.ready)):
+            self.call("take")
+        if self.end.untold:
+            self.call("send", slot, self.time(), CONSUMED, self.end.untold, "-")
+        tenth = self.end.buffer // 10
+        for _ in range(tenth // MOST_DATA + 1):
+            self.receive(self.end.rx, DATA, slot, max(0, min(tenth - self.end.untold, MOST_DATA)))
+            self.call("take")
+        self.call("due")
+        self.receive(self.end.rx, DATA, slot, 1)
+        self.call("take")
+        self.call("due")
+
+    # Messages.
+
+    def number(self):
+        return self.pick(0, 1, WRAP - 1, 2**31, self.below(WRAP))
+
+    def message(self):
+        kind = 1 + self.below(16)
+        if kind == 4:
+            return kind, self.pick(1, 2, 3, 4)
+        if kind in (7, 8, 10, 11, 12):
+            return kind, self.number()
+        if kind == 9:
+            return kind, self.number(), self.number()
+        if kind == 13:
+            return kind, self.pick(0, 1, 255, 256, 257, MOST_DATA - 1, MOST_DATA, MOST_DATA + 1, self.below(1100), 5000)
+        if kind == 14:
+            return kind, self.below(2)
+        return (kind,)
+
+    def step_write(self):
+        message = self.message()
+        exact = {4: 2, 7: 5, 8: 5, 9: 9, 10: 5, 11: 5, 12: 5, 14: 2}.get(message[0], 1)
+        if message[0] == 13:
+            exact += message[1]
+        room = self.pick(exact, exact - 1, exact + 1, 0, 2048, self.below(1100))
+        self.call("write", min(room, 2048), *message)
+
+    def step_read(self):
+        frame = self.frame()
+        damage = self.below(8)
+        if damage == 0:
+            frame = frame[: self.below(len(frame) + 1)]
+        elif damage == 1:
+            frame += self.random.randbytes(self.pick(1, 1, 4, 100))
+        elif damage == 2:
+            at = self.below(len(frame))
+            frame = frame[:at] + self.random.randbytes(1) + frame[at + 1 :]
+        elif damage == 3:
+            frame = self.random.randbytes(self.pick(0, 1, 2, 5, 7, 9, 40))
+        elif damage == 4:
+            frame = bytes([self.below(256)]) + frame[1:]
+        self.call("read", frame.hex() or "-")
+
+    def frame(self):
+        """A message's bytes, as a rule good ones."""
+        message = self.message()
+        kind = bytes([message[0]])
+        if message[0] in (1, 2):
+            return kind + b"LIAG\0\4" + self.random.randbytes(self.pick(0, 0, 1, 58, 80))
+        if message[0] == 13:
+            return kind + self.random.randbytes(min(message[1], 2047))
+        if message[0] in (4, 14):
+            return kind + bytes(message[1:])
+        return kind + b"".join(number.to_bytes(4, "big") for number in message[1:])
+
+    # What is refused before anything is looked at, and what is no call.
+
+    def step_fresh(self):
+        if self.chance(0.8):
+            self.call("fresh", self.number(), self.pick(0, MOST_BUFFER + 1, WRAP - 1))
+        elif self.chance(0.2) and len(self.lines) + 100 < self.calls:
+            self.begin()
+
+    def step_lend(self):
+        name = self.pick("sent", "received")
+        self.call("lend", name, self.pick(0, 1, STORE - 1, STORE + 1))
+        for _ in range(1 + self.below(4)):
+            getattr(self, self.pick("step_send", "step_receive", "step_show", "step_receive_again", "step_take", "step_ack"))()
+        self.call("lend", name, STORE)
+
+    def step_wrong_slot(self):
+        slot = self.pick(*[slot for slot in range(12) if slot not in self.live()], 255)
+        self.with_slot(slot, self.time())
+
+    def step_wrong_time(self):
+        time = self.pick(max(0, self.end.time - 1), 0, MOST_TIME + 1, 2**64 - 1)
+        self.with_slot(self.slot(), time)
+
+    def with_slot(self, slot, time):
+        number = self.near(self.end.tx - 1)
+        self.call(
+            *self.pick(
+                ("remove", slot) if slot >= CELLS or slot not in self.live() else ("ping", slot, time),
+                ("confirm", slot),
+                ("unconfirm", slot) if slot not in self.live() else ("pong", slot, time),
+                ("block", slot, 1),
+                ("mark", slot, number),
+                ("takeack", slot),
+                ("ping", slot, time),
+                ("pong", slot, time),
+                ("flush", slot, time),
+                ("send", slot, time, DATA, 0, "aa"),
+                ("send", slot, time, CONSUMED, 0, "-"),
+                ("resend", slot, time, number),
+                ("ack", slot, time, number),
+                ("receive", slot, DATA, self.near(self.end.rx), 0, "aa"),
+            )
+        )
+
+    def step_junk(self):
+        self.call(self.random.choice(JUNK))
+
+
+class Trips:
+    """A script of round trips and elapsed times of every size up to 2^56, each pair with both formulas' near edges."""
+
+    def __init__(self, seed, calls):
+        self.random = random.Random("farthingkeg trips %d" % seed)
+        self.lines = []
+        while len(self.lines) + 5 <= calls:
+            trip, elapsed = self.time(), self.time()
+            if self.random.random() < 0.3:
+                elapsed = min(max(0, trip + self.random.randrange(-3, 4)), MOST_TIME)
+            self.lines += ["fresh 0 1", "add 7 %d - 0 0" % trip, "send 0 0 7 0 -", "ack 0 %d 0" % elapsed, "dump"]
+        model = Model()
+        self.answers = [model.answer(line) for line in self.lines]
+
+    def time(self):
+        return min(self.random.randrange(2 ** self.random.randrange(1, 58)), MOST_TIME)
+
+
+def script(mode, seed, calls):
+    """A script of that mode: near (what both sides agree about), far, or trips."""
+    return Trips(seed, calls) if mode == "trips" else Script(seed, calls, mode == "far")
+
+
+# Lines that are no calls.
+JUNK = (
+    "",
+    " ",
+    "dump ",
+    " dump",
+    "Dump",
+    "show 0",
+    "take 0",
+    "sned 0 0 7 0 aa",
+    "send 0 0 7 0",
+    "send 0 0 7 0 aa aa",
+    "send 0 0 8 0 -",
+    "send 0 0 7 1 aa",
+    "send 0 0 7 0 AA",
+    "send 0 0 7 0 a",
+    "send 0 0 7 0 ",
+    "send  0 0 7 0 aa",
+    "send 0 18446744073709551616 7 0 aa",
+    "send 256 0 7 0 aa",
+    "send 00 0 7 0 aa",
+    "send -1 0 7 0 aa",
+    "send +1 0 7 0 aa",
+    "send 0 0 9 4294967296 -",
+    "send 0 0 7 0 " + "aa" * 2049,
+    "receive 0 13 0 0 -",
+    "receive 0 10 0 1 -",
+    "receive 0 7 4294967296 0 -",
+    "receive 0 7 0 0 - -",
+    "add 1 2 3 0 2",
+    "add 1 2 3 0",
+    "add 18446744073709551616 0 - 0 0",
+    "add 1 - - 0 0",
+    "block 0 2",
+    "mark 0 -",
+    "mark 0 4294967296",
+    "ack 0 0 -",
+    "resend 0 0",
+    "remove",
+    "remove 0 0",
+    "lend sent 65538",
+    "lend kept 65536",
+    "lend sent",
+    "fresh 0",
+    "fresh 4294967296 1",
+    "fresh 0 4294967296",
+    "read",
+    "read 0",
+    "read xx",
+    "read " + "00" * 2049,
+    "write 10",
+    "write 2049 5",
+    "write 10 0",
+    "write 10 17",
+    "write 10 256",
+    "write 10 4 0",
+    "write 10 4 5",
+    "write 10 4",
+    "write 10 5 0",
+    "write 10 7",
+    "write 10 9 1",
+    "write 10 14 2",
+    "write 10 7 4294967296",
+    "due 1",
+    "slow 0",
+    "takeack",
+    "# dump",
+)
