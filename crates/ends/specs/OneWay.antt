@@ -1,0 +1,117 @@
+-- One direction: an end that sends, an end that receives, the links between them and what the observer wrote down; and each thing
+-- that an accepted call does there. Assumes nothing.
+use mathlib.Core.Path.{_≡_}
+use mathlib.Core.Bool.{true, false}
+use mathlib.Core.List.{List, [], _∷_, _++_, List·Memᴰ}
+use Prim.Native.Nat.{ℕ, _+_, _-_, _<_}
+use lib.ListN.{length, replicate}
+use Rattle.engine_state.specs.Cells.{noCell}
+use Rattle.ends.specs.World.{Msg, Packet, Ack}
+use Rattle.ends.specs.Wrap.{diff}
+use Rattle.ends.specs.Model.{Tx, Rx, noPkt, sendOk, sent, resendOk, resent, resentMsg, unconfirmed, acked, near, repeated, received, takeOk, answer, taken, Like}
+
+pub record Way : Type 0 where
+  pub start : ℕ
+  pub tx : Tx
+  pub rx : Rx
+  -- what accepted Sends were given and what was handed out, in order; what Receives accepted
+  pub given : List Msg
+  pub out : List Msg
+  pub accepted : List Packet
+  -- every message ever put on the links, and every ack that was ever made
+  pub msgs : List Packet
+  pub acks : List Ack
+
+abbrev pub freshTx : ℕ → List ℕ → Tx
+freshTx start store = record { next = start; count = 0; cells = replicate 64 noPkt; store = store }
+
+abbrev pub freshRx : ℕ → List ℕ → Rx
+freshRx start store = record { expected = start; oldest = start; cells = replicate 64 noCell; store = store }
+
+abbrev pub freshWay : ℕ → List ℕ → List ℕ → Way
+freshWay start sent received = record { start = start; tx = freshTx start sent; rx = freshRx start received; given = []; out = []; accepted = []; msgs = []; acks = [] }
+
+-- ---- what each accepted call does
+
+abbrev pub onSend : ℕ → Msg → Way → Way
+onSend slot m w = record {
+  start = w .start;
+  tx = sent slot m (w .tx);
+  rx = w .rx;
+  given = w .given ++ (m ∷ []);
+  out = w .out;
+  accepted = w .accepted;
+  msgs = record { index = length (w .given); number = w .tx .next; msg = m } ∷ w .msgs;
+  acks = w .acks;
+}
+
+abbrev pub onResend : ℕ → ℕ → Way → Way
+onResend slot n w = record {
+  start = w .start;
+  tx = resent slot n (w .tx);
+  rx = w .rx;
+  given = w .given;
+  out = w .out;
+  accepted = w .accepted;
+  msgs = record { index = length (w .given) - diff (w .tx .next) n; number = n; msg = resentMsg n (w .tx) } ∷ w .msgs;
+  acks = w .acks;
+}
+
+-- another sending half
+abbrev pub withTx : Tx → Way → Way
+withTx t w = record { start = w .start; tx = t; rx = w .rx; given = w .given; out = w .out; accepted = w .accepted; msgs = w .msgs; acks = w .acks }
+
+abbrev pub onUnconfirm : ℕ → Way → Way
+onUnconfirm slot w = withTx (unconfirmed slot (w .tx)) w
+
+abbrev pub onAck : ℕ → Ack → Way → Way
+onAck slot a w = withTx (acked slot (a .number) (w .tx)) w
+
+-- a message is accepted: its ack is made, whatever else happens
+abbrev pub accepting : Packet → Rx → Way → Way
+accepting p r w = record {
+  start = w .start;
+  tx = w .tx;
+  rx = r;
+  given = w .given;
+  out = w .out;
+  accepted = p ∷ w .accepted;
+  msgs = w .msgs;
+  acks = record { index = p .index; number = p .number } ∷ w .acks;
+}
+
+abbrev pub onTake : Way → Way
+onTake w = record {
+  start = w .start;
+  tx = w .tx;
+  rx = taken (w .rx);
+  given = w .given;
+  out = w .out ++ (answer (w .rx) ∷ []);
+  accepted = w .accepted;
+  msgs = w .msgs;
+  acks = w .acks;
+}
+
+-- not yet 2^30 behind the next number of the end that sent the message
+abbrev pub InTime : ℕ → Way → Type 0
+InTime index w = length (w .given) < index + 1073741824
+
+pub data Move : Way → Way → Type 0 where
+  send : {w : Way} (slot : ℕ) (m : Msg) → sendOk m (w .tx) ≡ true → Move w (onSend slot m w)
+  resend : {w : Way} (slot n : ℕ) → n < 4294967296 → resendOk n (w .tx) ≡ true → Move w (onResend slot n w)
+  unconfirm : {w : Way} (slot : ℕ) → Move w (onUnconfirm slot w)
+  -- cells outside the table change
+  relabel : {w : Way} (t : Tx) → Like (w .tx) t → Move w (withTx t w)
+  ack : {w : Way} (slot : ℕ) (a : Ack) → List·Memᴰ a (w .acks) → InTime (a .index) w → Move w (onAck slot a w)
+  again : {w : Way} (p : Packet) → List·Memᴰ p (w .msgs) → InTime (p .index) w → repeated (p .number) (w .rx) ≡ true → Move w (accepting p (w .rx) w)
+  receive : {w : Way} (p : Packet) → List·Memᴰ p (w .msgs) → InTime (p .index) w → repeated (p .number) (w .rx) ≡ false → near (p .number) (w .rx) ≡ true
+      → Move w (accepting p (received (p .number) (p .msg) (w .rx)) w)
+  take : {w : Way} → takeOk (w .rx) ≡ true → Move w (onTake w)
+
+pub data Moves (u : Way) : Way → Type 0 where
+  none : Moves u u
+  _and_ : {v w : Way} → Moves u v → Move v w → Moves u w
+
+-- message i was accepted
+abbrev pub HasAccepted : ℕ → Msg → Way → Type 0
+HasAccepted i m w = (p : Packet) × List·Memᴰ p (w .accepted) × (p .index ≡ i) × (p .msg ≡ m)

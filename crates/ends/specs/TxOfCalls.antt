@@ -1,0 +1,393 @@
+-- What Send, Resend, Ack, Unconfirm, Remove and Flush do to what is seen of a state, each from its own definition: the table's cells
+-- are changed as Model says, and no waiting ack but those of a removed link goes. Assumes nothing.
+use mathlib.Core.Path.{_≡_, refl, sym, ap, _∙_}
+use mathlib.Core.Bool.{cond, _&&_}
+use mathlib.Core.List.{List, [], _∷_, map}
+use Prim.Native.Nat.{ℕ, zero, suc, _+_, _-_, _%_, _^_, _≤_, _<_}
+use native.Mathlib.Omega.{arith}
+use lib.Dec.{eqb}
+use lib.ListN.{length, getD, set, take, drop, length-set}
+use lib.Seq.{set-getD}
+use borrow.Author.Tests.{lt-ltb, le-leb}
+use Rattle.seq.specs.declared.Seq.{Seq}
+use Rattle.seq.specs.Numbers.{plus, minus}
+use Rattle.msg.specs.declared.reliable.ReliableMsg.{ReliableMsg}
+use Rattle.refusal.specs.declared.verdict.Verdict.{Verdict}
+use Rattle.refusal.specs.declared.verdict.Verdict.the-variants.{Pass, No}
+use Rattle.refusal.specs.Verdicts.{gate-pass, split, join, by-test}
+use Rattle.link.specs.declared.row.LinkRow.{LinkRow}
+use Rattle.link.specs.Row.{emptyRow, unconfirmedRow, withUnacked}
+use Rattle.link.specs.Limit.{markAcked, markResent}
+use Rattle.engine_state.specs.declared.state.SentReliableStatus.{SentReliableStatus}
+use Rattle.engine_state.specs.declared.state.SentReliableStatus.the-variants.{Sent, Received, ResendQueued}
+use Rattle.engine_state.specs.declared.state.SentReliable.{SentReliable}
+use Rattle.engine_state.specs.declared.state.Sending.{Sending}
+use Rattle.engine_state.specs.declared.state.State.{State}
+use Rattle.engine_state.specs.declared.answer.Outcome.the-variants as outcomes
+use Rattle.engine_state.specs.Answer.{changedBy}
+use Rattle.engine_state.specs.Decide.{soundb}
+use Rattle.engine_state.specs.Gates.{slotVerdict, timedVerdict}
+use Rattle.engine_state.specs.Packets.{noPacket, isReceived, isQueued}
+use Rattle.engine_state.specs.Queue.{requeued}
+use Rattle.engine_state.specs.Ring.{window, window-length}
+use Rattle.engine_state.specs.Rows.{rowOf, withRow, withTx, withTime, slotOk, timeOk}
+use Rattle.engine_state.specs.Stores.{cellStart, placed, storeBy}
+use Rattle.engine_state.specs.Table.{inTable, packetOf, withStatus, withPackets, withPacket}
+use Rattle.engine_links.specs.Unconfirm.{unconfirmedAs, unconfirmedPacket, unconfirmedState, unconfirmOf, removeOf}
+use Rattle.engine_send.specs.declared.send.SendAnswer.the-variants as sends
+use Rattle.engine_send.specs.declared.resend.ResendAnswer.the-variants as resends
+use Rattle.engine_send.specs.Send.{sendVerdict, sentTx, toldRx, sentState, sentBy, sendOf, sendStore, passed}
+use Rattle.engine_send.specs.Resend.{resendVerdict, resentState, resentBy, resendOf}
+use Rattle.engine_send.specs.Flush.{flushedAs, flushedPacket, flushOf}
+use Rattle.engine_ack.specs.Settle.{settledRowAs, receivedTx, settledTxAs}
+use Rattle.engine_ack.specs.Sweep.{sweepFrom, sweepOf, sweptTx}
+use Rattle.engine_ack.specs.Ack.{ackVerdict, ackedRow, ackedTx, ackedState, ackOf}
+use Rattle.laws.specs.Passed.{changed-keeps, slot-ok, slot-passed, timed-passed}
+use Rattle.ends.specs.World.{Msg}
+use Rattle.ends.specs.Wrap.{cell}
+use Rattle.ends.specs.Model as model
+use Rattle.ends.specs.Model.{SentOn, Pkt, Tx, Like, noPkt, pktAt, withCells, requeuedPkt, settledPkt, swept, sweep}
+use Rattle.ends.specs.Views.{statusSeen, packetSeen, tx, valueOf, waitingOf, Whole, Alone}
+use Rattle.ends.specs.AcksSeen.{SameAcks, same-then, unacked-acks, unconfirm-acks, trip-acks, mark-acked-acks, mark-resent-acks, empty-waiting, empty-queue, acks-untouched, queues-untouched, acks-set, acks-same, queues-set, queues-same}
+use Rattle.ends.specs.Laws.{Sends, Resends, Acks, Unconfirms, Removes, SendingLaws}
+
+-- ---- lists
+
+module _ {A B : Type 0} (f : A → B) where
+  getD-map : (l : List A) (i : ℕ) (d : A) → getD (map f l) i (f d) ≡ f (getD l i d)
+  getD-map [] i d = refl
+  getD-map (x ∷ xs) zero d = refl
+  getD-map (x ∷ xs) (suc i) d = getD-map xs i d
+
+  map-set : (l : List A) (i : ℕ) (v : A) → map f (set l i v) ≡ set (map f l) i (f v)
+  map-set [] i v = refl
+  map-set (x ∷ xs) zero v = refl
+  map-set (x ∷ xs) (suc i) v = ap (λ (t : List B). f x ∷ t) (map-set xs i v)
+
+  -- a change that isn't seen, and one that is seen as another
+  map-kept : (g : A → A) → ((a : A) → f (g a) ≡ f a) → (l : List A) → map f (map g l) ≡ map f l
+  map-kept g e [] = refl
+  map-kept g e (x ∷ xs) = simp (e x, map-kept g e xs)
+
+  map-seen : (g : A → A) (h : B → B) → ((a : A) → f (g a) ≡ h (f a)) → (l : List A) → map f (map g l) ≡ map h (map f l)
+  map-seen g h e [] = refl
+  map-seen g h e (x ∷ xs) = simp (e x, map-seen g h e xs)
+
+-- ---- the packets
+
+-- a sending half, as it is seen
+abbrev half : Sending → List ℕ → Tx
+half t store = record { next = t .«tx_seq» .0; count = t .«txed_count»; cells = map packetSeen (t .«txed_packets»); store = store }
+
+same-like : (t t′ : Tx) → t′ .next ≡ t .next → t′ .count ≡ t .count → t′ .cells ≡ t .cells → t′ .store ≡ t .store → Like t t′
+same-like t t′ n c l d = record {
+  next-same = n;
+  count-same = c;
+  store-same = d;
+  length-same = ap (λ (cs : List Pkt). length cs) l;
+  table-same = λ k h. ap (λ (cs : List Pkt). getD cs (cell k) noPkt) l;
+}
+
+packet-seen : (t : Sending) (n : ℕ) (store : List ℕ) → pktAt (half t store) n ≡ packetSeen (packetOf t n)
+unfolding packetOf
+packet-seen t n store = getD-map packetSeen (t .«txed_packets») (n % 64) noPacket
+
+table-seen : (t : Sending) (n : ℕ) (store : List ℕ) → model.inTable n (half t store) ≡ inTable t n
+unfolding inTable minus
+table-seen t n store = refl
+
+queued-seen : (st : SentReliableStatus) → model.isQueued (statusSeen st) ≡ isQueued st
+queued-seen (Sent since flushed on link) = refl
+queued-seen Received = refl
+queued-seen (ResendQueued link) = refl
+
+received-seen : (st : SentReliableStatus) → model.isReceived (statusSeen st) ≡ isReceived st
+received-seen (Sent since flushed on link) = refl
+received-seen Received = refl
+received-seen (ResendQueued link) = refl
+
+-- Unconfirm queues what is Sent on the slot
+unconfirm-as : (slot : ℕ) (p : SentReliable) (st : SentReliableStatus)
+    → packetSeen (unconfirmedAs st slot (withStatus p st)) ≡ requeuedPkt slot (packetSeen (withStatus p st))
+unfolding unconfirmedAs
+unconfirm-as slot p (Sent since flushed on link) = by-test (eqb on slot) (λ t. simp t) (λ t. simp t)
+unconfirm-as slot p Received = refl
+unconfirm-as slot p (ResendQueued link) = refl
+
+-- a flush time isn't seen
+flush-as : (slot time : ℕ) (p : SentReliable) (st : SentReliableStatus) → packetSeen (flushedAs st slot time (withStatus p st)) ≡ packetSeen (withStatus p st)
+unfolding flushedAs
+flush-as slot time p (Sent since flushed on link) = by-test (eqb on slot) (λ t. simp t) (λ t. simp t)
+flush-as slot time p Received = refl
+flush-as slot time p (ResendQueued link) = refl
+
+-- ---- an accepted call has passed
+
+module _ (s next : State) where
+  done-keeps : (P : State → Type 0) (v : Verdict) → changedBy v s next .outcome ≡ outcomes.Done → (v ≡ Pass → P next) → P (changedBy v s next .state)
+  done-keeps P Pass e f = f refl
+  done-keeps P (No r) e f = let z : _≡_ {A = ℕ} 0 1 = cc in absurd (omega arith)
+
+  sent-keeps : (P : Seq → State → List ℕ → Type 0) (v : Verdict) (old new : List ℕ) (number : Seq) → sentBy v s next .answer ≡ sends.Number number
+      → (v ≡ Pass → P (s .tx .«tx_seq») next new) → P number (sentBy v s next .state) (storeBy v old new)
+  sent-keeps P Pass old new number e f = let q : s .tx .«tx_seq» ≡ number = cc in rw q at (f refl)
+  sent-keeps P (No r) old new number e f = let z : _≡_ {A = ℕ} 0 1 = cc in absurd (omega arith)
+
+  resent-keeps : (P : ReliableMsg → ℕ → State → Type 0) (v : Verdict) (n : ℕ) (kind : ReliableMsg) (len : ℕ) → resentBy v s n next .answer ≡ resends.Message kind len
+      → (v ≡ Pass → P (packetOf (s .tx) n .msg) (packetOf (s .tx) n .len) next) → P kind len (resentBy v s n next .state)
+  resent-keeps P Pass n kind len e f =
+      let q : packetOf (s .tx) n .msg ≡ kind = cc in
+      let r : packetOf (s .tx) n .len ≡ len = cc in
+      rw (q, r) at (f refl)
+  resent-keeps P (No r) n kind len e f = let z : _≡_ {A = ℕ} 0 1 = cc in absurd (omega arith)
+
+-- ---- Send
+
+module _ (s : State) (store : List ℕ) (slot time : ℕ) (m : Msg) (whole : Whole s) where
+  abbrev bytes : ℕ
+  bytes = length (m .bytes)
+
+  send-slot : sendVerdict s (length store) slot time (m .kind) bytes ≡ Pass → slot < 8
+  unfolding sendVerdict
+  send-slot e =
+      let e1 = gate-pass (soundb s) _ _ e in
+      let e2 = gate-pass (eqb (length store) 65536) _ _ (e1 .1) in
+      let e3 = gate-pass (timeOk s time) _ _ (e2 .1) in
+      let e4 = gate-pass (slotOk s slot) _ _ (e3 .1) in
+      slot-ok s slot (e4 .0) .0
+
+  send-passed : sendVerdict s (length store) slot time (m .kind) bytes ≡ Pass
+      → Sends s store slot m (s .tx .«tx_seq») (sentState s slot time (m .kind) bytes) (placed store (cellStart (s .tx .«tx_seq» .0)) (m .bytes))
+  unfolding sentState sentTx toldRx plus
+  send-passed e =
+      let p = passed s (length store) slot time (m .kind) bytes e in
+      let row = withUnacked (rowOf s slot) (rowOf s slot .«txed_unacked_data» + bytes) in
+      let same = unacked-acks (rowOf s slot) (rowOf s slot .«txed_unacked_data» + bytes) in
+      record {
+        ok = join (lt-ltb (s .tx .«txed_count») 64 (p .room .places)) (le-leb bytes 1024 (p .short));
+        number-is = refl;
+        tx-is = same-like _ _ refl refl (map-set packetSeen (s .tx .«txed_packets») (s .tx .«tx_seq» .0 % 64) _) refl;
+        rx-alone = λ st. refl;
+        acks-alone = acks-same s (sentState s slot time (m .kind) bytes) slot row (whole .shaped .links-eight) (send-slot e) refl same;
+        queues = queues-same s (sentState s slot time (m .kind) bytes) slot row (whole .shaped .links-eight) (send-slot e) refl same;
+      }
+
+  send-law : (number : Seq) → sendOf s (length store) slot time (m .kind) bytes .answer ≡ sends.Number number
+      → Sends s store slot m number (sendOf s (length store) slot time (m .kind) bytes .state) (sendStore s store slot time (m .kind) (m .bytes))
+  unfolding sendOf sendStore
+  send-law number e =
+      sent-keeps s (sentState s slot time (m .kind) bytes) (λ n s′ store′. Sends s store slot m n s′ store′) (sendVerdict s (length store) slot time (m .kind) bytes)
+      store (placed store (cellStart (s .tx .«tx_seq» .0)) (m .bytes)) number e send-passed
+
+-- ---- Resend
+
+module _ (s : State) (store : List ℕ) (slot time n : ℕ) (whole : Whole s) where
+  resend-passed : resendVerdict s slot time n ≡ Pass → Resends s store slot n (packetOf (s .tx) n .msg) (packetOf (s .tx) n .len) (resentState s slot time n)
+  unfolding resentState resendVerdict withPacket requeued
+  resend-passed e =
+      let p = timed-passed s slot time _ e in
+      let q = gate-pass (inTable (s .tx) n && isQueued (packetOf (s .tx) n .status)) _ _ (p .4) .0 in
+      let b = split (inTable (s .tx) n) (isQueued (packetOf (s .tx) n .status)) q in
+      let seen = packet-seen (s .tx) n store in
+      let more = rowOf s slot .«txed_unacked_data» + packetOf (s .tx) n .len in
+      let row = withUnacked (markResent (rowOf s slot) n) more in
+      let same = same-then row (markResent (rowOf s slot) n) (rowOf s slot) (unacked-acks (markResent (rowOf s slot) n) more) (mark-resent-acks (rowOf s slot) _ n) in
+      record {
+        ok = join (table-seen (s .tx) n store ∙ b .0) (ap (λ (k : Pkt). model.isQueued (k .status)) seen ∙ queued-seen (packetOf (s .tx) n .status) ∙ b .1);
+        msg-is = sym (ap (λ (k : Pkt). record { kind = k .kind; bytes = take (k .len) (drop (cellStart n) store) }) seen);
+        tx-is =
+            same-like _ _ refl refl
+            (map-set packetSeen (s .tx .«txed_packets») (n % 64) _
+            ∙ sym (ap (λ (k : Pkt). set (map packetSeen (s .tx .«txed_packets»)) (n % 64) (model.withStatus (SentOn slot) k)) seen))
+            refl;
+        rx-alone = λ st. refl;
+        acks-alone = acks-same s (resentState s slot time n) slot row (whole .shaped .links-eight) (p .2) refl same;
+        queues = queues-same s (resentState s slot time n) slot row (whole .shaped .links-eight) (p .2) refl same;
+      }
+
+  resend-law : (kind : ReliableMsg) (len : ℕ) → resendOf s slot time n .answer ≡ resends.Message kind len
+      → Resends s store slot n kind len (resendOf s slot time n .state)
+  unfolding resendOf
+  resend-law kind len e =
+      resent-keeps s (resentState s slot time n) (λ k l s′. Resends s store slot n k l s′) (resendVerdict s slot time n) n kind len e resend-passed
+
+-- ---- Unconfirm and Remove
+
+module _ (s : State) (slot : ℕ) (whole : Whole s) where
+  unconfirm-done : slot < 8 → Unconfirms s slot (unconfirmedState s slot)
+  unfolding unconfirmedState requeued
+  unconfirm-done small =
+      let row = unconfirmedRow (rowOf s slot) in
+      let same = unconfirm-acks (rowOf s slot) in
+      record {
+        tx-is = λ store.
+            same-like _ _ refl refl
+            (map-seen packetSeen (unconfirmedPacket slot) (requeuedPkt slot) (λ p. unconfirm-as slot p (p .status)) (s .tx .«txed_packets»))
+            refl;
+        rx-alone = λ st. refl;
+        acks-alone = acks-same s (unconfirmedState s slot) slot row (whole .shaped .links-eight) small refl same;
+        queues = queues-same s (unconfirmedState s slot) slot row (whole .shaped .links-eight) small refl same;
+      }
+
+  unconfirm-law : unconfirmOf s slot .outcome ≡ outcomes.Done → Unconfirms s slot (unconfirmOf s slot .state)
+  unfolding unconfirmOf
+  unconfirm-law e =
+      done-keeps s (unconfirmedState s slot) (λ s′. Unconfirms s slot s′) (slotVerdict s slot) e
+      (λ v. unconfirm-done (slot-passed s slot v .0))
+
+  mid-eight : length (unconfirmedState s slot .links) ≡ 8
+  unfolding unconfirmedState
+  mid-eight = length-set (s .links) slot (unconfirmedRow (rowOf s slot)) ∙ whole .shaped .links-eight
+
+  remove-done : slot < 8 → Removes s slot (withRow (unconfirmedState s slot) slot emptyRow)
+  remove-done small =
+      let mid = unconfirmedState s slot in
+      let after = withRow mid slot emptyRow in
+      let old = unconfirm-done small in
+      record {
+        tx-is = old .tx-is;
+        rx-alone = old .rx-alone;
+        acks-are = λ k.
+            acks-set mid after slot emptyRow mid-eight small refl k
+            ∙ ap (λ (l : List Seq). cond (eqb k slot) (map valueOf l) (waitingOf mid k)) empty-waiting
+            ∙ ap (λ (l : List ℕ). cond (eqb k slot) [] l) (old .acks-alone k);
+        queues = λ q. queues-set mid after slot emptyRow mid-eight small refl empty-queue (old .queues q);
+      }
+
+  remove-law : removeOf s slot .outcome ≡ outcomes.Done → Removes s slot (removeOf s slot .state)
+  unfolding removeOf
+  remove-law e =
+      done-keeps s (withRow (unconfirmedState s slot) slot emptyRow) (λ s′. Removes s slot s′) (slotVerdict s slot) e
+      (λ v. remove-done (slot-passed s slot v .0))
+
+-- ---- Flush
+
+abbrev flushed : State → ℕ → ℕ → State
+flushed s slot time = withTime (withTx s (withPackets (s .tx) (map (flushedPacket slot time) (s .tx .«txed_packets»)))) time
+
+flush-law : (s : State) (slot time : ℕ) → Alone s (flushOf s slot time .state)
+unfolding flushOf
+flush-law s slot time =
+    changed-keeps (λ s′. Alone s s′) (timedVerdict s slot time Pass) s (flushed s slot time)
+    (record { tx-alone = λ store. same-like _ _ refl refl refl refl; rx-alone = λ store. refl; acks-alone = λ k. refl; queues = λ q. q })
+    (λ v. record {
+      tx-alone = λ store.
+          same-like _ _ refl refl (map-kept packetSeen (flushedPacket slot time) (λ p. flush-as slot time p (p .status)) (s .tx .«txed_packets»)) refl;
+      rx-alone = λ store. refl;
+      acks-alone = acks-untouched s (flushed s slot time) refl;
+      queues = queues-untouched s (flushed s slot time) refl;
+    })
+
+-- ---- Ack
+
+-- a cell that is written with what it holds
+as-was : (t : Sending) (store : List ℕ) (n : ℕ) (k : Pkt) → k ≡ pktAt (half t store) n
+    → map packetSeen (t .«txed_packets») ≡ set (map packetSeen (t .«txed_packets»)) (n % 64) k
+as-was t store n k e =
+    let cells = map packetSeen (t .«txed_packets») in
+    sym (ap (λ (q : Pkt). set cells (n % 64) q) e ∙ set-getD cells (n % 64) noPkt)
+
+-- the packet that an ack settles
+settle-as : (t : Sending) (store : List ℕ) (slot n : ℕ) (p : SentReliable) (st : SentReliableStatus)
+    → packetSeen (withStatus p st) ≡ pktAt (half t store) n
+    → half (settledTxAs st t slot n (withStatus p st)) store
+    ≡ withCells (set (map packetSeen (t .«txed_packets»)) (n % 64) (settledPkt slot (packetSeen (withStatus p st)))) (half t store)
+unfolding settledTxAs receivedTx requeued
+settle-as t store slot n p (Sent since flushed on link) e =
+    by-test (eqb on slot)
+    (λ y. simp y (ap (λ (cs : List Pkt). withCells cs (half t store)) (map-set packetSeen (t .«txed_packets») (n % 64) (withStatus p Received))))
+    (λ y. simp y (ap (λ (cs : List Pkt). withCells cs (half t store)) (as-was t store n _ e)))
+settle-as t store slot n p Received e = ap (λ (cs : List Pkt). withCells cs (half t store)) (as-was t store n _ e)
+settle-as t store slot n p (ResendQueued link) e =
+    ap (λ (cs : List Pkt). withCells cs (half t store)) (map-set packetSeen (t .«txed_packets») (n % 64) (withStatus p Received))
+
+ack-table : (s : State) (store : List ℕ) (slot n : ℕ) → model.marked slot n (tx s store) ≡ half (ackedTx s slot n) store
+unfolding ackedTx
+ack-table s store slot n =
+    let seen = packet-seen (s .tx) n store in
+    let there = table-seen (s .tx) n store in
+    let p = packetOf (s .tx) n in
+    by-test (inTable (s .tx) n)
+    (λ y. rw (there, y)
+    (ap (λ (k : Pkt). withCells (set (map packetSeen (s .tx .«txed_packets»)) (n % 64) (settledPkt slot k)) (tx s store)) seen
+    ∙ sym (settle-as (s .tx) store slot n p (p .status) (sym seen))))
+    (λ y. rw (there, y) refl)
+
+-- the sweep leaves as many
+swept-left : (cells : List SentReliable) (at c : ℕ) (last : Seq) (held : ℕ) → sweepFrom (window noPacket cells at c) last held .left ≡ swept at c (map packetSeen cells)
+unfolding sweepFrom window swept
+swept-left cells at zero last held = refl
+swept-left cells at (suc c) last held =
+    let p = getD cells at noPacket in
+    let seen : model.isReceived (getD (map packetSeen cells) at noPkt .status) ≡ isReceived (p .status) =
+    ap (λ (k : Pkt). model.isReceived (k .status)) (getD-map packetSeen cells at noPacket) ∙ received-seen (p .status)
+    in
+    by-test (isReceived (p .status))
+    (λ y. simp (seen, y) (swept-left cells ((at + 1) % 64) c (p .seq) (held - p .len)))
+    (λ y. simp (seen, y) (ap suc (window-length noPacket cells ((at + 1) % 64) c)))
+
+sweep-count : (t : Sending) (store : List ℕ) → t .«txed_count» ≤ 64 → sweptTx t .«txed_count» ≡ sweep (half t store) .count
+unfolding sweptTx sweepOf minus
+sweep-count t store few =
+    let e : t .«txed_count» % 2 ^ 32 ≡ t .«txed_count» = omega arith in
+    rw e (swept-left (t .«txed_packets») (minus (t .«tx_seq» .0) (t .«txed_count») % 64) (t .«txed_count») (t .«txed_last_consumed») (t .«txed_unconsumable»))
+
+sweep-like : (t : Sending) (store : List ℕ) → t .«txed_count» ≤ 64 → Like (sweep (half t store)) (half (sweptTx t) store)
+unfolding sweptTx
+sweep-like t store few = same-like _ _ refl (sweep-count t store few) refl refl
+
+-- the row that an ack leaves
+settle-row : (row : LinkRow) (len slot time : ℕ) (st : SentReliableStatus) → SameAcks (settledRowAs st row len slot time) row
+unfolding settledRowAs
+settle-row row len slot time (Sent since flushed on link) =
+    by-test (eqb on slot)
+    (λ y. simp y (same-then _ (withUnacked row (row .«txed_unacked_data» - len)) row (trip-acks (withUnacked row (row .«txed_unacked_data» - len)) since time) (unacked-acks row (row .«txed_unacked_data» - len))))
+    (λ y. simp y (record { queue = refl; count = refl }))
+settle-row row len slot time Received = record { queue = refl; count = refl }
+settle-row row len slot time (ResendQueued link) = record { queue = refl; count = refl }
+
+module _ (s : State) (slot time n : ℕ) (whole : Whole s) where
+  ack-row : SameAcks (ackedRow s slot time n) (rowOf s slot)
+  unfolding ackedRow
+  ack-row =
+      let r = rowOf s slot in
+      let p = packetOf (s .tx) n in
+      let old = mark-acked-acks r (r .«limit_increased») n in
+      by-test (inTable (s .tx) n)
+      (λ y. simp y (same-then _ (markAcked r n) r (settle-row (markAcked r n) (p .len) slot time (p .status)) old))
+      (λ y. simp y old)
+
+  ack-count : (store : List ℕ) → ackedTx s slot n .«txed_count» ≡ s .tx .«txed_count»
+  ack-count store =
+      ap (λ (t : Tx). t .count) (sym (ack-table s store slot n))
+      ∙ by-test (model.inTable n (tx s store)) (λ y. simp y) (λ y. simp y)
+
+  ack-passed : ackVerdict s slot time n ≡ Pass → Acks s slot n (ackedState s slot time n)
+  unfolding ackVerdict ackedState
+  ack-passed e =
+      let p = timed-passed s slot time _ e in
+      let after = ackedState s slot time n in
+      record {
+        tx-is = λ store.
+            rw (ack-table s store slot n)
+            (sweep-like (ackedTx s slot n) store (rw (ack-count store) (whole .sound .packet-count)));
+        rx-alone = λ st. refl;
+        acks-alone = acks-same s after slot (ackedRow s slot time n) (whole .shaped .links-eight) (p .2) refl ack-row;
+        queues = queues-same s after slot (ackedRow s slot time n) (whole .shaped .links-eight) (p .2) refl ack-row;
+      }
+
+  ack-law : ackOf s slot time n .outcome ≡ outcomes.Done → Acks s slot n (ackOf s slot time n .state)
+  unfolding ackOf
+  ack-law e = done-keeps s (ackedState s slot time n) (λ s′. Acks s slot n s′) (ackVerdict s slot time n) e ack-passed
+
+-- ---- the laws
+
+pub sending-laws : SendingLaws
+sending-laws = record {
+  send-law = λ s store slot time m number whole e. send-law s store slot time m whole number e;
+  resend-law = λ s store slot time n kind len whole small e. resend-law s store slot time n whole kind len e;
+  ack-law = λ s slot time n whole small e. ack-law s slot time n whole e;
+  unconfirm-law = λ s slot whole e. unconfirm-law s slot whole e;
+  remove-law = λ s slot whole e. remove-law s slot whole e;
+  flush-law = λ s slot time whole. flush-law s slot time;
+}

@@ -1,0 +1,277 @@
+-- Two ends and the links between them. What a call does is the definition that the call's promise cites; what an observer writes
+-- down beside it decides nothing. A reader needs this file, Demand and those definitions. Assumes nothing.
+use mathlib.Core.Path.{_≡_}
+use mathlib.Core.Bool.{Bool, cond}
+use mathlib.Core.List.{List, [], _∷_, _++_, List·Memᴰ}
+use Prim.Native.Nat.{ℕ, _+_, _-_, _^_, _<_}
+use lib.Dec.{eqb}
+use lib.ListN.{length, getD, take, drop}
+use Rattle.seq.specs.declared.Seq.{Seq}
+use Rattle.seq.specs.Numbers.{plus, minus}
+use Rattle.msg.specs.declared.reliable.ReliableMsg.{ReliableMsg}
+use Rattle.link.specs.declared.row.MaxPing.{MaxPing}
+use Rattle.engine_state.specs.declared.state.State.{State}
+use Rattle.engine_state.specs.declared.answer.Outcome.{Outcome}
+use Rattle.engine_state.specs.declared.answer.Outcome.the-variants as outcomes
+use Rattle.engine_state.specs.Stores.{cellStart}
+use Rattle.engine_state.specs.Fresh.{freshOf}
+use Rattle.engine_links.specs.declared.add.AddAnswer.{AddAnswer}
+use Rattle.engine_links.specs.declared.add.AddAnswer.the-variants as adds
+use Rattle.engine_links.specs.Add.{addOf}
+use Rattle.engine_links.specs.Changes.{confirmOf, blockOf, markOf, pingOf, pongOf}
+use Rattle.engine_links.specs.Unconfirm.{unconfirmOf, removeOf}
+use Rattle.engine_send.specs.declared.send.SendAnswer.{SendAnswer}
+use Rattle.engine_send.specs.declared.send.SendAnswer.the-variants as sends
+use Rattle.engine_send.specs.declared.resend.ResendAnswer.{ResendAnswer}
+use Rattle.engine_send.specs.declared.resend.ResendAnswer.the-variants as resends
+use Rattle.engine_send.specs.Send.{sendOf, sendStore}
+use Rattle.engine_send.specs.Flush.{flushOf}
+use Rattle.engine_send.specs.Resend.{resendOf}
+use Rattle.engine_ack.specs.Ack.{ackOf}
+use Rattle.engine_receive.specs.Receive.{receiveOf, receiveStore}
+use Rattle.engine_handout.specs.declared.ready.HandOut.{HandOut}
+use Rattle.engine_handout.specs.declared.ready.HandOut.the-variants as handouts
+use Rattle.engine_handout.specs.declared.acks.TakeAck.{TakeAck as AckAnswer}
+use Rattle.engine_handout.specs.declared.acks.TakeAck.the-variants as acks
+use Rattle.engine_handout.specs.Show.{shownOf}
+use Rattle.engine_handout.specs.Take.{takeOf}
+use Rattle.engine_handout.specs.Acks.{takeAckOf}
+
+-- ---- what there is
+
+-- "a Data with its payload is one message": a kind, with a Consumed's count in it, and the bytes
+pub record Msg : Type 0 where
+  pub kind : ReliableMsg
+  pub bytes : List ℕ
+
+-- a message on a link. `index` counts its sender's messages from 0, "counted without wrapping": the observer's, no call sees it
+pub record Packet : Type 0 where
+  pub index : ℕ
+  pub number : ℕ
+  pub msg : Msg
+
+-- an ack on a link, with the index of the message that it acks
+pub record Ack : Type 0 where
+  pub index : ℕ
+  pub number : ℕ
+
+-- an end: its state and its two stores; then what the observer writes down
+pub record End : Type 0 where
+  pub state : State
+  pub sent : List ℕ
+  pub received : List ℕ
+  -- what its accepted Sends were given, in order
+  pub given : List Msg
+  -- what it handed out, in order
+  pub out : List Msg
+  -- what its Receives accepted, the last first
+  pub accepted : List Packet
+  -- for each slot, the indices of the messages whose acks wait there, oldest first
+  pub owed : ℕ → List ℕ
+
+-- all that one end ever put on the links. "Links that lose, repeat, delay and reorder": any of it arrives at any time, any number
+-- of times, over any link, or never
+pub record Wire : Type 0 where
+  pub msgs : List Packet
+  pub acks : List Ack
+
+pub record World : Type 0 where
+  pub start : ℕ
+  pub a : End
+  pub b : End
+  -- put by a, and put by b
+  pub ab : Wire
+  pub ba : Wire
+
+-- the same two ends, named the other way round
+abbrev pub swap : World → World
+swap W = record { start = W .start; a = W .b; b = W .a; ab = W .ba; ba = W .ab }
+
+-- ---- what a call at `a` does
+
+-- the end after a call, with nothing written down
+abbrev pub after : End → State → End
+after e s = record { state = s; sent = e .sent; received = e .received; given = e .given; out = e .out; accepted = e .accepted; owed = e .owed }
+
+abbrev pub moved : World → End → World
+moved W e = record { start = W .start; a = e; b = W .b; ab = W .ab; ba = W .ba }
+
+-- a message, or an ack, is put on the links
+abbrev pub putMsg : Wire → Packet → Wire
+putMsg w p = record { msgs = p ∷ w .msgs; acks = w .acks }
+
+abbrev pub putAck : Wire → Ack → Wire
+putAck w x = record { msgs = w .msgs; acks = x ∷ w .acks }
+
+-- another list for one slot
+abbrev pub upd : (ℕ → List ℕ) → ℕ → List ℕ → ℕ → List ℕ
+upd f slot v k = cond (eqb k slot) v (f k)
+
+abbrev pub tail : List ℕ → List ℕ
+tail [] = []
+tail (x ∷ xs) = xs
+
+-- the acks that wait for one slot, as the observer has them
+abbrev pub owing : End → ℕ → List ℕ → End
+owing e slot is = record { state = e .state; sent = e .sent; received = e .received; given = e .given; out = e .out; accepted = e .accepted; owed = upd (e .owed) slot is }
+
+-- Add: no ack waits for a new link
+abbrev pub addBy : AddAnswer → End → End
+addBy (adds.Slot slot) e = owing e slot []
+addBy (adds.No r) e = e
+
+unfoldable pub addAt : World → ℕ → ℕ → MaxPing → Bool → Bool → World
+addAt W id roundtrip max blocked unconfirmed =
+    let r = addOf (W .a .state) id roundtrip max blocked unconfirmed in
+    moved W (addBy (r .answer) (after (W .a) (r .state)))
+
+-- Remove: with the link go the acks that wait for it
+abbrev pub removeBy : Outcome → ℕ → End → End
+removeBy outcomes.Done slot e = owing e slot []
+removeBy (outcomes.No r) slot e = e
+
+unfoldable pub removeAt : World → ℕ → World
+removeAt W slot = let r = removeOf (W .a .state) slot in moved W (removeBy (r .outcome) slot (after (W .a) (r .state)))
+
+-- Send: what was given is put on the links
+abbrev pub sendBy : SendAnswer → World → Msg → State → List ℕ → World
+sendBy (sends.Number seq) W m s store = record {
+  start = W .start;
+  a = record { state = s; sent = store; received = W .a .received; given = W .a .given ++ (m ∷ []); out = W .a .out; accepted = W .a .accepted; owed = W .a .owed };
+  b = W .b;
+  ab = putMsg (W .ab) (record { index = length (W .a .given); number = seq .0; msg = m });
+  ba = W .ba;
+}
+sendBy (sends.No r) W m s store =
+    moved W (record { state = s; sent = store; received = W .a .received; given = W .a .given; out = W .a .out; accepted = W .a .accepted; owed = W .a .owed })
+
+unfoldable pub sendAt : World → ℕ → ℕ → Msg → World
+sendAt W slot time m =
+    let r = sendOf (W .a .state) (length (W .a .sent)) slot time (m .kind) (length (m .bytes)) in
+    sendBy (r .answer) W m (r .state) (sendStore (W .a .state) (W .a .sent) slot time (m .kind) (m .bytes))
+
+-- of the messages given from number `start` on, the index of the newest that has number n
+abbrev pub newest : ℕ → ℕ → ℕ → ℕ
+newest start given n = given - minus (plus start given) n
+
+-- Resend: what it answers is put on the links, "with the bytes of its sent cell"
+abbrev pub resendBy : ResendAnswer → World → ℕ → State → World
+resendBy (resends.Message kind len) W n s = record {
+  start = W .start;
+  a = after (W .a) s;
+  b = W .b;
+  ab = putMsg (W .ab) (record { index = newest (W .start) (length (W .a .given)) n; number = n; msg = record { kind = kind; bytes = take len (drop (cellStart n) (W .a .sent)) } });
+  ba = W .ba;
+}
+resendBy (resends.No r) W n s = moved W (after (W .a) s)
+
+unfoldable pub resendAt : World → ℕ → ℕ → ℕ → World
+resendAt W slot time n = let r = resendOf (W .a .state) slot time n in resendBy (r .answer) W n (r .state)
+
+-- Receive: it is accepted, and an ack of it waits for the link
+abbrev pub receiveBy : Outcome → End → ℕ → Packet → State → List ℕ → End
+receiveBy outcomes.Done e slot p s store = record {
+  state = s;
+  sent = e .sent;
+  received = store;
+  given = e .given;
+  out = e .out;
+  accepted = p ∷ e .accepted;
+  owed = upd (e .owed) slot (e .owed slot ++ (p .index ∷ []));
+}
+receiveBy (outcomes.No r) e slot p s store = record { state = s; sent = e .sent; received = store; given = e .given; out = e .out; accepted = e .accepted; owed = e .owed }
+
+unfoldable pub receiveAt : World → ℕ → Packet → World
+receiveAt W slot p =
+    let r = receiveOf (W .a .state) (length (W .a .received)) slot (p .msg .kind) (p .number) (length (p .msg .bytes)) in
+    moved W (receiveBy (r .outcome) (W .a) slot p (r .state) (receiveStore (W .a .state) (W .a .received) slot (p .msg .kind) (p .number) (p .msg .bytes)))
+
+-- Take: what was handed out is the kind that taking answers, with "the bytes that showing gives before taking"
+abbrev pub takeBy : HandOut → End → List ℕ → State → End
+takeBy (handouts.Message kind seq len) e shown s = record {
+  state = s;
+  sent = e .sent;
+  received = e .received;
+  given = e .given;
+  out = e .out ++ (record { kind = kind; bytes = shown } ∷ []);
+  accepted = e .accepted;
+  owed = e .owed;
+}
+takeBy (handouts.No r) e shown s = after e s
+
+unfoldable pub takeAt : World → World
+takeAt W = let r = takeOf (W .a .state) in moved W (takeBy (r .answer) (W .a) (shownOf (W .a .state) (W .a .received)) (r .state))
+
+-- the taking of an ack: it is put on the links
+abbrev pub takeAckBy : AckAnswer → World → ℕ → State → World
+takeAckBy (acks.Number seq) W slot s = record {
+  start = W .start;
+  a = owing (after (W .a) s) slot (tail (W .a .owed slot));
+  b = W .b;
+  ab = putAck (W .ab) (record { index = getD (W .a .owed slot) 0 0; number = seq .0 });
+  ba = W .ba;
+}
+takeAckBy (acks.No r) W slot s = moved W (after (W .a) s)
+
+unfoldable pub takeAckAt : World → ℕ → World
+takeAckAt W slot = let r = takeAckOf (W .a .state) slot in takeAckBy (r .answer) W slot (r .state)
+
+-- ---- the premises
+
+-- "never alter or invent a message"; "Receive and ack calls are given only what a link brings from the other end"
+abbrev pub Brought : Packet → Wire → Type 0
+Brought p w = List·Memᴰ p (w .msgs)
+
+abbrev pub BroughtAck : Ack → Wire → Type 0
+BroughtAck x w = List·Memᴰ x (w .acks)
+
+-- "No message or ack arrives once its number is 2^30 or more behind the next number of the end that sent the message (for an ack:
+-- of the message it acks), counted without wrapping"
+abbrev pub Timely : ℕ → End → Type 0
+Timely index sender = length (sender .given) < index + 2 ^ 30
+
+-- ---- a call at `a`, whatever it is given and whatever it answers: one constructor for each call that gives a state
+
+pub data Call : World → World → Type 0 where
+  Add : {W : World} (id roundtrip : ℕ) (max : MaxPing) (blocked unconfirmed : Bool) → Call W (addAt W id roundtrip max blocked unconfirmed)
+  Remove : {W : World} (slot : ℕ) → Call W (removeAt W slot)
+  Confirm : {W : World} (slot : ℕ) → Call W (moved W (after (W .a) (confirmOf (W .a .state) slot .state)))
+  Unconfirm : {W : World} (slot : ℕ) → Call W (moved W (after (W .a) (unconfirmOf (W .a .state) slot .state)))
+  Block : {W : World} (slot : ℕ) (blocked : Bool) → Call W (moved W (after (W .a) (blockOf (W .a .state) slot blocked .state)))
+  Mark : {W : World} (slot : ℕ) (seq : Seq) → Call W (moved W (after (W .a) (markOf (W .a .state) slot seq .state)))
+  Ping : {W : World} (slot time : ℕ) → Call W (moved W (after (W .a) (pingOf (W .a .state) slot time .state)))
+  Pong : {W : World} (slot time : ℕ) → Call W (moved W (after (W .a) (pongOf (W .a .state) slot time .state)))
+  Flush : {W : World} (slot time : ℕ) → Call W (moved W (after (W .a) (flushOf (W .a .state) slot time .state)))
+  Send : {W : World} (slot time : ℕ) (m : Msg) → Call W (sendAt W slot time m)
+  Resend : {W : World} (slot time n : ℕ) → n < 2 ^ 32 → Call W (resendAt W slot time n)
+  Receive : {W : World} (slot : ℕ) (p : Packet) → Brought p (W .ba) → Timely (p .index) (W .b) → Call W (receiveAt W slot p)
+  Acked : {W : World} (slot time : ℕ) (x : Ack) → BroughtAck x (W .ba) → Timely (x .index) (W .a) → Call W (moved W (after (W .a) (ackOf (W .a .state) slot time (x .number) .state)))
+  Take : {W : World} → Call W (takeAt W)
+  TakeAck : {W : World} (slot : ℕ) → Call W (takeAckAt W slot)
+
+pub data Step : World → World → Type 0 where
+  at-a : {W X : World} → Call W X → Step W X
+  at-b : {W X : World} → Call (swap W) (swap X) → Step W X
+
+-- any finite sequence of calls
+pub data Run (W : World) : World → Type 0 where
+  here : Run W W
+  _then_ : {X Y : World} → Run W X → Step X Y → Run W Y
+
+-- ---- "Two fresh ends, started at the same number (any)"
+
+abbrev pub freshEnd : ℕ → ℕ → List ℕ → List ℕ → End
+freshEnd start buffer sent received = record { state = freshOf start buffer .state; sent = sent; received = received; given = []; out = []; accepted = []; owed = λ k. [] }
+
+abbrev pub silent : Wire
+silent = record { msgs = []; acks = [] }
+
+abbrev pub freshWorld : ℕ → End → End → World
+freshWorld start a b = record { start = start; a = a; b = b; ab = silent; ba = silent }
+
+-- any number, two settings of the receive buffer that aren't refused, and four stores of 65,536 bytes with any bytes in them
+pub data Fresh : World → Type 0 where
+  fresh : (start buffer-a buffer-b : ℕ) (sent-a received-a sent-b received-b : List ℕ) → start < 2 ^ 32
+      → freshOf start buffer-a .outcome ≡ outcomes.Done → freshOf start buffer-b .outcome ≡ outcomes.Done
+      → length sent-a ≡ 65536 → length received-a ≡ 65536 → length sent-b ≡ 65536 → length received-b ≡ 65536
+      → Fresh (freshWorld start (freshEnd start buffer-a sent-a received-a) (freshEnd start buffer-b sent-b received-b))
