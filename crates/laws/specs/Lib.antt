@@ -22,3 +22,4 @@ pub mod SoundKept
 pub mod SweepKept
 pub mod TakeKept
 pub mod UnconfirmKept
+pub mod Unique
