@@ -1,0 +1,22 @@
+// Answers a script of calls on one end, a line for each, as docs/CALLS.md has them: the script is standard input, of any length.
+mod input;
+mod run;
+mod session;
+
+// The buffers are made here, once, and lent to everything below.
+fn main() {
+    let mut piece = [0u8; 65536];
+    let mut line = [0u8; 4160];
+    let mut payload = [0u8; 2048];
+    let mut sent = [0u8; 65537];
+    let mut received = [0u8; 65537];
+    let mut out = [0u8; 65536];
+    input::script(
+        &mut piece,
+        &mut line,
+        &mut payload,
+        &mut sent,
+        &mut received,
+        &mut out,
+    );
+}

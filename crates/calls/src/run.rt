@@ -1,0 +1,394 @@
+// Runs each call, and prints what it answers.
+use crate::session::Session;
+use calls_print::answer;
+use calls_print::dump;
+use calls_print::message;
+use calls_print::out;
+use calls_print::out::Buffer;
+use calls_script::call::Call;
+use calls_script::call::Plain;
+use calls_script::call::Stored;
+use calls_script::words::first;
+use engine::ack;
+use engine::acks;
+use engine::add;
+use engine::changes;
+use engine::due;
+use engine::flush;
+use engine::fresh;
+use engine::receive;
+use engine::resend;
+use engine::send;
+use engine::show;
+use engine::take;
+use engine::unconfirm;
+use engine_slow::slow;
+use engine_state::Changed;
+use engine_state::Outcome;
+use link::MaxPing;
+use msg::LinkMsg;
+use msg::Reading;
+use msg::ReliableMsg;
+use msg::Written;
+use seq::Seq;
+
+// A store, with the byte more that may be lent.
+pub type Store = [u8; 65537];
+
+// The bytes of a call, and the buffer that `write` writes to.
+pub type Payload = [u8; 2048];
+
+// What the buffer that `write` lends is filled with.
+const FILLER: u8 = 0xee;
+
+pub fn unknown(s: Session, out: &mut Buffer) -> Session {
+    let at = answer::unknown(out, s.at);
+    s.to(at)
+}
+
+fn changed(s: Session, result: Changed, out: &mut Buffer) -> Session {
+    let outcome = result.outcome;
+    let state = result.state;
+    let at = answer::outcome(out, s.at, outcome);
+    s.with(state, at)
+}
+
+// An accepted `fresh` starts over with stores of zero bytes.
+fn fresh(
+    s: Session,
+    start: u32,
+    buffer: u32,
+    sent: &mut Store,
+    received: &mut Store,
+    out: &mut Buffer,
+) -> Session {
+    let result = fresh::fresh(Seq(start), buffer);
+    let outcome = result.outcome;
+    let state = result.state;
+    let at = answer::outcome(out, s.at, outcome);
+    match outcome {
+        Outcome::Done => {
+            *sent = [0; 65537];
+            *received = [0; 65537];
+            s.over(state, at)
+        }
+        Outcome::No(_) => s.to(at),
+    }
+}
+
+fn add(
+    s: Session,
+    id: u64,
+    trip: u64,
+    max: MaxPing,
+    blocked: bool,
+    unconfirmed: bool,
+    out: &mut Buffer,
+) -> Session {
+    let before = s.state;
+    let result = add::add(before, id, trip, max, blocked, unconfirmed);
+    let answer = result.answer;
+    let state = result.state;
+    let at = answer::added(out, s.at, answer);
+    s.with(state, at)
+}
+
+fn remove(s: Session, slot: u8, out: &mut Buffer) -> Session {
+    let state = s.state;
+    changed(s, unconfirm::remove(state, slot), out)
+}
+
+fn confirm(s: Session, slot: u8, out: &mut Buffer) -> Session {
+    let state = s.state;
+    changed(s, changes::confirm(state, slot), out)
+}
+
+fn unconfirm(s: Session, slot: u8, out: &mut Buffer) -> Session {
+    let state = s.state;
+    changed(s, unconfirm::unconfirm(state, slot), out)
+}
+
+fn block(s: Session, slot: u8, blocked: bool, out: &mut Buffer) -> Session {
+    let state = s.state;
+    changed(s, changes::block(state, slot, blocked), out)
+}
+
+fn ping(s: Session, slot: u8, time: u64, out: &mut Buffer) -> Session {
+    let state = s.state;
+    changed(s, changes::ping(state, slot, time), out)
+}
+
+fn flush(s: Session, slot: u8, time: u64, out: &mut Buffer) -> Session {
+    let state = s.state;
+    changed(s, flush::flush(state, slot, time), out)
+}
+
+fn pong(s: Session, slot: u8, time: u64, out: &mut Buffer) -> Session {
+    let state = s.state;
+    changed(s, changes::pong(state, slot, time), out)
+}
+
+fn mark(s: Session, slot: u8, n: u32, out: &mut Buffer) -> Session {
+    let state = s.state;
+    changed(s, changes::mark(state, slot, Seq(n)), out)
+}
+
+fn ack(s: Session, slot: u8, time: u64, n: u32, out: &mut Buffer) -> Session {
+    let state = s.state;
+    changed(s, ack::ack(state, slot, time, Seq(n)), out)
+}
+
+fn send(
+    s: Session,
+    slot: u8,
+    time: u64,
+    msg: ReliableMsg,
+    payload: &[u8],
+    sent: &mut [u8],
+    out: &mut Buffer,
+) -> Session {
+    let lent = s.sent;
+    let before = s.state;
+    if sent.len() < lent {
+        return unknown(s, out);
+    }
+    let result = send::send(before, &mut sent[0..lent], slot, time, msg, payload);
+    let answer = result.answer;
+    let state = result.state;
+    let at = answer::sent(out, s.at, answer);
+    s.with(state, at)
+}
+
+fn resend(s: Session, slot: u8, time: u64, n: u32, sent: &[u8], out: &mut Buffer) -> Session {
+    let before = s.state;
+    let result = resend::resend(before, slot, time, Seq(n));
+    let answer = result.answer;
+    let state = result.state;
+    let at = answer::resent(out, s.at, answer, sent, n);
+    s.with(state, at)
+}
+
+fn receive(
+    s: Session,
+    slot: u8,
+    msg: ReliableMsg,
+    n: u32,
+    payload: &[u8],
+    received: &mut [u8],
+    out: &mut Buffer,
+) -> Session {
+    let lent = s.received;
+    let state = s.state;
+    if received.len() < lent {
+        return unknown(s, out);
+    }
+    changed(
+        s,
+        receive::receive(state, &mut received[0..lent], slot, msg, Seq(n), payload),
+        out,
+    )
+}
+
+fn show(s: Session, received: &[u8], out: &mut Buffer) -> Session {
+    let lent = s.received;
+    let state = s.state;
+    let store = first(received, lent);
+    let answer = show::showing(state, store);
+    let at = answer::shown(out, s.at, answer, show::show(state, store));
+    s.to(at)
+}
+
+fn take(s: Session, out: &mut Buffer) -> Session {
+    let before = s.state;
+    let result = take::take(before);
+    let answer = result.answer;
+    let state = result.state;
+    let at = answer::taken(out, s.at, answer);
+    s.with(state, at)
+}
+
+fn take_ack(s: Session, slot: u8, out: &mut Buffer) -> Session {
+    let before = s.state;
+    let result = acks::take_ack(before, slot);
+    let answer = result.answer;
+    let state = result.state;
+    let at = answer::taken_ack(out, s.at, answer);
+    s.with(state, at)
+}
+
+fn due(s: Session, out: &mut Buffer) -> Session {
+    let state = s.state;
+    let at = answer::due(out, s.at, due::is_consume_ack_required(state));
+    s.to(at)
+}
+
+fn slow(s: Session, out: &mut Buffer) -> Session {
+    let state = s.state;
+    let at = answer::slow(out, s.at, slow::slow_links(state));
+    s.to(at)
+}
+
+fn dump(s: Session, sent: &[u8], received: &[u8], out: &mut Buffer) -> Session {
+    let state = s.state;
+    let at = dump::all(out, s.at, state, sent, received);
+    s.to(at)
+}
+
+fn read(s: Session, bytes: &[u8], out: &mut Buffer) -> Session {
+    match msg::read(bytes) {
+        Reading::Message(msg) => {
+            let a = out::put(out, s.at, b"0");
+            let b = message::put(out, a, msg);
+            let at = out::end(out, b);
+            s.to(at)
+        }
+        Reading::No(e) => {
+            let at = answer::no(out, s.at, e);
+            s.to(at)
+        }
+    }
+}
+
+// What was written, by its length.
+fn written(out: &mut Buffer, at: usize, buffer: &[u8], answer: Written) -> usize {
+    match answer {
+        Written::Bytes(n) => {
+            let a = out::put(out, at, b"0");
+            let b = out::bytes(out, a, first(buffer, n));
+            out::end(out, b)
+        }
+        Written::No(e) => answer::no(out, at, e),
+    }
+}
+
+fn write(s: Session, room: usize, msg: LinkMsg, buffer: &mut [u8], out: &mut Buffer) -> Session {
+    if buffer.len() < room {
+        return unknown(s, out);
+    }
+    let answer = msg::write(msg, &mut buffer[0..room]);
+    let at = written(out, s.at, buffer, answer);
+    s.to(at)
+}
+
+fn write_filled(
+    s: Session,
+    room: usize,
+    msg: LinkMsg,
+    buffer: &mut Payload,
+    out: &mut Buffer,
+) -> Session {
+    *buffer = [FILLER; 2048];
+    write(s, room, msg, buffer, out)
+}
+
+fn lend_sent(s: Session, length: usize, out: &mut Buffer) -> Session {
+    let at = answer::done(out, s.at);
+    let mut next = s.to(at);
+    next.sent = length;
+    next
+}
+
+fn lend_received(s: Session, length: usize, out: &mut Buffer) -> Session {
+    let at = answer::done(out, s.at);
+    let mut next = s.to(at);
+    next.received = length;
+    next
+}
+
+// A call on a state that uses no store.
+fn on_state(s: Session, call: Plain, out: &mut Buffer) -> Session {
+    match call {
+        Plain::Add(id, trip, max, blocked, unconfirmed) => add(
+            s,
+            id,
+            trip,
+            max,
+            blocked,
+            unconfirmed,
+            out,
+        ),
+        Plain::Remove(slot) => remove(s, slot, out),
+        Plain::Confirm(slot) => confirm(s, slot, out),
+        Plain::Unconfirm(slot) => unconfirm(s, slot, out),
+        Plain::Block(slot, blocked) => block(s, slot, blocked, out),
+        Plain::Ping(slot, time) => ping(s, slot, time, out),
+        Plain::Flush(slot, time) => flush(s, slot, time, out),
+        Plain::Pong(slot, time) => pong(s, slot, time, out),
+        Plain::Mark(slot, n) => mark(s, slot, n, out),
+        Plain::Ack(slot, time, n) => ack(s, slot, time, n, out),
+        Plain::Take => take(s, out),
+        Plain::TakeAck(slot) => take_ack(s, slot, out),
+        Plain::Due => due(s, out),
+        Plain::Slow => slow(s, out),
+        Plain::LendSent(n) => lend_sent(s, n, out),
+        Plain::LendReceived(n) => lend_received(s, n, out),
+    }
+}
+
+// A call on a state and its stores.
+fn on_stores(
+    s: Session,
+    call: Stored,
+    payload: &[u8],
+    sent: &mut Store,
+    received: &mut Store,
+    out: &mut Buffer,
+) -> Session {
+    match call {
+        Stored::Send(slot, time, msg, n) => send(s, slot, time, msg, first(payload, n), sent, out),
+        Stored::Resend(slot, time, n) => resend(s, slot, time, n, sent, out),
+        Stored::Receive(slot, msg, n, len) => receive(
+            s,
+            slot,
+            msg,
+            n,
+            first(payload, len),
+            received,
+            out,
+        ),
+        Stored::Show => show(s, received, out),
+        Stored::Dump => dump(s, sent, received, out),
+    }
+}
+
+// A call on a state, where there is one.
+fn on_begun(s: Session, call: Plain, out: &mut Buffer) -> Session {
+    if s.begun {
+        on_state(s, call, out)
+    } else {
+        unknown(s, out)
+    }
+}
+
+fn on_begun_stores(
+    s: Session,
+    call: Stored,
+    payload: &[u8],
+    sent: &mut Store,
+    received: &mut Store,
+    out: &mut Buffer,
+) -> Session {
+    if s.begun {
+        on_stores(s, call, payload, sent, received, out)
+    } else {
+        unknown(s, out)
+    }
+}
+
+pub fn run(
+    s: Session,
+    call: Call,
+    payload: &mut Payload,
+    sent: &mut Store,
+    received: &mut Store,
+    out: &mut Buffer,
+) -> Session {
+    match call {
+        Call::Fresh(start, buffer) => fresh(s, start, buffer, sent, received, out),
+        Call::Read(n) => read(s, first(payload, n), out),
+        Call::Write(room, msg) => write_filled(s, room, msg, payload, out),
+        Call::OnState(plain) => on_begun(s, plain, out),
+        Call::OnStores(stored) => on_begun_stores(s, stored, payload, sent, received, out),
+        Call::Unknown => unknown(s, out),
+    }
+}

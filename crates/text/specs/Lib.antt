@@ -1,0 +1,4 @@
+pub mod Cases
+pub mod Hex
+pub mod Decimal
+pub mod Put
