@@ -1,0 +1,116 @@
+// Replays a session: frames from standard input in lower-case hexadecimal, one a line, a Data's payload on the line after it. It
+// writes one line a frame: the answer in two digits, a space, and the next expected number in eight.
+use libc::STDERR_FILENO;
+use libc::STDIN_FILENO;
+use libc::STDOUT_FILENO;
+use replaying::Answer;
+use replaying::Replay;
+use replaying::begin;
+use replaying::close;
+use replaying::digits::MAX_LINE;
+use replaying::feed;
+use replaying::write_line;
+
+// A replay, and how many bytes of an unfinished line are carried.
+struct Going {
+    replay: Replay,
+    count: usize,
+}
+
+fn show(answer: Answer) {
+    match answer {
+        Answer::Nothing => {}
+        Answer::Line(number, next) => {
+            let mut text = [0u8; 12];
+            write_line(number, next, &mut text);
+            io::write_all(STDOUT_FILENO, &text);
+        }
+    }
+}
+
+// Answers the lines that end in a piece of the input.
+fn answer_piece(going: Going, store: &mut [u8], line: &mut [u8; MAX_LINE], piece: &[u8]) -> Going {
+    let mut replay = going.replay;
+    let mut count = going.count;
+    let mut at: usize = 0;
+    while at < piece.len() {
+        let fed = feed(replay, store, line, count, piece, at);
+        let answer = fed.answer;
+        show(answer);
+        replay = fed.replay;
+        count = fed.count;
+        at = fed.at;
+    }
+    Going { replay, count }
+}
+
+fn finish(going: Going, store: &mut [u8], line: &[u8; MAX_LINE]) {
+    let replay = going.replay;
+    let last = close(replay, store, line, going.count);
+    let answer = last.answer;
+    show(answer);
+}
+
+// What one read of the input found.
+enum Found {
+    Piece,
+    End,
+    Failure,
+}
+
+struct Turn {
+    found: Found,
+    going: Going,
+}
+
+fn answer_some(going: Going, store: &mut [u8], line: &mut [u8; MAX_LINE]) -> Turn {
+    let mut buffer = io::large_buffer();
+    let got = libc::read(STDIN_FILENO, &mut buffer);
+    if got < 0 {
+        return Turn {
+            found: Found::Failure,
+            going,
+        };
+    }
+    if got == 0 {
+        finish(going, store, line);
+        return Turn {
+            found: Found::End,
+            going,
+        };
+    }
+    let n = io::count(got, &buffer);
+    let next = answer_piece(going, store, line, &buffer[..n]);
+    Turn {
+        found: Found::Piece,
+        going: next,
+    }
+}
+
+// Replays standard input to its end, and answers whether all of it could be read. A proved loop has to end, so this one counts its
+// turns down, from a number that no run uses up.
+fn replay_input(store: &mut [u8], line: &mut [u8; MAX_LINE]) -> bool {
+    let replay = begin();
+    let mut going = Going { replay, count: 0 };
+    let mut turns = u64::MAX;
+    while turns > 0 {
+        let turn = answer_some(going, store, line);
+        let found = turn.found;
+        match found {
+            Found::Piece => {}
+            Found::End => return true,
+            Found::Failure => return false,
+        }
+        going = turn.going;
+        turns -= 1;
+    }
+    true
+}
+
+fn main() {
+    let mut store = io::large_buffer();
+    let mut line = [0u8; MAX_LINE];
+    if !replay_input(&mut store, &mut line) {
+        io::write_all(STDERR_FILENO, b"replay: the input cannot be read\n");
+    }
+}
