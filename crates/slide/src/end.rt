@@ -1,0 +1,329 @@
+// What either end does at each tick, whatever it sends: it takes what arrives, acks it, doubts a silent link, resends and flushes.
+use crate::air;
+use crate::air::Air;
+use crate::air::Left;
+use crate::air::PLACES;
+use crate::air::ROOM;
+use crate::air::Room;
+use crate::air::part;
+use crate::chance::Chance;
+use crate::tally::AGAIN;
+use crate::tally::AHEAD;
+use crate::tally::DOUBTED;
+use crate::tally::REFUSED;
+use crate::tally::RESENT;
+use crate::tally::Tally;
+use crate::tally::count;
+use engine::State;
+use engine::ack;
+use engine::acks;
+use engine::changes;
+use engine::flush;
+use engine::receive;
+use engine::resend;
+use engine::unconfirm;
+use engine_handout::acks::TakeAck;
+use engine_send::resend::ResendAnswer;
+use engine_state::Outcome;
+use engine_state::rows::row_of;
+use engine_state::state::SentReliableStatus;
+use engine_state::table::packet_of;
+use msg::LinkMsg;
+use msg::Reading;
+use msg::ReliableMsg;
+use msg::Written;
+use msg::reliable::FromLink;
+use seq::Seq;
+
+pub type Store = [u8; 65536];
+
+// The links' slots are 0 to 2.
+pub const LINKS: u8 = 3;
+
+// After how many nanoseconds without an ack a link is doubted: 50 ticks.
+const PATIENCE: u64 = 50_000_000;
+
+const CELL: usize = 1024;
+
+const CELLS: u32 = 64;
+
+// Writes a message and gives it to a link.
+pub fn post(
+    chance: &mut Chance,
+    tally: &mut Tally,
+    left: &mut Left,
+    air: &mut Air,
+    slot: u8,
+    to: u8,
+    msg: LinkMsg,
+    payload: &[u8],
+) {
+    let mut frame = [0u8; 9];
+    let written = msg::write(msg, &mut frame);
+    match written {
+        Written::Bytes(n) => air::post(
+            chance,
+            tally,
+            left,
+            air,
+            slot,
+            to,
+            part(&frame, 0, n),
+            payload,
+        ),
+        Written::No(_) => count(tally, REFUSED),
+    }
+}
+
+fn note_arrival(tally: &mut Tally, expected: Seq, seq: Seq) {
+    if seq.is_before(expected) {
+        count(tally, AGAIN);
+    } else if seq.0 != expected.0 {
+        count(tally, AHEAD);
+    }
+}
+
+fn note_refusal(tally: &mut Tally, outcome: Outcome) {
+    match outcome {
+        Outcome::Done => {}
+        Outcome::No(_) => count(tally, REFUSED),
+    }
+}
+
+fn receive(
+    s: State,
+    received: &mut Store,
+    tally: &mut Tally,
+    slot: u8,
+    msg: ReliableMsg,
+    seq: Seq,
+    payload: &[u8],
+) -> State {
+    let rx = s.rx;
+    note_arrival(tally, rx.rx_seq, seq);
+    let changed = receive::receive(s, received, slot, msg, seq, payload);
+    let outcome = changed.outcome;
+    note_refusal(tally, outcome);
+    changed.state
+}
+
+fn ack(s: State, tally: &mut Tally, slot: u8, msg: LinkMsg, now: u64) -> State {
+    let LinkMsg::Ack { received } = msg else {
+        count(tally, REFUSED);
+        return s;
+    };
+    let changed = ack::ack(s, slot, now, received);
+    let outcome = changed.outcome;
+    note_refusal(tally, outcome);
+    changed.state
+}
+
+// A frame has arrived.
+fn arrive(s: State, received: &mut Store, tally: &mut Tally, room: &Room, now: u64) -> State {
+    let slot = air::slot_of(room);
+    let reading = msg::read(air::frame_of(room));
+    let Reading::Message(msg) = reading else {
+        count(tally, REFUSED);
+        return s;
+    };
+    let carried = ReliableMsg::from_link_msg(msg);
+    match carried {
+        FromLink::Reliable(reliable, seq) => receive(
+            s,
+            received,
+            tally,
+            slot,
+            reliable,
+            seq,
+            air::payload_of(room),
+        ),
+        FromLink::Other => ack(s, tally, slot, msg, now),
+    }
+}
+
+// All that has arrived at an end.
+fn arrivals(
+    s: State,
+    received: &mut Store,
+    tally: &mut Tally,
+    left: &mut Left,
+    air: &Air,
+    end: u8,
+    now: u64,
+) -> State {
+    let mut room = [0u8; ROOM];
+    let mut out = s;
+    let mut k: usize = 0;
+    while k < PLACES {
+        if air::take(left, air, k, end, &mut room) {
+            out = arrive(out, received, tally, &room, now);
+        }
+        k += 1;
+    }
+    out
+}
+
+// Sends the acks that wait on a link, over that link.
+fn send_acks(
+    s: State,
+    chance: &mut Chance,
+    tally: &mut Tally,
+    left: &mut Left,
+    air: &mut Air,
+    slot: u8,
+    to: u8,
+) -> State {
+    let row = row_of(s, slot);
+    let mut more = row.ack_count;
+    let mut out = s;
+    while 0 < more {
+        let taken = acks::take_ack(out, slot);
+        let answer = taken.answer;
+        let TakeAck::Number(received) = answer else {
+            return out;
+        };
+        post(
+            chance,
+            tally,
+            left,
+            air,
+            slot,
+            to,
+            LinkMsg::Ack { received },
+            b"",
+        );
+        out = taken.state;
+        more -= 1;
+    }
+    out
+}
+
+// A silent link is unconfirmed, so that what it has is resent elsewhere; the host then finds it in order again.
+fn doubt(s: State, tally: &mut Tally, slot: u8) -> State {
+    count(tally, DOUBTED);
+    let unconfirmed = unconfirm::unconfirm(s, slot);
+    let state = unconfirmed.state;
+    let confirmed = changes::confirm(state, slot);
+    confirmed.state
+}
+
+// Doubts the link that the oldest packet was sent on, when its ack is long in coming.
+fn watch(s: State, tally: &mut Tally, now: u64) -> State {
+    let tx = s.tx;
+    if tx.txed_count == 0 {
+        return s;
+    }
+    let first = tx.tx_seq.sub((tx.txed_count % 65) as u32);
+    let oldest = packet_of(tx, first);
+    let status = oldest.status;
+    let SentReliableStatus::Sent {
+        sent,
+        flushed: _,
+        slot,
+        link: _,
+    } = status
+    else {
+        return s;
+    };
+    if now <= sent {
+        return s;
+    }
+    if now - sent < PATIENCE {
+        return s;
+    }
+    doubt(s, tally, slot)
+}
+
+// Resends the oldest queued message over a link, where the engine allows it.
+fn resend(
+    s: State,
+    sent: &Store,
+    chance: &mut Chance,
+    tally: &mut Tally,
+    left: &mut Left,
+    air: &mut Air,
+    slot: u8,
+    to: u8,
+    now: u64,
+) -> State {
+    let tx = s.tx;
+    if tx.resend_count == 0 {
+        return s;
+    }
+    let queue = tx.resend_queue;
+    let seq = queue[0];
+    let result = resend::resend(s, slot, now, seq);
+    let answer = result.answer;
+    let ResendAnswer::Message(msg, len) = answer else {
+        return s;
+    };
+    count(tally, RESENT);
+    let at = (seq.0 % CELLS) as usize * CELL;
+    post(
+        chance,
+        tally,
+        left,
+        air,
+        slot,
+        to,
+        msg.to_link_msg(seq),
+        part(sent, at, len as usize),
+    );
+    result.state
+}
+
+// One link's doings.
+fn serve(
+    s: State,
+    sent: &Store,
+    chance: &mut Chance,
+    tally: &mut Tally,
+    left: &mut Left,
+    air: &mut Air,
+    slot: u8,
+    to: u8,
+    now: u64,
+) -> State {
+    let acked = send_acks(s, chance, tally, left, air, slot, to);
+    resend(acked, sent, chance, tally, left, air, slot, to, now)
+}
+
+fn serve_all(
+    s: State,
+    sent: &Store,
+    chance: &mut Chance,
+    tally: &mut Tally,
+    left: &mut Left,
+    air: &mut Air,
+    to: u8,
+    now: u64,
+) -> State {
+    let mut out = s;
+    let mut slot: u8 = 0;
+    while slot < LINKS {
+        out = serve(out, sent, chance, tally, left, air, slot, to, now);
+        slot += 1;
+    }
+    out
+}
+
+// A tick at an end; the link whose turn it is is flushed.
+pub fn turn(
+    s: State,
+    sent: &Store,
+    received: &mut Store,
+    chance: &mut Chance,
+    tally: &mut Tally,
+    left: &mut Left,
+    air: &mut Air,
+    end: u8,
+    to: u8,
+    slot: u8,
+    now: u64,
+) -> State {
+    let arrived = arrivals(s, received, tally, left, air, end, now);
+    let watched = watch(arrived, tally, now);
+    let served = serve_all(watched, sent, chance, tally, left, air, to, now);
+    let flushed = flush::flush(served, slot, now);
+    flushed.state
+}

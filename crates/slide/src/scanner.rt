@@ -1,0 +1,110 @@
+// The scanner's own work: a tile a tick while there is room for it, and after the last one the end of the stream.
+use crate::air::Air;
+use crate::air::Left;
+use crate::air::SERVER;
+use crate::air::part;
+use crate::chance::Chance;
+use crate::end;
+use crate::end::Store;
+use crate::picture::shade;
+use crate::tally::ENDED;
+use crate::tally::GIVEN;
+use crate::tally::Tally;
+use crate::tally::count;
+use engine::State;
+use engine::send;
+use engine_send::send::SendAnswer;
+use msg::ReliableMsg;
+use tiles::TILES;
+
+// Gives a message to a link, and counts it where the engine takes it: a full packet table or a dead link has it wait.
+pub fn give(
+    s: State,
+    sent: &mut Store,
+    chance: &mut Chance,
+    tally: &mut Tally,
+    left: &mut Left,
+    air: &mut Air,
+    slot: u8,
+    to: u8,
+    now: u64,
+    msg: ReliableMsg,
+    payload: &[u8],
+    what: usize,
+) -> State {
+    let result = send::send(s, sent, slot, now, msg, payload);
+    let answer = result.answer;
+    let SendAnswer::Number(seq) = answer else {
+        return s;
+    };
+    count(tally, what);
+    end::post(
+        chance,
+        tally,
+        left,
+        air,
+        slot,
+        to,
+        msg.to_link_msg(seq),
+        payload,
+    );
+    result.state
+}
+
+// The number of the next tile, or TILES.
+fn next_tile(tally: &Tally) -> u16 {
+    let given = tally[GIVEN];
+    if given < TILES as u64 {
+        given as u16
+    } else {
+        TILES
+    }
+}
+
+pub fn scan(
+    s: State,
+    sent: &mut Store,
+    chance: &mut Chance,
+    tally: &mut Tally,
+    left: &mut Left,
+    air: &mut Air,
+    slot: u8,
+    now: u64,
+) -> State {
+    let n = next_tile(tally);
+    if n < TILES {
+        let tile = tiles::bytes_of(shade(n), n);
+        let payload = part(&tile, 0, tiles::length(n));
+        return give(
+            s,
+            sent,
+            chance,
+            tally,
+            left,
+            air,
+            slot,
+            SERVER,
+            now,
+            ReliableMsg::Data,
+            payload,
+            GIVEN,
+        );
+    }
+    if tally[ENDED] == 0 {
+        return give(
+            s,
+            sent,
+            chance,
+            tally,
+            left,
+            air,
+            slot,
+            SERVER,
+            now,
+            ReliableMsg::SendFinish,
+            b"",
+            ENDED,
+        );
+    }
+    s
+}

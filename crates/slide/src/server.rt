@@ -1,0 +1,146 @@
+// The server's own work: it takes the tiles that are ready, looks at each and tells the scanner what it has consumed.
+use crate::air::Air;
+use crate::air::Left;
+use crate::air::SCANNER;
+use crate::chance::Chance;
+use crate::end::Store;
+use crate::map;
+use crate::map::Row;
+use crate::picture::shade;
+use crate::scanner::give;
+use crate::tally::EVENT;
+use crate::tally::FINISHED;
+use crate::tally::GOOD;
+use crate::tally::TOLD;
+use crate::tally::Tally;
+use crate::tally::WRAPPED;
+use crate::tally::WRONG;
+use crate::tally::count;
+use engine::State;
+use engine::due;
+use engine::show;
+use engine::take;
+use engine_handout::due::Due;
+use engine_handout::ready::HandOut;
+use msg::ReliableMsg;
+use seq::Seq;
+use tiles::TILES;
+use tiles::is_tile;
+
+// The most messages that are ready at one time.
+const MAX_READY: usize = 64;
+
+// The number of the tile that has to come next; TILES where none has to.
+fn expected_tile(tally: &Tally) -> u16 {
+    let good = tally[GOOD];
+    if tally[WRONG] == 0 && good < TILES as u64 {
+        good as u16
+    } else {
+        TILES
+    }
+}
+
+// A tile was handed out: it counts as good when it is the one that has to come next, with its bytes.
+fn look(bytes: &[u8], tally: &mut Tally, row: &mut Row, tick: u64) {
+    let n = expected_tile(tally);
+    if n < TILES && is_tile(shade(n), n, bytes) {
+        count(tally, GOOD);
+        map::put(n, bytes, tally, row, tick);
+    } else {
+        count(tally, WRONG);
+    }
+}
+
+fn look_at(msg: ReliableMsg, seq: Seq, bytes: &[u8], tally: &mut Tally, row: &mut Row, tick: u64) {
+    if seq.0 == 0 {
+        tally[EVENT] = WRAPPED;
+    }
+    match msg {
+        ReliableMsg::Data => look(bytes, tally, row, tick),
+        ReliableMsg::SendFinish => count(tally, FINISHED),
+        _ => count(tally, WRONG),
+    }
+}
+
+// Whether no message is ready.
+fn is_drained(s: State) -> bool {
+    let rx = s.rx;
+    rx.rx_oldest.0 == rx.rx_seq.0
+}
+
+// Takes every ready message.
+fn take_ready(s: State, received: &Store, tally: &mut Tally, row: &mut Row, tick: u64) -> State {
+    let mut out = s;
+    let mut more: usize = MAX_READY;
+    while 0 < more {
+        if is_drained(out) {
+            return out;
+        }
+        let shown = show::show(out, received);
+        let taken = take::take(out);
+        let answer = taken.answer;
+        let HandOut::Message(msg, seq, _) = answer else {
+            return out;
+        };
+        look_at(msg, seq, shown, tally, row, tick);
+        out = taken.state;
+        more -= 1;
+    }
+    out
+}
+
+fn is_due(due: Due) -> bool {
+    match due {
+        Due::Is(required) => required,
+        Due::No(_) => false,
+    }
+}
+
+// Tells what was taken, when that is due.
+fn tell(
+    s: State,
+    sent: &mut Store,
+    chance: &mut Chance,
+    tally: &mut Tally,
+    left: &mut Left,
+    air: &mut Air,
+    slot: u8,
+    now: u64,
+) -> State {
+    if !is_due(due::is_consume_ack_required(s)) {
+        return s;
+    }
+    let rx = s.rx;
+    let msg = ReliableMsg::Consumed(rx.rxed_reliable_consumed);
+    give(
+        s,
+        sent,
+        chance,
+        tally,
+        left,
+        air,
+        slot,
+        SCANNER,
+        now,
+        msg,
+        b"",
+        TOLD,
+    )
+}
+
+pub fn view(
+    s: State,
+    sent: &mut Store,
+    received: &Store,
+    chance: &mut Chance,
+    tally: &mut Tally,
+    left: &mut Left,
+    air: &mut Air,
+    row: &mut Row,
+    slot: u8,
+    tick: u64,
+    now: u64,
+) -> State {
+    let taken = take_ready(s, received, tally, row, tick);
+    tell(taken, sent, chance, tally, left, air, slot, now)
+}
