@@ -10,32 +10,32 @@ use Rattle.engine_state.specs.declared.state.State.{State}
 use Rattle.engine_state.specs.declared.answer.Outcome.{Outcome}
 use Rattle.engine_state.specs.declared.answer.Outcome.the-variants as outcomes
 use Rattle.engine_state.specs.declared.answer.Changed.{Changed}
-use Rattle.engine_links.specs.declared.add.Added.{Added}
-use Rattle.engine_links.specs.declared.add.AddAnswer.{AddAnswer}
-use Rattle.engine_links.specs.declared.add.AddAnswer.the-variants as adds
-use Rattle.engine_links.specs.Add.{addOf}
+use Rattle.engine_add.specs.declared.add.Added.{Added}
+use Rattle.engine_add.specs.declared.add.AddAnswer.{AddAnswer}
+use Rattle.engine_add.specs.declared.add.AddAnswer.the-variants as adds
+use Rattle.engine_add.specs.Add.{addOf}
 use Rattle.engine_links.specs.Changes.{confirmOf, blockOf, markOf, pingOf, pongOf}
-use Rattle.engine_links.specs.Unconfirm.{unconfirmOf, removeOf}
+use Rattle.engine_unconfirm.specs.Unconfirm.{unconfirmOf, removeOf}
 use Rattle.engine_send.specs.declared.send.SendResult.{SendResult}
 use Rattle.engine_send.specs.declared.send.SendAnswer.{SendAnswer}
 use Rattle.engine_send.specs.declared.send.SendAnswer.the-variants as sends
-use Rattle.engine_send.specs.declared.resend.ResendResult.{ResendResult}
-use Rattle.engine_send.specs.declared.resend.ResendAnswer.{ResendAnswer}
-use Rattle.engine_send.specs.declared.resend.ResendAnswer.the-variants as resends
+use Rattle.engine_resend.specs.declared.resend.ResendResult.{ResendResult}
+use Rattle.engine_resend.specs.declared.resend.ResendAnswer.{ResendAnswer}
+use Rattle.engine_resend.specs.declared.resend.ResendAnswer.the-variants as resends
 use Rattle.engine_send.specs.Send.{sendOf, sendStore}
-use Rattle.engine_send.specs.Flush.{flushOf}
-use Rattle.engine_send.specs.Resend.{resendOf}
+use Rattle.engine_flush.specs.Flush.{flushOf}
+use Rattle.engine_resend.specs.Resend.{resendOf}
 use Rattle.engine_ack.specs.Ack.{ackOf}
 use Rattle.engine_receive.specs.Receive.{receiveOf, receiveStore}
 use Rattle.engine_handout.specs.declared.take.TakeResult.{TakeResult}
 use Rattle.engine_handout.specs.declared.ready.HandOut.{HandOut}
 use Rattle.engine_handout.specs.declared.ready.HandOut.the-variants as handouts
-use Rattle.engine_handout.specs.declared.acks.TakeAckResult.{TakeAckResult}
-use Rattle.engine_handout.specs.declared.acks.TakeAck.{TakeAck as AckAnswer}
-use Rattle.engine_handout.specs.declared.acks.TakeAck.the-variants as acks
+use Rattle.engine_acks.specs.declared.acks.TakeAckResult.{TakeAckResult}
+use Rattle.engine_acks.specs.declared.acks.TakeAck.{TakeAck as AckAnswer}
+use Rattle.engine_acks.specs.declared.acks.TakeAck.the-variants as acks
 use Rattle.engine_handout.specs.Show.{shownOf}
 use Rattle.engine_handout.specs.Take.{takeOf}
-use Rattle.engine_handout.specs.Acks.{takeAckOf}
+use Rattle.engine_acks.specs.Acks.{takeAckOf}
 use Rattle.ends.specs.World.{Msg, Packet, Ack, End, World, after, moved, owing, addBy, addAt, removeBy, removeAt, sendBy, sendAt, resendBy, resendAt, receiveBy, receiveAt, takeBy, takeAt, takeAckBy, takeAckAt, Brought, BroughtAck, Timely, Call, Add, Remove, Confirm, Unconfirm, Block, Mark, Ping, Pong, Flush, Send, Resend, Receive, Acked, Take, TakeAck}
 use Rattle.ends.specs.Model.{Tx, Like}
 use Rattle.ends.specs.Views.{tx, Queues, Whole, Alone}

@@ -14,7 +14,7 @@ use Rattle.link.specs.Row.{emptyRow}
 use Rattle.link.specs.Acks.{waiting}
 use Rattle.engine_state.specs.declared.state.State.{State}
 use Rattle.engine_state.specs.Answer.{changedBy}
-use Rattle.engine_state.specs.Fresh as state
+use Rattle.engine_fresh.specs.Fresh as state
 use Rattle.engine_state.specs.Roster.{noRow}
 use Rattle.engine_state.specs.Rows.{rowOf}
 use Rattle.ends.specs.OneWay.{freshTx, freshRx}

@@ -11,9 +11,9 @@ use Rattle.seq.specs.Numbers.{plus, minus}
 use Rattle.engine_state.specs.declared.state.State.{State}
 use Rattle.engine_state.specs.declared.answer.Outcome.the-variants as outcomes
 use Rattle.engine_send.specs.declared.send.SendAnswer.the-variants as sends
-use Rattle.engine_send.specs.declared.resend.ResendAnswer.the-variants as resends
+use Rattle.engine_resend.specs.declared.resend.ResendAnswer.the-variants as resends
 use Rattle.engine_handout.specs.declared.ready.HandOut.the-variants as handouts
-use Rattle.engine_handout.specs.declared.acks.TakeAck.the-variants as acks
+use Rattle.engine_acks.specs.declared.acks.TakeAck.the-variants as acks
 use Rattle.engine_handout.specs.Show.{shownOf}
 use Rattle.ends.specs.World.{Ack, World, swap, after, moved, owing, upd, tail, sendBy, resendBy, receiveBy, takeBy}
 use Rattle.ends.specs.Wrap.{diff}

@@ -13,7 +13,7 @@ use Rattle.engine_state.specs.declared.state.Held.{Held}
 use Rattle.engine_state.specs.declared.state.Held.the-variants.{Nothing, Message}
 use Rattle.engine_state.specs.declared.state.RxCell.{RxCell}
 use Rattle.engine_state.specs.Cells.{noCell, isFull}
-use Rattle.engine_receive.specs.Cells.{keptOf}
+use Rattle.engine_cells.specs.Cells.{keptOf}
 use Rattle.ends.specs.World.{Msg}
 use Rattle.ends.specs.Demand.{noMsg}
 use Rattle.ends.specs.Wrap.{num, diff, cell}

@@ -12,7 +12,7 @@ use Rattle.engine_state.specs.declared.state.SentReliableStatus.{SentReliableSt
 use Rattle.engine_state.specs.declared.state.SentReliableStatus.the-variants as statuses
 use Rattle.engine_state.specs.declared.state.State.{State}
 use Rattle.engine_state.specs.declared.answer.Outcome.the-variants as outcomes
-use Rattle.engine_state.specs.Fresh.{freshOf}
+use Rattle.engine_fresh.specs.Fresh.{freshOf}
 use Rattle.engine_state.specs.Packets.{noPacket}
 use Rattle.engine_state.specs.Table.{packetOf}
 use Rattle.engine_ack.specs.Ack.{ackOf}

@@ -17,23 +17,23 @@ use Rattle.engine_state.specs.Answer.{changedBy}
 use Rattle.engine_state.specs.Stores.{storeBy, cellStart, placed}
 use Rattle.engine_state.specs.Gates.{slotVerdict}
 use Rattle.engine_state.specs.Rows.{withRow}
-use Rattle.engine_links.specs.declared.add.AddAnswer.the-variants as adds
-use Rattle.engine_links.specs.Add.{addOf, addedBy, addVerdict, lowestIn}
-use Rattle.engine_links.specs.Unconfirm.{unconfirmedState, unconfirmOf, removeOf}
+use Rattle.engine_add.specs.declared.add.AddAnswer.the-variants as adds
+use Rattle.engine_add.specs.Add.{addOf, addedBy, addVerdict, lowestIn}
+use Rattle.engine_unconfirm.specs.Unconfirm.{unconfirmedState, unconfirmOf, removeOf}
 use Rattle.engine_send.specs.declared.send.SendAnswer.the-variants as sends
-use Rattle.engine_send.specs.declared.resend.ResendAnswer.the-variants as resends
+use Rattle.engine_resend.specs.declared.resend.ResendAnswer.the-variants as resends
 use Rattle.engine_send.specs.Send.{sendOf, sendStore, sentBy, sentState, sendVerdict}
-use Rattle.engine_send.specs.Resend.{resendOf, resentBy, resentState, resendVerdict}
+use Rattle.engine_resend.specs.Resend.{resendOf, resentBy, resentState, resendVerdict}
 use Rattle.engine_ack.specs.Ack.{ackOf, ackVerdict, ackedState}
 use Rattle.engine_receive.specs.Receive.{receiveOf, receiveStore, receiveVerdict, repeatedState, receivedState}
-use Rattle.engine_receive.specs.Cells.{isRepeat}
+use Rattle.engine_cells.specs.Cells.{isRepeat}
 use Rattle.engine_handout.specs.declared.ready.HandOut.{HandOut}
 use Rattle.engine_handout.specs.declared.ready.HandOut.the-variants as handouts
-use Rattle.engine_handout.specs.declared.acks.TakeAck.{TakeAck}
-use Rattle.engine_handout.specs.declared.acks.TakeAck.the-variants as acks
+use Rattle.engine_acks.specs.declared.acks.TakeAck.{TakeAck}
+use Rattle.engine_acks.specs.declared.acks.TakeAck.the-variants as acks
 use Rattle.engine_handout.specs.Ready.{handOutBy}
 use Rattle.engine_handout.specs.Take.{takeOf, takenBy, takeVerdict}
-use Rattle.engine_handout.specs.Acks.{takeAckOf, takenAckBy, ackAnswer}
+use Rattle.engine_acks.specs.Acks.{takeAckOf, takenAckBy, ackAnswer}
 
 clash : {A : Type 0} → _≡_ {A = ℕ} 0 1 → A
 clash z = absurd (omega arith)

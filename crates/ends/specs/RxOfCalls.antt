@@ -28,11 +28,11 @@ use Rattle.engine_state.specs.Answer.{changedBy}
 use Rattle.engine_state.specs.Decide.{soundb}
 use Rattle.engine_state.specs.Gates.{slotVerdict, timedVerdict}
 use Rattle.engine_state.specs.Rows.{rowOf, row-of, withRow, withTime}
-use Rattle.engine_links.specs.declared.add.AddAnswer.the-variants as adds
-use Rattle.engine_links.specs.Add.{lowestIn, addVerdict, addedBy, addOf}
+use Rattle.engine_add.specs.declared.add.AddAnswer.the-variants as adds
+use Rattle.engine_add.specs.Add.{lowestIn, addVerdict, addedBy, addOf}
 use Rattle.engine_links.specs.Changes.{confirmOf, blockOf, markOf, pingOf, pongOf}
-use Rattle.engine_handout.specs.declared.acks.TakeAck.the-variants as acks
-use Rattle.engine_handout.specs.Acks.{ackAs, ackAnswer, takenAckState, takenAckBy, takeAckOf}
+use Rattle.engine_acks.specs.declared.acks.TakeAck.the-variants as acks
+use Rattle.engine_acks.specs.Acks.{ackAs, ackAnswer, takenAckState, takenAckBy, takeAckOf}
 use Rattle.laws.specs.Passed.{changed-keeps, slot-passed, timed-passed}
 use Rattle.ends.specs.Views.{valueOf, tx, Whole, Alone}
 use Rattle.ends.specs.Laws.{TakesAck, AddsLink, ReceivingLaws}

@@ -30,7 +30,7 @@ use Rattle.engine_state.specs.Rows.{rowOf, slotOk, withRow}
 use Rattle.engine_state.specs.Sound.{cellAt, ReadyKind, LengthWithin}
 use Rattle.engine_state.specs.Stores.{cellStart, placed, storeBy}
 use Rattle.engine_state.specs.Tally.{lengthOk}
-use Rattle.engine_receive.specs.Cells.{cellOf, nearOldest, isRepeat}
+use Rattle.engine_cells.specs.Cells.{cellOf, nearOldest, isRepeat}
 use Rattle.engine_receive.specs.Receive.{receiveVerdict, effectTx, storedRx, repeatedState, receivedState, receiveOf, receiveStore}
 use Rattle.engine_handout.specs.declared.ready.HandOut.{HandOut}
 use Rattle.engine_handout.specs.declared.ready.HandOut.the-variants as handouts

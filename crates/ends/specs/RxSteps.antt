@@ -17,7 +17,7 @@ use Rattle.engine_state.specs.declared.state.Receiving.{Receiving}
 use Rattle.engine_state.specs.declared.state.State.{State}
 use Rattle.engine_state.specs.Cells.{isFull}
 use Rattle.engine_state.specs.Rows.{rowOf, row-of}
-use Rattle.engine_receive.specs.Cells.{cellOf, nearOldest, keptOf, oldestAfter, canAdvance, passedOver, advanced}
+use Rattle.engine_cells.specs.Cells.{cellOf, nearOldest, keptOf, oldestAfter, canAdvance, passedOver, advanced}
 use Rattle.engine_handout.specs.Take.{canSkip, passedBy, skipped}
 use Rattle.ends.specs.Model.{Rx, Tx, Like}
 use Rattle.ends.specs.Model.{passed as passedSeen, advanced as advancedSeen, passedBy as passedBySeen, skipped as skippedSeen}

@@ -7,7 +7,7 @@ use Rattle.refusal.specs.declared.verdict.Verdict.the-variants as verdicts
 use Rattle.engine_state.specs.declared.state.State.{State}
 use Rattle.engine_state.specs.declared.answer.Outcome.the-variants as outcomes
 use Rattle.engine_state.specs.Answer.{changedBy}
-use Rattle.engine_state.specs.Fresh.{freshVerdict, freshState, freshOf}
+use Rattle.engine_fresh.specs.Fresh.{freshVerdict, freshState, freshOf}
 use Rattle.laws.specs.LinksKept as links
 use Rattle.laws.specs.UnconfirmKept as unconfirms
 use Rattle.laws.specs.FlushKept.{flush-sound, flush-shaped}

@@ -33,12 +33,12 @@ use Rattle.engine_state.specs.Ring.{window, window-length}
 use Rattle.engine_state.specs.Rows.{rowOf, withRow, withTx, withTime, slotOk, timeOk}
 use Rattle.engine_state.specs.Stores.{cellStart, placed, storeBy}
 use Rattle.engine_state.specs.Table.{inTable, packetOf, withStatus, withPackets, withPacket}
-use Rattle.engine_links.specs.Unconfirm.{unconfirmedAs, unconfirmedPacket, unconfirmedState, unconfirmOf, removeOf}
+use Rattle.engine_unconfirm.specs.Unconfirm.{unconfirmedAs, unconfirmedPacket, unconfirmedState, unconfirmOf, removeOf}
 use Rattle.engine_send.specs.declared.send.SendAnswer.the-variants as sends
-use Rattle.engine_send.specs.declared.resend.ResendAnswer.the-variants as resends
+use Rattle.engine_resend.specs.declared.resend.ResendAnswer.the-variants as resends
 use Rattle.engine_send.specs.Send.{sendVerdict, sentTx, toldRx, sentState, sentBy, sendOf, sendStore, passed}
-use Rattle.engine_send.specs.Resend.{resendVerdict, resentState, resentBy, resendOf}
-use Rattle.engine_send.specs.Flush.{flushedAs, flushedPacket, flushOf}
+use Rattle.engine_resend.specs.Resend.{resendVerdict, resentState, resentBy, resendOf}
+use Rattle.engine_flush.specs.Flush.{flushedAs, flushedPacket, flushOf}
 use Rattle.engine_ack.specs.Settle.{settledRowAs, receivedTx, settledTxAs}
 use Rattle.engine_ack.specs.Sweep.{sweepFrom, sweepOf, sweptTx}
 use Rattle.engine_ack.specs.Ack.{ackVerdict, ackedRow, ackedTx, ackedState, ackOf}

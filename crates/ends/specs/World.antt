@@ -14,28 +14,28 @@ use Rattle.engine_state.specs.declared.state.State.{State}
 use Rattle.engine_state.specs.declared.answer.Outcome.{Outcome}
 use Rattle.engine_state.specs.declared.answer.Outcome.the-variants as outcomes
 use Rattle.engine_state.specs.Stores.{cellStart}
-use Rattle.engine_state.specs.Fresh.{freshOf}
-use Rattle.engine_links.specs.declared.add.AddAnswer.{AddAnswer}
-use Rattle.engine_links.specs.declared.add.AddAnswer.the-variants as adds
-use Rattle.engine_links.specs.Add.{addOf}
+use Rattle.engine_fresh.specs.Fresh.{freshOf}
+use Rattle.engine_add.specs.declared.add.AddAnswer.{AddAnswer}
+use Rattle.engine_add.specs.declared.add.AddAnswer.the-variants as adds
+use Rattle.engine_add.specs.Add.{addOf}
 use Rattle.engine_links.specs.Changes.{confirmOf, blockOf, markOf, pingOf, pongOf}
-use Rattle.engine_links.specs.Unconfirm.{unconfirmOf, removeOf}
+use Rattle.engine_unconfirm.specs.Unconfirm.{unconfirmOf, removeOf}
 use Rattle.engine_send.specs.declared.send.SendAnswer.{SendAnswer}
 use Rattle.engine_send.specs.declared.send.SendAnswer.the-variants as sends
-use Rattle.engine_send.specs.declared.resend.ResendAnswer.{ResendAnswer}
-use Rattle.engine_send.specs.declared.resend.ResendAnswer.the-variants as resends
+use Rattle.engine_resend.specs.declared.resend.ResendAnswer.{ResendAnswer}
+use Rattle.engine_resend.specs.declared.resend.ResendAnswer.the-variants as resends
 use Rattle.engine_send.specs.Send.{sendOf, sendStore}
-use Rattle.engine_send.specs.Flush.{flushOf}
-use Rattle.engine_send.specs.Resend.{resendOf}
+use Rattle.engine_flush.specs.Flush.{flushOf}
+use Rattle.engine_resend.specs.Resend.{resendOf}
 use Rattle.engine_ack.specs.Ack.{ackOf}
 use Rattle.engine_receive.specs.Receive.{receiveOf, receiveStore}
 use Rattle.engine_handout.specs.declared.ready.HandOut.{HandOut}
 use Rattle.engine_handout.specs.declared.ready.HandOut.the-variants as handouts
-use Rattle.engine_handout.specs.declared.acks.TakeAck.{TakeAck as AckAnswer}
-use Rattle.engine_handout.specs.declared.acks.TakeAck.the-variants as acks
+use Rattle.engine_acks.specs.declared.acks.TakeAck.{TakeAck as AckAnswer}
+use Rattle.engine_acks.specs.declared.acks.TakeAck.the-variants as acks
 use Rattle.engine_handout.specs.Show.{shownOf}
 use Rattle.engine_handout.specs.Take.{takeOf}
-use Rattle.engine_handout.specs.Acks.{takeAckOf}
+use Rattle.engine_acks.specs.Acks.{takeAckOf}
 
 -- ---- what there is
 

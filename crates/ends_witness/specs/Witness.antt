@@ -25,7 +25,7 @@ use Rattle.link.specs.Sizes.{rowWithin}
 use Rattle.engine_state.specs.CellTally.{cellOk, cellWeighed, cellTallyFrom, cellTallyOf}
 use Rattle.engine_state.specs.Cells.{nextCell, cellsFrom}
 use Rattle.engine_state.specs.Decide.{firstOk, rowOk, rowsFrom, distinctBelow, sendingb, receivingb, linksb, soundb}
-use Rattle.engine_state.specs.Fresh.{freshTx, freshRx, freshState, freshVerdict, freshOf}
+use Rattle.engine_fresh.specs.Fresh.{freshTx, freshRx, freshState, freshVerdict, freshOf}
 use Rattle.engine_state.specs.Gates.{slotVerdict, timedVerdict}
 use Rattle.engine_state.specs.Queue.{putIn, gatherFrom, gatherOf, requeued}
 use Rattle.engine_state.specs.Ring.{window}
@@ -33,16 +33,16 @@ use Rattle.engine_state.specs.Roster.{rosterOf, livesIn, livesBefore}
 use Rattle.engine_state.specs.Rows.{rowOf, slotOk, timeOk}
 use Rattle.engine_state.specs.Table.{inTable, packetOf, withPacket}
 use Rattle.engine_state.specs.Tally.{lengthOk, statusOk, packetOk, weighed, tallyFrom, tallyOf}
-use Rattle.engine_links.specs.Add.{lowestEmpty, addVerdict, addOf}
-use Rattle.engine_links.specs.Unconfirm.{unconfirmedAs, unconfirmedState, unconfirmOf}
-use Rattle.engine_send.specs.Resend.{resendVerdict, resentState, resendOf}
+use Rattle.engine_add.specs.Add.{lowestEmpty, addVerdict, addOf}
+use Rattle.engine_unconfirm.specs.Unconfirm.{unconfirmedAs, unconfirmedState, unconfirmOf}
+use Rattle.engine_resend.specs.Resend.{resendVerdict, resentState, resendOf}
 use Rattle.engine_send.specs.Send.{totalsOk, sendVerdict, sentTx, toldRx, sentState, sendOf, sendStore}
 use Rattle.engine_ack.specs.Ack.{placeOk, ackVerdict, ackedRow, ackedTx, ackedState, ackOf}
 use Rattle.engine_ack.specs.Settle.{settledRowAs, receivedTx, settledTxAs}
 use Rattle.engine_ack.specs.Sweep.{sweepFrom, sweepOf, sweptTx}
-use Rattle.engine_receive.specs.Cells.{cellOf, nearOldest, isRepeat, canAdvance, passedOver, advanced}
+use Rattle.engine_cells.specs.Cells.{cellOf, nearOldest, isRepeat, canAdvance, passedOver, advanced}
 use Rattle.engine_receive.specs.Receive.{receiveVerdict, effectTx, storedRx, repeatedState, receivedState, receiveOf, receiveStore}
-use Rattle.engine_handout.specs.Acks.{ackAnswer, takenAckState, takeAckOf}
+use Rattle.engine_acks.specs.Acks.{ackAnswer, takenAckState, takeAckOf}
 use Rattle.engine_handout.specs.Ready.{readyOf, handOutBy}
 use Rattle.engine_handout.specs.Show.{showVerdict, showingOf, shownOf, partAs}
 use Rattle.engine_handout.specs.Take.{takeVerdict, canSkip, passedBy, skipped, takenRx, takenState, takeOf}

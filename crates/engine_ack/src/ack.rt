@@ -2,11 +2,11 @@
 use crate::settle::settle_row;
 use crate::settle::settle_tx;
 use crate::sweep::sweep;
+use engine_sound::gates::timed_verdict;
 use engine_state::Changed;
 use engine_state::Sending;
 use engine_state::State;
 use engine_state::answer::Outcome;
-use engine_state::gates::timed_verdict;
 use engine_state::rows::row_of;
 use engine_state::rows::with_row;
 use engine_state::shape::shape;

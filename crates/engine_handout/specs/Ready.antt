@@ -20,7 +20,7 @@ use Rattle.engine_state.specs.Cells.{noCell, cells-step}
 use Rattle.engine_state.specs.Sound.{Sound, LengthWithin, cellAt}
 use Rattle.engine_state.specs.DecidedTables.{length-le}
 use Rattle.refusal.specs.Verdicts.{by-test}
-use Rattle.engine_receive.specs.Cells.{cellOf}
+use Rattle.engine_cells.specs.Cells.{cellOf}
 use Rattle.engine_handout.specs.declared.ready.HandOut.{HandOut}
 use Rattle.engine_handout.specs.declared.ready.HandOut.the-variants.{Message, No}
 

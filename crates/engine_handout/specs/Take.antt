@@ -20,7 +20,7 @@ use Rattle.engine_state.specs.declared.state.State.{State}
 use Rattle.engine_state.specs.Cells.{noCell, isFull}
 use Rattle.engine_state.specs.Decide.{soundb}
 use Rattle.engine_state.specs.Rows.{withRx}
-use Rattle.engine_receive.specs.Cells.{cellOf, withCells}
+use Rattle.engine_cells.specs.Cells.{cellOf, withCells}
 use Rattle.engine_handout.specs.declared.ready.HandOut.{HandOut}
 use Rattle.engine_handout.specs.declared.ready.HandOut.the-variants.{Message, No}
 use Rattle.engine_handout.specs.declared.take.TakeResult.{TakeResult}

@@ -1,5 +1,5 @@
 // The oldest ready message, as showing and taking answer it.
-use engine_receive::cells::cell_of;
+use engine_cells::cells::cell_of;
 use engine_state::Held;
 use engine_state::Receiving;
 use msg::ReliableMsg;

@@ -2,9 +2,9 @@
 use crate::ready::HandOut;
 use crate::ready::data_length;
 use crate::ready::hand_out;
+use engine_sound::sound::is_sound;
 use engine_state::State;
 use engine_state::shape::shape;
-use engine_state::sound::is_sound;
 use refusal::Refusal;
 use refusal::Verdict;
 use refusal::gate;

@@ -1,3 +1,1 @@
 pub mod Changes
-pub mod Add
-pub mod Unconfirm

@@ -1,9 +1,9 @@
 // Plain changes of a row.
+use engine_sound::gates::slot_verdict;
+use engine_sound::gates::timed_verdict;
 use engine_state::Changed;
 use engine_state::State;
 use engine_state::answer::change;
-use engine_state::gates::slot_verdict;
-use engine_state::gates::timed_verdict;
 use engine_state::rows::row_of;
 use engine_state::rows::with_row;
 use engine_state::rows::with_time;

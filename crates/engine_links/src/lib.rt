@@ -1,4 +1,2 @@
-// The engine's calls on links: adding, removing, confirming, unconfirming and blocking them, pings and the limit mark.
-pub mod add;
+// The engine's plain changes of a row: confirming, blocking, pings and the limit mark.
 pub mod changes;
-pub mod unconfirm;

@@ -27,7 +27,7 @@ use Rattle.engine_state.specs.DecidedTables.{length-le}
 use Rattle.engine_state.specs.Rows.{rowOf, slotOk, withRow}
 use Rattle.engine_state.specs.Answer.{changedBy}
 use Rattle.engine_state.specs.Stores.{cellStart, placed, storeBy}
-use Rattle.engine_receive.specs.Cells.{nearOldest, isRepeat, advanced}
+use Rattle.engine_cells.specs.Cells.{nearOldest, isRepeat, advanced}
 
 -- not "a received Consumed with a new number exceeds the unconsumed total" (15)
 abbrev pub consumedOk : ReliableMsg → ℕ → Bool

@@ -1,3 +1,2 @@
-// The engine's receiving: the receive table, and receiving a message.
-pub mod cells;
+// The engine's receiving of a message.
 pub mod receive;

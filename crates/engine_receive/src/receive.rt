@@ -1,8 +1,9 @@
 // Receiving a message.
-use crate::cells::advance;
-use crate::cells::is_repeat;
-use crate::cells::near_oldest;
-use crate::cells::with_cell;
+use engine_cells::cells::advance;
+use engine_cells::cells::is_repeat;
+use engine_cells::cells::near_oldest;
+use engine_cells::cells::with_cell;
+use engine_sound::sound::is_sound;
 use engine_state::Changed;
 use engine_state::Held;
 use engine_state::Receiving;
@@ -13,7 +14,6 @@ use engine_state::packets::length_ok;
 use engine_state::rows::row_of;
 use engine_state::rows::slot_ok;
 use engine_state::rows::with_row;
-use engine_state::sound::is_sound;
 use msg::ReliableMsg;
 use refusal::Refusal;
 use refusal::Verdict;

@@ -1,3 +1,1 @@
-pub mod Flush
-pub mod Resend
 pub mod Send

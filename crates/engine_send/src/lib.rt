@@ -1,4 +1,2 @@
-// The engine's sending calls: sending, flushing and resending.
-pub mod flush;
-pub mod resend;
+// The engine's call that sends a message.
 pub mod send;

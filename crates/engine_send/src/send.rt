@@ -1,4 +1,5 @@
 // Sending a message.
+use engine_sound::sound::is_sound;
 use engine_state::Flushed;
 use engine_state::Receiving;
 use engine_state::Sending;
@@ -10,7 +11,6 @@ use engine_state::rows::row_of;
 use engine_state::rows::slot_ok;
 use engine_state::rows::time_ok;
 use engine_state::rows::with_row;
-use engine_state::sound::is_sound;
 use msg::ReliableMsg;
 use refusal::Refusal;
 use refusal::Verdict;

@@ -8,7 +8,6 @@ pub mod Decide
 pub mod Sound
 pub mod Rows
 pub mod Answer
-pub mod Fresh
 pub mod Queue
 pub mod DecidedTables
 pub mod DecidedPackets

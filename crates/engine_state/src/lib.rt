@@ -1,14 +1,11 @@
-// The engine's state (000, agg/task.rs): its fields, when it is sound, and how it starts.
+// The engine's state (000, agg/task.rs): its fields, when it is sound, and its tables.
 pub mod answer;
-pub mod fresh;
-pub mod gates;
 pub mod packets;
 pub mod queue;
 pub mod received;
 pub mod roster;
 pub mod rows;
 pub mod shape;
-pub mod sound;
 pub mod state;
 pub mod table;
 pub mod totals;

@@ -23,7 +23,7 @@ use Rattle.engine_state.specs.Packets.{isData}
 use Rattle.engine_state.specs.Cells.{noCell, isFull, heldBytes, bytesIn}
 use Rattle.engine_state.specs.Tally.{lengthOk}
 use Rattle.engine_state.specs.Sound.{ReadyKind, LengthWithin}
-use Rattle.engine_receive.specs.Cells.{cellOf, nearOldest, canAdvance, keptOf, oldestAfter, passedOver, advanced}
+use Rattle.engine_cells.specs.Cells.{cellOf, nearOldest, canAdvance, keptOf, oldestAfter, passedOver, advanced}
 use Rattle.laws.specs.CellsSeen.{seen, seen-same, seen-other, seen-round, seen-next, number-cell, bytes-set}
 
 -- the clauses of Sound and of Shaped that every step keeps; the table's own sum is the view's, wherever that starts

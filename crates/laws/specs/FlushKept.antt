@@ -16,7 +16,7 @@ use Rattle.engine_state.specs.Packets.{packets, isReceived, isQueued, Pick, Sen
 use Rattle.engine_state.specs.Table.{withStatus}
 use Rattle.engine_state.specs.Gates.{timedVerdict}
 use Rattle.engine_state.specs.Sound.{Sound, Shaped, SentHere, FlushedBy, SentBy}
-use Rattle.engine_send.specs.Flush.{flushTime, flushedAs, flushedPacket, flushOf}
+use Rattle.engine_flush.specs.Flush.{flushTime, flushedAs, flushedPacket, flushOf}
 use Rattle.laws.specs.RowsKept.{rows-of, row-later}
 use Rattle.laws.specs.Passed.{changed-keeps, timed-passed}
 use Rattle.laws.specs.Parts.{sending-of, receiving-of, whole}

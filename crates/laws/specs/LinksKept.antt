@@ -39,10 +39,10 @@ use Rattle.engine_state.specs.DecidedTables.{RowFine, roster-at, here-lives}
 use Rattle.engine_state.specs.Rows.{rowOf, withRow, withTime}
 use Rattle.engine_state.specs.Answer.{changedBy}
 use Rattle.engine_state.specs.Gates.{slotVerdict, timedVerdict}
-use Rattle.engine_state.specs.Fresh.{freshTx, freshRx, freshState, freshVerdict, freshOf}
+use Rattle.engine_fresh.specs.Fresh.{freshTx, freshRx, freshState, freshVerdict, freshOf}
 use Rattle.engine_state.specs.Sound.{Sound, Shaped, rowAt, packetAt, cellAt}
 use Rattle.engine_links.specs.Changes.{confirmOf, blockOf, markOf, pingOf, pongOf}
-use Rattle.engine_links.specs.Add.{lowestEmpty, lowestIn, addVerdict, addedBy, addOf}
+use Rattle.engine_add.specs.Add.{lowestEmpty, lowestIn, addVerdict, addedBy, addOf}
 use Rattle.laws.specs.RowsKept.{dead-elsewhere, sum-elsewhere, rows-of, rows-set, apart-set, here-added, links-sound, row-shaped, row-kept}
 use Rattle.laws.specs.Passed.{changed-keeps, slot-passed, timed-passed}
 

@@ -18,9 +18,9 @@ use Rattle.engine_state.specs.Sound.{Shaped, packetAt}
 use Rattle.engine_state.specs.Table.{inTable, packetOf}
 use Rattle.engine_state.specs.InTable.{place, placed}
 use Rattle.engine_ack.specs.Ack.{ackedTx}
-use Rattle.engine_handout.specs.declared.due.Due.the-variants.{Is}
-use Rattle.engine_handout.specs.Due.{dueOf}
-use Rattle.engine_slow.specs.Slow.{allSlow, overSlots, slowSlots}
+use Rattle.engine_acks.specs.declared.due.Due.the-variants.{Is}
+use Rattle.engine_acks.specs.Due.{dueOf}
+use Rattle.engine_slow_rows.specs.Slow.{allSlow, overSlots, slowSlots}
 
 -- L1's links: 50 over 40 in one slot, in another any round trip without `max_ping`, and no more
 abbrev pub rowsOfL1 : ℕ → ℕ → ℕ → List LinkRow

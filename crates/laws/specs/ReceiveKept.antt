@@ -18,7 +18,7 @@ use Rattle.engine_state.specs.Decide.{soundb}
 use Rattle.engine_state.specs.Tally.{lengthOk}
 use Rattle.engine_state.specs.Rows.{rowOf, slotOk, withRow, withTx}
 use Rattle.engine_state.specs.Sound.{Sound, Shaped, packetAt}
-use Rattle.engine_receive.specs.Cells.{cellOf, nearOldest, isRepeat}
+use Rattle.engine_cells.specs.Cells.{cellOf, nearOldest, isRepeat}
 use Rattle.engine_receive.specs.Receive.{roomOk, receiveVerdict, effectTx, storedRx, repeatedState, receivedState, receiveOf}
 use Rattle.laws.specs.Passed.{changed-keeps, slot-ok}
 use Rattle.laws.specs.RowsKept.{rows-of, here-kept}

@@ -18,22 +18,22 @@ use Rattle.link.specs.Roundtrip.{pinged, ponged}
 use Rattle.engine_state.specs.Rows.{rowOf, withRow, withTx, withTime}
 use Rattle.engine_state.specs.Table.{withPackets}
 use Rattle.engine_state.specs.Stores.{cellStart, placed, storeBy}
-use Rattle.engine_links.specs.Add.{addOf, addNumber, addedBy, addVerdict, lowestIn}
+use Rattle.engine_add.specs.Add.{addOf, addNumber, addedBy, addVerdict, lowestIn}
 use Rattle.engine_links.specs.Changes.{confirmOf, blockOf, markOf, pingOf, pongOf}
-use Rattle.engine_links.specs.Unconfirm.{unconfirmedState, unconfirmOf, removeOf}
+use Rattle.engine_unconfirm.specs.Unconfirm.{unconfirmedState, unconfirmOf, removeOf}
 use Rattle.engine_send.specs.Send.{sendOf, sendStore, sendNumber, sentBy, sendVerdict, sentState}
-use Rattle.engine_send.specs.Flush.{flushOf, flushedPacket}
-use Rattle.engine_send.specs.Resend.{resendOf, resendNumber, resentBy, resendVerdict, resentState}
+use Rattle.engine_flush.specs.Flush.{flushOf, flushedPacket}
+use Rattle.engine_resend.specs.Resend.{resendOf, resendNumber, resentBy, resendVerdict, resentState}
 use Rattle.engine_ack.specs.Ack.{ackOf, ackVerdict, ackedState}
 use Rattle.engine_receive.specs.Receive.{receiveOf, receiveStore, receiveVerdict, repeatedState, receivedState}
-use Rattle.engine_receive.specs.Cells.{isRepeat}
+use Rattle.engine_cells.specs.Cells.{isRepeat}
 use Rattle.engine_handout.specs.declared.ready.HandOut.{HandOut}
 use Rattle.engine_handout.specs.declared.ready.HandOut.the-variants as handouts
-use Rattle.engine_handout.specs.declared.acks.TakeAck.the-variants as acks
-use Rattle.engine_handout.specs.declared.acks.TakeAck.{TakeAck as AckAnswer}
+use Rattle.engine_acks.specs.declared.acks.TakeAck.the-variants as acks
+use Rattle.engine_acks.specs.declared.acks.TakeAck.{TakeAck as AckAnswer}
 use Rattle.engine_handout.specs.Ready.{handOutNumber}
 use Rattle.engine_handout.specs.Take.{takeOf, takenBy}
-use Rattle.engine_handout.specs.Acks.{takeAckOf, takeAckNumber, takenAckBy}
+use Rattle.engine_acks.specs.Acks.{takeAckOf, takeAckNumber, takenAckBy}
 use Rattle.laws.specs.Calls.{Call, Add, Remove, Confirm, Unconfirm, Block, Mark, Ping, Pong, Flush, Send, Resend, Ack, Receive, Show, Take, Due, TakeAck, Holding, withState, number, next}
 
 -- ---- by the shape of an answer

@@ -25,7 +25,7 @@ use Rattle.engine_state.specs.Table.{inTable, packetOf, withStatus, withPacket}
 use Rattle.engine_state.specs.Rows.{rowOf, row-of}
 use Rattle.engine_state.specs.Sound.{Sound, Shaped, rowAt}
 use Rattle.engine_state.specs.DecidedTables.{RowFine}
-use Rattle.engine_send.specs.Resend.{resendVerdict, resentState, resentBy, resendOf}
+use Rattle.engine_resend.specs.Resend.{resendVerdict, resentState, resentBy, resendOf}
 use Rattle.laws.specs.Passed.{timed-passed}
 use Rattle.laws.specs.RowsKept.{RowsFine, rows-of, row-later, rows-set, apart-kept, row-here, here-same}
 use Rattle.laws.specs.PacketsKept.{requeued-queue, requeued-count, requeued-long}

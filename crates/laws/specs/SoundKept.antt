@@ -7,7 +7,7 @@ use lib.ListN.{length}
 use Rattle.refusal.specs.declared.verdict.Verdict.the-variants.{Pass}
 use Rattle.engine_state.specs.declared.state.State.{State}
 use Rattle.engine_state.specs.Sound.{Sound, Shaped}
-use Rattle.engine_state.specs.Fresh.{freshVerdict, freshOf}
+use Rattle.engine_fresh.specs.Fresh.{freshVerdict, freshOf}
 use Rattle.laws.specs.Calls.{Call, Add, Remove, Confirm, Unconfirm, Block, Mark, Ping, Pong, Flush, Send, Resend, Ack, Receive, Show, Take, Due, TakeAck, Holding, next, Typed}
 use Rattle.laws.specs.LinksKept.{confirm-sound, confirm-shaped, block-sound, block-shaped, mark-sound, mark-shaped, ping-sound, ping-shaped, pong-sound, pong-shaped, add-sound, add-shaped, fresh-sound, fresh-shaped}
 use Rattle.laws.specs.UnconfirmKept.{unconfirm-sound, unconfirm-shaped, remove-sound, remove-shaped}

@@ -26,12 +26,12 @@ use Rattle.engine_state.specs.Gates.{slotVerdict}
 use Rattle.engine_state.specs.Rows.{rowOf}
 use Rattle.engine_state.specs.Tally.{lengthOk}
 use Rattle.engine_state.specs.Sound.{Sound, Shaped, ReadyKind, LengthWithin}
-use Rattle.engine_receive.specs.Cells.{cellOf}
+use Rattle.engine_cells.specs.Cells.{cellOf}
 use Rattle.engine_handout.specs.declared.ready.HandOut.{HandOut}
 use Rattle.engine_handout.specs.declared.ready.HandOut.the-variants.{Message, No}
 use Rattle.engine_handout.specs.Ready.{readyOf, handOutBy, dataLength, handed, ready-cell}
 use Rattle.engine_handout.specs.Take.{takeVerdict, canSkip, passedBy, skipped, takenRx, takenState, takenBy, takeOf}
-use Rattle.engine_handout.specs.Acks.{ackAs, ackAnswer, takenAckState, takenAckBy, takeAckOf}
+use Rattle.engine_acks.specs.Acks.{ackAs, ackAnswer, takenAckState, takenAckBy, takeAckOf}
 use Rattle.laws.specs.Passed.{slot-passed}
 use Rattle.laws.specs.AcksKept.{taken-sound, taken-shaped}
 use Rattle.laws.specs.CellsSeen.{seen}

@@ -26,7 +26,7 @@ use Rattle.engine_state.specs.Decide.{soundb}
 use Rattle.engine_state.specs.Decided.{sound}
 use Rattle.engine_state.specs.DecidedTables.{RowFine}
 use Rattle.engine_state.specs.Sound.{Sound, Shaped, rowAt, SentHere, SentBy}
-use Rattle.engine_links.specs.Unconfirm.{unconfirmedAs, unconfirmedPacket, unconfirmedState, unconfirmOf, removeOf}
+use Rattle.engine_unconfirm.specs.Unconfirm.{unconfirmedAs, unconfirmedPacket, unconfirmedState, unconfirmOf, removeOf}
 use Rattle.laws.specs.RowsKept.{Apart, Elsewhere, rows-of, own-row, rows-set, apart-kept, apart-emptied, here-elsewhere}
 use Rattle.laws.specs.Passed.{changed-keeps, slot-passed}
 use Rattle.laws.specs.Parts.{sending-of, receiving-of, whole}

@@ -28,12 +28,21 @@ use Rattle.seq.proofs as seq
 use Rattle.msg.proofs as msg
 use Rattle.link.proofs as link
 use Rattle.engine_state.proofs as engine_state
+use Rattle.engine_fresh.proofs as engine_fresh
+use Rattle.engine_sound.proofs as engine_sound
 use Rattle.engine_links.proofs as engine_links
+use Rattle.engine_unconfirm.proofs as engine_unconfirm
+use Rattle.engine_add.proofs as engine_add
 use Rattle.engine_send.proofs as engine_send
+use Rattle.engine_flush.proofs as engine_flush
+use Rattle.engine_resend.proofs as engine_resend
 use Rattle.engine_ack.proofs as engine_ack
 use Rattle.engine_receive.proofs as engine_receive
+use Rattle.engine_cells.proofs as engine_cells
 use Rattle.engine_handout.proofs as engine_handout
+use Rattle.engine_acks.proofs as engine_acks
 use Rattle.engine_slow.proofs as engine_slow
+use Rattle.engine_slow_rows.proofs as engine_slow_rows
 
 -- ---- calls that are given values alone
 
@@ -120,15 +129,15 @@ link-slow = (sole, sole, sole)
 pub engine-state-answer : Unique engine_state.answer.change.Reads.Learnt
 engine-state-answer = sole
 
--- crates/engine_state/src/fresh.rt
-pub engine-state-fresh : Unique engine_state.fresh.fresh.Reads.Learnt
-engine-state-fresh = sole
+-- crates/engine_fresh/src/fresh.rt
+pub engine-fresh-fresh : Unique engine_fresh.fresh.fresh.Reads.Learnt
+engine-fresh-fresh = sole
 
--- crates/engine_state/src/gates.rt
-pub engine-state-gates :
-    Unique engine_state.gates.slot_verdict.Reads.Learnt
-    × Unique engine_state.gates.timed_verdict.Reads.Learnt
-engine-state-gates = (sole, sole)
+-- crates/engine_sound/src/gates.rt
+pub engine-sound-gates :
+    Unique engine_sound.gates.slot_verdict.Reads.Learnt
+    × Unique engine_sound.gates.timed_verdict.Reads.Learnt
+engine-sound-gates = (sole, sole)
 
 -- crates/engine_state/src/packets.rt
 pub engine-state-packets :
@@ -166,9 +175,9 @@ pub engine-state-rows :
     × Unique engine_state.rows.with_time.Reads.Learnt
 engine-state-rows = (sole, sole, sole, sole, sole)
 
--- crates/engine_state/src/sound.rt
-pub engine-state-sound : Unique engine_state.sound.is_sound.Reads.Learnt
-engine-state-sound = sole
+-- crates/engine_sound/src/sound.rt
+pub engine-sound-sound : Unique engine_sound.sound.is_sound.Reads.Learnt
+engine-sound-sound = sole
 
 -- crates/engine_state/src/table.rt
 pub engine-state-table :
@@ -181,9 +190,9 @@ engine-state-table = (sole, sole, sole)
 pub engine-state-totals : Unique engine_state.totals.less.Reads.Learnt
 engine-state-totals = sole
 
--- crates/engine_links/src/add.rt
-pub engine-links-add : Unique engine_links.add.add.Reads.Learnt
-engine-links-add = sole
+-- crates/engine_add/src/add.rt
+pub engine-add-add : Unique engine_add.add.add.Reads.Learnt
+engine-add-add = sole
 
 -- crates/engine_links/src/changes.rt
 pub engine-links-changes :
@@ -194,51 +203,51 @@ pub engine-links-changes :
     × Unique engine_links.changes.pong.Reads.Learnt
 engine-links-changes = (sole, sole, sole, sole, sole)
 
--- crates/engine_links/src/unconfirm.rt
-pub engine-links-unconfirm :
-    Unique engine_links.unconfirm.unconfirm.Reads.Learnt
-    × Unique engine_links.unconfirm.remove.Reads.Learnt
-engine-links-unconfirm = (sole, sole)
+-- crates/engine_unconfirm/src/unconfirm.rt
+pub engine-unconfirm-unconfirm :
+    Unique engine_unconfirm.unconfirm.unconfirm.Reads.Learnt
+    × Unique engine_unconfirm.unconfirm.remove.Reads.Learnt
+engine-unconfirm-unconfirm = (sole, sole)
 
--- crates/engine_send/src/flush.rt
-pub engine-send-flush : Unique engine_send.flush.flush.Reads.Learnt
-engine-send-flush = sole
+-- crates/engine_flush/src/flush.rt
+pub engine-flush-flush : Unique engine_flush.flush.flush.Reads.Learnt
+engine-flush-flush = sole
 
--- crates/engine_send/src/resend.rt
-pub engine-send-resend : Unique engine_send.resend.resend.Reads.Learnt
-engine-send-resend = sole
+-- crates/engine_resend/src/resend.rt
+pub engine-resend-resend : Unique engine_resend.resend.resend.Reads.Learnt
+engine-resend-resend = sole
 
 -- crates/engine_ack/src/ack.rt
 pub engine-ack-ack : Unique engine_ack.ack.ack.Reads.Learnt
 engine-ack-ack = sole
 
--- crates/engine_receive/src/cells.rt
-pub engine-receive-cells :
-    Unique engine_receive.cells.is_full.Reads.Learnt
-    × Unique engine_receive.cells.cell_of.Reads.Learnt
-    × Unique engine_receive.cells.with_cell.Reads.Learnt
-    × Unique engine_receive.cells.near_oldest.Reads.Learnt
-    × Unique engine_receive.cells.is_repeat.Reads.Learnt
-    × Unique engine_receive.cells.advance.Reads.Learnt
-engine-receive-cells = (sole, sole, sole, sole, sole, sole)
+-- crates/engine_cells/src/cells.rt
+pub engine-cells-cells :
+    Unique engine_cells.cells.is_full.Reads.Learnt
+    × Unique engine_cells.cells.cell_of.Reads.Learnt
+    × Unique engine_cells.cells.with_cell.Reads.Learnt
+    × Unique engine_cells.cells.near_oldest.Reads.Learnt
+    × Unique engine_cells.cells.is_repeat.Reads.Learnt
+    × Unique engine_cells.cells.advance.Reads.Learnt
+engine-cells-cells = (sole, sole, sole, sole, sole, sole)
 
--- crates/engine_handout/src/acks.rt
-pub engine-handout-acks : Unique engine_handout.acks.take_ack.Reads.Learnt
-engine-handout-acks = sole
+-- crates/engine_acks/src/acks.rt
+pub engine-acks-acks : Unique engine_acks.acks.take_ack.Reads.Learnt
+engine-acks-acks = sole
 
--- crates/engine_handout/src/due.rt
-pub engine-handout-due : Unique engine_handout.due.is_consume_ack_required.Reads.Learnt
-engine-handout-due = sole
+-- crates/engine_acks/src/due.rt
+pub engine-acks-due : Unique engine_acks.due.is_consume_ack_required.Reads.Learnt
+engine-acks-due = sole
 
 -- crates/engine_handout/src/take.rt
 pub engine-handout-take : Unique engine_handout.take.take.Reads.Learnt
 engine-handout-take = sole
 
--- crates/engine_slow/src/slow.rt
-pub engine-slow-slow :
-    Unique engine_slow.slow.slow_rows.Reads.Learnt
-    × Unique engine_slow.slow.slow_links.Reads.Learnt
-engine-slow-slow = (sole, sole)
+-- crates/engine_slow_rows/src/slow.rt
+pub engine-slow-rows-slow :
+    Unique engine_slow_rows.slow.slow_rows.Reads.Learnt
+    × Unique engine_slow_rows.slow.slow_links.Reads.Learnt
+engine-slow-rows-slow = (sole, sole)
 
 -- ---- calls that are lent bytes: the same bytes, wherever they lie, give the same answer and are left the same
 

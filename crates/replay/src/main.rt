@@ -3,11 +3,11 @@
 use libc::STDERR_FILENO;
 use libc::STDIN_FILENO;
 use libc::STDOUT_FILENO;
+use replay_digits::digits::MAX_LINE;
 use replaying::Answer;
 use replaying::Replay;
 use replaying::begin;
 use replaying::close;
-use replaying::digits::MAX_LINE;
 use replaying::feed;
 use replaying::write_line;
 

@@ -12,14 +12,14 @@ use lib.Seq.{drop-cons, drop-drop}
 use borrow.Author.Tests.{eq-eqb, ne-eqb, eqb-true, le-leb, lt-leb}
 use Rattle.refusal.specs.Verdicts.{by-test}
 use Rattle.engine_state.specs.declared.state.State.{State}
-use Rattle.replaying.specs.declared.session.Waiting.{Waiting}
-use Rattle.replaying.specs.declared.session.Waiting.the-variants.{Frame, Payload}
-use Rattle.replaying.specs.declared.session.Answer.{Answer}
-use Rattle.replaying.specs.declared.session.Answer.the-variants.{Nothing, Line}
-use Rattle.replaying.specs.declared.session.Replay.{Replay}
-use Rattle.replaying.specs.declared.session.Answered.{Answered}
+use Rattle.replay_session.specs.declared.session.Waiting.{Waiting}
+use Rattle.replay_session.specs.declared.session.Waiting.the-variants.{Frame, Payload}
+use Rattle.replay_session.specs.declared.session.Answer.{Answer}
+use Rattle.replay_session.specs.declared.session.Answer.the-variants.{Nothing, Line}
+use Rattle.replay_session.specs.declared.session.Replay.{Replay}
+use Rattle.replay_session.specs.declared.session.Answered.{Answered}
 use Rattle.replaying.specs.declared.feeding.Fed.{Fed}
-use Rattle.replaying.specs.Taking.{ended}
+use Rattle.replay_session.specs.Taking.{ended}
 use Rattle.replaying.specs.Line.{answerOf, storeOf}
 
 -- the lines that an answer writes: none or one

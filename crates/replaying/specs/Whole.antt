@@ -22,15 +22,15 @@ use Rattle.msg.specs.Reliable.{fromLink}
 use Rattle.engine_state.specs.declared.state.State.{State}
 use Rattle.engine_state.specs.Answer.{outcomeNumber}
 use Rattle.engine_receive.specs.Receive.{receiveOf}
-use Rattle.replaying.specs.declared.session.Waiting.{Waiting}
-use Rattle.replaying.specs.declared.session.Waiting.the-variants.{Frame, Payload}
-use Rattle.replaying.specs.declared.session.Answer.{Answer}
-use Rattle.replaying.specs.declared.session.Answer.the-variants.{Nothing}
-use Rattle.replaying.specs.declared.session.Replay.{Replay}
-use Rattle.replaying.specs.declared.session.Answered.{Answered}
-use Rattle.replaying.specs.Session.{beginning}
-use Rattle.replaying.specs.Digits.{spells, spelt, frameOf}
-use Rattle.replaying.specs.Taking.{ended}
+use Rattle.replay_session.specs.declared.session.Waiting.{Waiting}
+use Rattle.replay_session.specs.declared.session.Waiting.the-variants.{Frame, Payload}
+use Rattle.replay_session.specs.declared.session.Answer.{Answer}
+use Rattle.replay_session.specs.declared.session.Answer.the-variants.{Nothing}
+use Rattle.replay_session.specs.declared.session.Replay.{Replay}
+use Rattle.replay_session.specs.declared.session.Answered.{Answered}
+use Rattle.replay_session.specs.Session.{beginning}
+use Rattle.replay_digits.specs.Digits.{spells, spelt, frameOf}
+use Rattle.replay_session.specs.Taking.{ended}
 use Rattle.replaying.specs.Line.{received, awaited, afterReliable, afterCarried, afterReading, afterPayload, answerAs, answerOf, storeOf, long-answer, long-store}
 use Rattle.replaying.specs.Feeding.{Told, Session, saidBy, sessionWith, lineWith, countWith, lineAnswer, lineStore, lineEnded, byteFed, fedBy, absentOf, closeOf, closeStore, fed-append, line-long, line-short, line-long-store, line-short-store, close-none, close-last, close-none-store, close-last-store}
 

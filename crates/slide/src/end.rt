@@ -1,12 +1,10 @@
 // What either end does at each tick, whatever it sends: it takes what arrives, acks it, doubts a silent link, resends and flushes.
 use crate::air;
 use crate::air::Air;
-use crate::air::Left;
 use crate::air::PLACES;
 use crate::air::ROOM;
 use crate::air::Room;
 use crate::air::part;
-use crate::chance::Chance;
 use crate::tally::AGAIN;
 use crate::tally::AHEAD;
 use crate::tally::DOUBTED;
@@ -22,8 +20,8 @@ use engine::flush;
 use engine::receive;
 use engine::resend;
 use engine::unconfirm;
-use engine_handout::acks::TakeAck;
-use engine_send::resend::ResendAnswer;
+use engine_acks::acks::TakeAck;
+use engine_resend::resend::ResendAnswer;
 use engine_state::Outcome;
 use engine_state::rows::row_of;
 use engine_state::state::SentReliableStatus;
@@ -48,29 +46,11 @@ const CELL: usize = 1024;
 const CELLS: u32 = 64;
 
 // Writes a message and gives it to a link.
-pub fn post(
-    chance: &mut Chance,
-    tally: &mut Tally,
-    left: &mut Left,
-    air: &mut Air,
-    slot: u8,
-    to: u8,
-    msg: LinkMsg,
-    payload: &[u8],
-) {
+pub fn post(tally: &mut Tally, air: &mut Air, slot: u8, to: u8, msg: LinkMsg, payload: &[u8]) {
     let mut frame = [0u8; 9];
     let written = msg::write(msg, &mut frame);
     match written {
-        Written::Bytes(n) => air::post(
-            chance,
-            tally,
-            left,
-            air,
-            slot,
-            to,
-            part(&frame, 0, n),
-            payload,
-        ),
+        Written::Bytes(n) => air::put(air, slot, to, part(&frame, 0, n), payload, tally),
         Written::No(_) => count(tally, REFUSED),
     }
 }
@@ -146,8 +126,7 @@ fn arrivals(
     s: State,
     received: &mut Store,
     tally: &mut Tally,
-    left: &mut Left,
-    air: &Air,
+    air: &mut Air,
     end: u8,
     now: u64,
 ) -> State {
@@ -155,7 +134,7 @@ fn arrivals(
     let mut out = s;
     let mut k: usize = 0;
     while k < PLACES {
-        if air::take(left, air, k, end, &mut room) {
+        if air::take(air, k, end, &mut room) {
             out = arrive(out, received, tally, &room, now);
         }
         k += 1;
@@ -164,15 +143,7 @@ fn arrivals(
 }
 
 // Sends the acks that wait on a link, over that link.
-fn send_acks(
-    s: State,
-    chance: &mut Chance,
-    tally: &mut Tally,
-    left: &mut Left,
-    air: &mut Air,
-    slot: u8,
-    to: u8,
-) -> State {
+fn send_acks(s: State, tally: &mut Tally, air: &mut Air, slot: u8, to: u8) -> State {
     let row = row_of(s, slot);
     let mut more = row.ack_count;
     let mut out = s;
@@ -182,16 +153,7 @@ fn send_acks(
         let TakeAck::Number(received) = answer else {
             return out;
         };
-        post(
-            chance,
-            tally,
-            left,
-            air,
-            slot,
-            to,
-            LinkMsg::Ack { received },
-            b"",
-        );
+        post(tally, air, slot, to, LinkMsg::Ack { received }, b"");
         out = taken.state;
         more -= 1;
     }
@@ -238,9 +200,7 @@ fn watch(s: State, tally: &mut Tally, now: u64) -> State {
 fn resend(
     s: State,
     sent: &Store,
-    chance: &mut Chance,
     tally: &mut Tally,
-    left: &mut Left,
     air: &mut Air,
     slot: u8,
     to: u8,
@@ -260,9 +220,7 @@ fn resend(
     count(tally, RESENT);
     let at = (seq.0 % CELLS) as usize * CELL;
     post(
-        chance,
         tally,
-        left,
         air,
         slot,
         to,
@@ -276,32 +234,21 @@ fn resend(
 fn serve(
     s: State,
     sent: &Store,
-    chance: &mut Chance,
     tally: &mut Tally,
-    left: &mut Left,
     air: &mut Air,
     slot: u8,
     to: u8,
     now: u64,
 ) -> State {
-    let acked = send_acks(s, chance, tally, left, air, slot, to);
-    resend(acked, sent, chance, tally, left, air, slot, to, now)
+    let acked = send_acks(s, tally, air, slot, to);
+    resend(acked, sent, tally, air, slot, to, now)
 }
 
-fn serve_all(
-    s: State,
-    sent: &Store,
-    chance: &mut Chance,
-    tally: &mut Tally,
-    left: &mut Left,
-    air: &mut Air,
-    to: u8,
-    now: u64,
-) -> State {
+fn serve_all(s: State, sent: &Store, tally: &mut Tally, air: &mut Air, to: u8, now: u64) -> State {
     let mut out = s;
     let mut slot: u8 = 0;
     while slot < LINKS {
-        out = serve(out, sent, chance, tally, left, air, slot, to, now);
+        out = serve(out, sent, tally, air, slot, to, now);
         slot += 1;
     }
     out
@@ -312,18 +259,16 @@ pub fn turn(
     s: State,
     sent: &Store,
     received: &mut Store,
-    chance: &mut Chance,
     tally: &mut Tally,
-    left: &mut Left,
     air: &mut Air,
     end: u8,
     to: u8,
     slot: u8,
     now: u64,
 ) -> State {
-    let arrived = arrivals(s, received, tally, left, air, end, now);
+    let arrived = arrivals(s, received, tally, air, end, now);
     let watched = watch(arrived, tally, now);
-    let served = serve_all(watched, sent, chance, tally, left, air, to, now);
+    let served = serve_all(watched, sent, tally, air, to, now);
     let flushed = flush::flush(served, slot, now);
     flushed.state
 }

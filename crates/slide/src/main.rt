@@ -3,263 +3,12 @@
 mod air;
 mod chance;
 mod end;
+mod journey;
 mod map;
 mod picture;
 mod scanner;
 mod server;
 mod tally;
-
-use air::Air;
-use air::CABLE_2;
-use air::Left;
-use air::SCANNER;
-use air::SERVER;
-use chance::Chance;
-use end::Store;
-use engine::State;
-use engine::add;
-use engine::fresh;
-use engine::unconfirm;
-use link::MaxPing;
-use map::Row;
-use seq::Seq;
-use tally::DIED;
-use tally::EVENT;
-use tally::FINISHED;
-use tally::RETURNED;
-use tally::Tally;
-
-// 512 numbers before the wrap.
-const START: u32 = 0xFFFF_FE00;
-
-const RECV_BUFFER: u32 = 65536;
-
-// A tick is a millisecond.
-const TICK: u64 = 1_000_000;
-
-// When cable 2 dies and when it comes back.
-const DEATH: u64 = 700;
-
-const RETURN: u64 = 1400;
-
-// Long after the end of every run that goes well.
-const LAST_TICK: u64 = 20_000;
-
-struct Ends {
-    scanner: State,
-    server: State,
-}
-
-fn with_link(s: State, id: u64) -> State {
-    let added = add::add(s, id, 0, MaxPing::Unlimited, false, false);
-    added.state
-}
-
-// An end with its three links.
-fn begin() -> State {
-    let made = fresh::fresh(Seq(START), RECV_BUFFER);
-    let empty = made.state;
-    with_link(with_link(with_link(empty, 1), 2), 3)
-}
-
-fn without_link(s: State, slot: u8) -> State {
-    let removed = unconfirm::remove(s, slot);
-    removed.state
-}
-
-// The fate of cable 2.
-fn fate(ends: Ends, left: &mut Left, air: &Air, tally: &mut Tally, tick: u64) -> Ends {
-    let scanner = ends.scanner;
-    let server = ends.server;
-    if tick == DEATH {
-        air::cut(left, air, CABLE_2, tally);
-        tally[EVENT] = DIED;
-        return Ends {
-            scanner: without_link(scanner, CABLE_2),
-            server: without_link(server, CABLE_2),
-        };
-    }
-    if tick == RETURN {
-        tally[EVENT] = RETURNED;
-        return Ends {
-            scanner: with_link(scanner, 4),
-            server: with_link(server, 4),
-        };
-    }
-    ends
-}
-
-// A tick at the scanner.
-fn scanner_turn(
-    s: State,
-    sent: &mut Store,
-    received: &mut Store,
-    chance: &mut Chance,
-    tally: &mut Tally,
-    left: &mut Left,
-    air: &mut Air,
-    slot: u8,
-    now: u64,
-) -> State {
-    let served = end::turn(
-        s,
-        sent,
-        received,
-        chance,
-        tally,
-        left,
-        air,
-        SCANNER,
-        SERVER,
-        slot,
-        now,
-    );
-    scanner::scan(served, sent, chance, tally, left, air, slot, now)
-}
-
-// A tick at the server.
-fn server_turn(
-    s: State,
-    sent: &mut Store,
-    received: &mut Store,
-    chance: &mut Chance,
-    tally: &mut Tally,
-    left: &mut Left,
-    air: &mut Air,
-    row: &mut Row,
-    slot: u8,
-    tick: u64,
-    now: u64,
-) -> State {
-    let served = end::turn(
-        s,
-        sent,
-        received,
-        chance,
-        tally,
-        left,
-        air,
-        SERVER,
-        SCANNER,
-        slot,
-        now,
-    );
-    server::view(
-        served,
-        sent,
-        received,
-        chance,
-        tally,
-        left,
-        air,
-        row,
-        slot,
-        tick,
-        now,
-    )
-}
-
-fn is_empty(s: State) -> bool {
-    s.tx.txed_count == 0
-}
-
-fn are_empty(ends: Ends) -> bool {
-    let scanner = ends.scanner;
-    let server = ends.server;
-    is_empty(scanner) && is_empty(server)
-}
-
-// A tick of the whole: each end's new messages go over the links in turn.
-fn pass_tick(
-    ends: Ends,
-    scanner_sent: &mut Store,
-    scanner_received: &mut Store,
-    server_sent: &mut Store,
-    server_received: &mut Store,
-    chance: &mut Chance,
-    tally: &mut Tally,
-    left: &mut Left,
-    air: &mut Air,
-    row: &mut Row,
-    tick: u64,
-    now: u64,
-) -> Ends {
-    let slot = (tick % 3) as u8;
-    air::pass(left);
-    let fated = fate(ends, left, air, tally, tick);
-    let first = fated.scanner;
-    let second = fated.server;
-    let scanner = scanner_turn(
-        first,
-        scanner_sent,
-        scanner_received,
-        chance,
-        tally,
-        left,
-        air,
-        slot,
-        now,
-    );
-    let server = server_turn(
-        second,
-        server_sent,
-        server_received,
-        chance,
-        tally,
-        left,
-        air,
-        row,
-        slot,
-        tick,
-        now,
-    );
-    Ends { scanner, server }
-}
-
-fn is_over(ends: Ends, tally: &Tally) -> bool {
-    tally[FINISHED] != 0 && are_empty(ends)
-}
-
-// Runs until the stream's end was handed out and nothing is left to be acked.
-fn run(
-    scanner_sent: &mut Store,
-    scanner_received: &mut Store,
-    server_sent: &mut Store,
-    server_received: &mut Store,
-    chance: &mut Chance,
-    tally: &mut Tally,
-    left: &mut Left,
-    air: &mut Air,
-    row: &mut Row,
-) -> bool {
-    let scanner = begin();
-    let mut ends = Ends {
-        scanner,
-        server: scanner,
-    };
-    let mut tick: u64 = 0;
-    while tick < LAST_TICK {
-        ends = pass_tick(
-            ends,
-            scanner_sent,
-            scanner_received,
-            server_sent,
-            server_received,
-            chance,
-            tally,
-            left,
-            air,
-            row,
-            tick,
-            tick * TICK,
-        );
-        if is_over(ends, tally) {
-            return true;
-        }
-        tick += 1;
-    }
-    false
-}
 
 // The stores and the rest are made here, once, and lent to everything below.
 fn main() {
@@ -269,18 +18,16 @@ fn main() {
     let mut server_received = [0u8; 65536];
     let mut chance = [1189u64; 1];
     let mut tally = [0u64; 17];
-    let mut left = [0u64; 128];
     let mut air = [0u8; 133120];
     let mut row = [b' '; 41];
     map::heading();
-    let empty = run(
+    let empty = journey::run(
         &mut scanner_sent,
         &mut scanner_received,
         &mut server_sent,
         &mut server_received,
         &mut chance,
         &mut tally,
-        &mut left,
         &mut air,
         &mut row,
     );

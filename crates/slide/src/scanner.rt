@@ -1,9 +1,7 @@
 // The scanner's own work: a tile a tick while there is room for it, and after the last one the end of the stream.
 use crate::air::Air;
-use crate::air::Left;
 use crate::air::SERVER;
 use crate::air::part;
-use crate::chance::Chance;
 use crate::end;
 use crate::end::Store;
 use crate::picture::shade;
@@ -21,9 +19,7 @@ use tiles::TILES;
 pub fn give(
     s: State,
     sent: &mut Store,
-    chance: &mut Chance,
     tally: &mut Tally,
-    left: &mut Left,
     air: &mut Air,
     slot: u8,
     to: u8,
@@ -38,16 +34,7 @@ pub fn give(
         return s;
     };
     count(tally, what);
-    end::post(
-        chance,
-        tally,
-        left,
-        air,
-        slot,
-        to,
-        msg.to_link_msg(seq),
-        payload,
-    );
+    end::post(tally, air, slot, to, msg.to_link_msg(seq), payload);
     result.state
 }
 
@@ -64,9 +51,7 @@ fn next_tile(tally: &Tally) -> u16 {
 pub fn scan(
     s: State,
     sent: &mut Store,
-    chance: &mut Chance,
     tally: &mut Tally,
-    left: &mut Left,
     air: &mut Air,
     slot: u8,
     now: u64,
@@ -78,9 +63,7 @@ pub fn scan(
         return give(
             s,
             sent,
-            chance,
             tally,
-            left,
             air,
             slot,
             SERVER,
@@ -94,9 +77,7 @@ pub fn scan(
         return give(
             s,
             sent,
-            chance,
             tally,
-            left,
             air,
             slot,
             SERVER,

@@ -1,8 +1,6 @@
 // The server's own work: it takes the tiles that are ready, looks at each and tells the scanner what it has consumed.
 use crate::air::Air;
-use crate::air::Left;
 use crate::air::SCANNER;
-use crate::chance::Chance;
 use crate::end::Store;
 use crate::map;
 use crate::map::Row;
@@ -20,7 +18,7 @@ use engine::State;
 use engine::due;
 use engine::show;
 use engine::take;
-use engine_handout::due::Due;
+use engine_acks::due::Due;
 use engine_handout::ready::HandOut;
 use msg::ReliableMsg;
 use seq::Seq;
@@ -97,44 +95,20 @@ fn is_due(due: Due) -> bool {
 }
 
 // Tells what was taken, when that is due.
-fn tell(
-    s: State,
-    sent: &mut Store,
-    chance: &mut Chance,
-    tally: &mut Tally,
-    left: &mut Left,
-    air: &mut Air,
-    slot: u8,
-    now: u64,
-) -> State {
+fn tell(s: State, sent: &mut Store, tally: &mut Tally, air: &mut Air, slot: u8, now: u64) -> State {
     if !is_due(due::is_consume_ack_required(s)) {
         return s;
     }
     let rx = s.rx;
     let msg = ReliableMsg::Consumed(rx.rxed_reliable_consumed);
-    give(
-        s,
-        sent,
-        chance,
-        tally,
-        left,
-        air,
-        slot,
-        SCANNER,
-        now,
-        msg,
-        b"",
-        TOLD,
-    )
+    give(s, sent, tally, air, slot, SCANNER, now, msg, b"", TOLD)
 }
 
 pub fn view(
     s: State,
     sent: &mut Store,
     received: &Store,
-    chance: &mut Chance,
     tally: &mut Tally,
-    left: &mut Left,
     air: &mut Air,
     row: &mut Row,
     slot: u8,
@@ -142,5 +116,5 @@ pub fn view(
     now: u64,
 ) -> State {
     let taken = take_ready(s, received, tally, row, tick);
-    tell(taken, sent, chance, tally, left, air, slot, now)
+    tell(taken, sent, tally, air, slot, now)
 }

@@ -1,6 +1,6 @@
 -- The cell emptied, the sums moved, and then the empty numbers skipped.
 use Rattle.engine_handout.specs.Take.{takenRx, passedBy}
-use Rattle.engine_receive.specs.Cells.{withCell}
+use Rattle.engine_cells.specs.Cells.{withCell}
 use borrow.Author.Needs.{needs}
 use Rattle.engine_handout.proofs.take.taken_rx.Statement.{statement}
 use Rattle.engine_handout.proofs.take.taken_rx.Tie as tie

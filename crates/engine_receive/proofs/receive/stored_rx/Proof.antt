@@ -1,6 +1,6 @@
 -- The cell and the size, and then the advance.
 use Rattle.engine_receive.specs.Receive.{storedRx}
-use Rattle.engine_receive.specs.Cells.{withCell}
+use Rattle.engine_cells.specs.Cells.{withCell}
 use borrow.Author.Needs.{needs}
 use Rattle.engine_receive.proofs.receive.stored_rx.Statement.{statement}
 use Rattle.engine_receive.proofs.receive.stored_rx.Tie as tie

@@ -48,18 +48,19 @@ use Rattle.link.specs.declared.row.LinkRow.{LinkRow}
 use Rattle.link.proofs.row.LinkRow as T
 use Rattle.link.proofs.row.LinkRow.Laws as T′
 use Rattle.engine_state.specs.Roster.{noRow}
-use Rattle.engine_slow.specs.declared.slow.SlowLinks.{SlowLinks}
+use Rattle.engine_slow_rows.specs.declared.slow.SlowLinks.{SlowLinks}
 use Rattle.engine_slow.specs.declared.slow.SlowAnswer.{SlowAnswer}
 use Rattle.engine_slow.specs.declared.slow.SlowAnswer.the-variants.{Listed, No}
-use Rattle.engine_slow.specs.Slow.{slowOf, slowLinksOf, eight}
-use Rattle.engine_slow.proofs.slow.SlowLinks as LT
-use Rattle.engine_slow.proofs.slow.SlowLinks.Laws as LT′
+use Rattle.engine_slow_rows.specs.Slow.{slowOf, eight}
+use Rattle.engine_slow.specs.Slow.{slowLinksOf}
+use Rattle.engine_slow_rows.proofs.slow.SlowLinks as LT
+use Rattle.engine_slow_rows.proofs.slow.SlowLinks.Laws as LT′
 use Rattle.engine_slow.proofs.slow.SlowAnswer as ST
 use Rattle.engine_slow.proofs.slow.SlowAnswer.Laws as ST′
-use Rattle.engine_slow.proofs.slow.slow_rows as slow-rows
-use Rattle.engine_slow.proofs.slow.slow_rows.Symbol as slow-rows-def
-use Rattle.engine_slow.proofs.slow.slow_rows.Symbol.{name as #slow-rows}
-use Rattle.engine_slow.proofs.slow.slow_rows.Met as slow-rows-thm
+use Rattle.engine_slow_rows.proofs.slow.slow_rows as slow-rows
+use Rattle.engine_slow_rows.proofs.slow.slow_rows.Symbol as slow-rows-def
+use Rattle.engine_slow_rows.proofs.slow.slow_rows.Symbol.{name as #slow-rows}
+use Rattle.engine_slow_rows.proofs.slow.slow_rows.Met as slow-rows-thm
 use Rattle.engine_slow.proofs.slow.slow.Key.{name as #slow}
 use Rattle.engine_slow.proofs.slow.slow as slow
 use Rattle.engine_slow.proofs.slow.slow.Statement as stated
@@ -297,4 +298,4 @@ slow-spec 𝓤 H 𝓜 𝓖 𝓡 =
     entered 𝓤 H (tripleOf 𝓤 H (𝓖 .A) slow.signature (slow.spec 𝓤 H (𝓖 .A) (𝓜 .mem) (𝓡 .run)))
     (tables 𝓤 H 𝓜 𝓡 code.env .C) (tables 𝓤 H 𝓜 𝓡 code.env .Λ) #slow code.function (code.unfolded 𝓤 H 𝓜 𝓡)
     (slow-meets 𝓤 H (𝓖 .A) (givenOf 𝓤 H 𝓜 𝓖) (𝓜 .mem) (𝓡 .run) (tablesOf 𝓤 H 𝓜 (tables 𝓤 H 𝓜 𝓡 code.env))
-    (cited 𝓤 H (Rows 𝓤 H (𝓖 .A) (𝓜 .mem) (𝓡 .run)) 𝓜 𝓡 code.env #slow-rows slow-rows-def.routine code.calls-engine-slow·slow·slow-rows (slow-rows-thm.met 𝓤 H 𝓜 𝓖 𝓡)))
+    (cited 𝓤 H (Rows 𝓤 H (𝓖 .A) (𝓜 .mem) (𝓡 .run)) 𝓜 𝓡 code.env #slow-rows slow-rows-def.routine code.calls-engine-slow-rows·slow·slow-rows (slow-rows-thm.met 𝓤 H 𝓜 𝓖 𝓡)))

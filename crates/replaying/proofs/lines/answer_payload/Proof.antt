@@ -5,7 +5,8 @@ use lib.Seq.{length-take-le}
 use denote.Ref.{now}
 use lib.ListN.{length}
 use Rattle.msg.specs.declared.reliable.ReliableMsg.the-variants.{Data}
-use Rattle.replaying.specs.Taking.{ended}
+use Rattle.replay_session.specs.Taking.{ended}
+use Rattle.replay_digits.specs.Digits.{room-left}
 use Rattle.replaying.specs.Line.{received, receivedStore, payload-long, payload-bad, payload-good, store-long, store-bad, store-good}
 use borrow.Author.Needs.{needs}
 use Rattle.replaying.proofs.lines.answer_payload.Statement.{statement}
@@ -45,7 +46,7 @@ returns-2 : tie.Need-returns-2
 returns-2 c =
     let a = c .before .before .before .before .before .before .before .before .before .before .before .before .args in
     let h = c .before .before .before .before .before .before .before .before .before .if1 .left in
-    let t = sym (c .before .before .before .before .before .before .before .decode .ensures .0) ∙ c .before .before .before .before .before .if2 .taken in
+    let t = sym (room-left (now (a .line)) _ (search needs)) ∙ sym (c .before .before .before .before .before .before .before .decode .ensures .0) ∙ c .before .before .before .before .before .if2 .taken in
     let spelt = c .before .before .before .before .before .before .before .decode .ensures .1 (c .before .before .before .before .before .if2 .taken) in
     (c .before .before .receive-frame .ensures .0 ∙ ap (λ bytes. received (a .s) (length (now (a .store))) Data (a .seq) (length bytes)) spelt ∙ sym (payload-good (a .s) (a .seq) (now (a .line)) (length (now (a .store))) (omega (arith, h)) t), c .before .before .receive-frame .ensures .1 ∙ ap (receivedStore (a .s) (now (a .store)) Data (a .seq)) spelt ∙ sym (store-good (a .s) (a .seq) (now (a .line)) (now (a .store)) (omega (arith, h)) t))
 
@@ -59,7 +60,7 @@ returns-3 : tie.Need-returns-3
 returns-3 c =
     let a = c .before .before .before .before .before .before .before .before .before .args in
     let h = c .before .before .before .before .before .before .if1 .left in
-    let f = sym (c .before .before .before .before .decode .ensures .0) ∙ c .before .before .if2 .left in
+    let f = sym (room-left (now (a .line)) _ (search needs)) ∙ sym (c .before .before .before .before .decode .ensures .0) ∙ c .before .before .if2 .left in
     (c .end-frame2 .ensures ∙ ap (λ n. ended n (a .s)) (c .before .number2 .ensures) ∙ sym (payload-bad (a .s) (a .seq) (now (a .line)) (length (now (a .store))) (omega (arith, h)) f), sym (store-bad (a .s) (a .seq) (now (a .line)) (now (a .store)) (omega (arith, h)) f))
 
 pub answer-payload-spec : {M : Type 1} → statement M

@@ -5,22 +5,34 @@ use Rattle.slide.proofs.air.cut.Statement.{statement}
 use Rattle.slide.proofs.air.cut.Tie as tie
 
 abbrev Inv-loop : tie.InvT-loop
-Inv-loop left₀ air slot tally₀ k₀ left tally k = Unit {0}
+Inv-loop air₀ slot tally₀ k₀ air tally k = Unit {0}
 
 abbrev μ-loop : tie.MeasureT-loop
-μ-loop left₀ air slot tally₀ k₀ left tally k = 128 - k
+μ-loop air₀ slot tally₀ k₀ air tally k = 128 - k
 
 loop-holds : tie.Need-loop-holds Inv-loop μ-loop
 loop-holds c = search needs
 
-is-over-requires : tie.Need-is-over-requires Inv-loop μ-loop
-is-over-requires c κs = search needs
+mul-at : tie.Need-mul-at Inv-loop μ-loop
+mul-at c = search needs
 
-mul-left : tie.Need-mul-left Inv-loop μ-loop
-mul-left c = search needs
+add-if1 : tie.Need-add-if1 Inv-loop μ-loop
+add-if1 c = search needs
 
-element-write-left : tie.Need-element-write-left Inv-loop μ-loop
-element-write-left c = search needs
+element-copy-out-if1 : tie.Need-element-copy-out-if1 Inv-loop μ-loop
+element-copy-out-if1 c = search needs
+
+add-if2 : tie.Need-add-if2 Inv-loop μ-loop
+add-if2 c = search needs
+
+element-copy-out-if2 : tie.Need-element-copy-out-if2 Inv-loop μ-loop
+element-copy-out-if2 c = search needs
+
+add-air : tie.Need-add-air Inv-loop μ-loop
+add-air c = search needs
+
+element-write-air : tie.Need-element-write-air Inv-loop μ-loop
+element-write-air c = search needs
 
 count-requires : tie.Need-count-requires Inv-loop μ-loop
 count-requires c κs = search needs
@@ -44,9 +56,13 @@ cut-spec =
     Inv-loop
     μ-loop
     loop-holds
-    is-over-requires
-    mul-left
-    element-write-left
+    mul-at
+    add-if1
+    element-copy-out-if1
+    add-if2
+    element-copy-out-if2
+    add-air
+    element-write-air
     count-requires
     add-k
     loop-less

@@ -5,16 +5,19 @@ use Rattle.slide.proofs.air.free.Statement.{statement}
 use Rattle.slide.proofs.air.free.Tie as tie
 
 abbrev Inv-loop : tie.InvT-loop
-Inv-loop left k₀ k = Unit {0}
+Inv-loop air k₀ k = Unit {0}
 
 abbrev μ-loop : tie.MeasureT-loop
-μ-loop left k₀ k = 128 - k
+μ-loop air k₀ k = 128 - k
 
 loop-holds : tie.Need-loop-holds Inv-loop μ-loop
 loop-holds c = search needs
 
 mul-if1 : tie.Need-mul-if1 Inv-loop μ-loop
 mul-if1 c = search needs
+
+add-if1 : tie.Need-add-if1 Inv-loop μ-loop
+add-if1 c = search needs
 
 element-copy-out-if1 : tie.Need-element-copy-out-if1 Inv-loop μ-loop
 element-copy-out-if1 c = search needs
@@ -42,6 +45,7 @@ free-spec =
     μ-loop
     loop-holds
     mul-if1
+    add-if1
     element-copy-out-if1
     returns
     add-k

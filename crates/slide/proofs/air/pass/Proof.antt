@@ -5,16 +5,28 @@ use Rattle.slide.proofs.air.pass.Statement.{statement}
 use Rattle.slide.proofs.air.pass.Tie as tie
 
 abbrev Inv-loop : tie.InvT-loop
-Inv-loop left₀ k₀ left k = Unit {0}
+Inv-loop chance₀ tally₀ air₀ k₀ chance tally air k = Unit {0}
 
 abbrev μ-loop : tie.MeasureT-loop
-μ-loop left₀ k₀ left k = 128 - k
+μ-loop chance₀ tally₀ air₀ k₀ chance tally air k = 128 - k
 
 loop-holds : tie.Need-loop-holds Inv-loop μ-loop
 loop-holds c = search needs
 
-mul-sooner : tie.Need-mul-sooner Inv-loop μ-loop
-mul-sooner c = search needs
+mul-at : tie.Need-mul-at Inv-loop μ-loop
+mul-at c = search needs
+
+add-if1 : tie.Need-add-if1 Inv-loop μ-loop
+add-if1 c = search needs
+
+element-copy-out-if1 : tie.Need-element-copy-out-if1 Inv-loop μ-loop
+element-copy-out-if1 c = search needs
+
+meet-requires : tie.Need-meet-requires Inv-loop μ-loop
+meet-requires c κs = search needs
+
+add-sooner : tie.Need-add-sooner Inv-loop μ-loop
+add-sooner c = search needs
 
 element-copy-out-sooner : tie.Need-element-copy-out-sooner Inv-loop μ-loop
 element-copy-out-sooner c = search needs
@@ -22,11 +34,11 @@ element-copy-out-sooner c = search needs
 sooner-requires : tie.Need-sooner-requires Inv-loop μ-loop
 sooner-requires c κs = search needs
 
-mul-left : tie.Need-mul-left Inv-loop μ-loop
-mul-left c = search needs
+add-air : tie.Need-add-air Inv-loop μ-loop
+add-air c = search needs
 
-element-write-left : tie.Need-element-write-left Inv-loop μ-loop
-element-write-left c = search needs
+element-write-air : tie.Need-element-write-air Inv-loop μ-loop
+element-write-air c = search needs
 
 add-k : tie.Need-add-k Inv-loop μ-loop
 add-k c = search needs
@@ -47,11 +59,15 @@ pass-spec =
     Inv-loop
     μ-loop
     loop-holds
-    mul-sooner
+    mul-at
+    add-if1
+    element-copy-out-if1
+    meet-requires
+    add-sooner
     element-copy-out-sooner
     sooner-requires
-    mul-left
-    element-write-left
+    add-air
+    element-write-air
     add-k
     loop-less
     loop-again

@@ -5,10 +5,10 @@ use Rattle.slide.proofs.end.arrivals.Statement.{statement}
 use Rattle.slide.proofs.end.arrivals.Tie as tie
 
 abbrev Inv-loop : tie.InvT-loop
-Inv-loop received₀ tally₀ left₀ air end now room₀ out₀ k₀ received tally left room out k = Unit {0}
+Inv-loop received₀ tally₀ air₀ end now room₀ out₀ k₀ received tally air room out k = Unit {0}
 
 abbrev μ-loop : tie.MeasureT-loop
-μ-loop received₀ tally₀ left₀ air end now room₀ out₀ k₀ received tally left room out k = 128 - k
+μ-loop received₀ tally₀ air₀ end now room₀ out₀ k₀ received tally air room out k = 128 - k
 
 loop-holds : tie.Need-loop-holds Inv-loop μ-loop
 loop-holds c = search needs

@@ -4,10 +4,10 @@ use Rattle.slide.proofs.end.send_acks.Statement.{statement}
 use Rattle.slide.proofs.end.send_acks.Tie as tie
 
 abbrev Inv-loop : tie.InvT-loop
-Inv-loop chance₀ tally₀ left₀ air₀ slot to more₀ out₀ t14 chance tally left air more out = Unit {0}
+Inv-loop tally₀ air₀ slot to more₀ out₀ t12 tally air more out = Unit {0}
 
 abbrev μ-loop : tie.MeasureT-loop
-μ-loop chance₀ tally₀ left₀ air₀ slot to more₀ out₀ t14 chance tally left air more out = more
+μ-loop tally₀ air₀ slot to more₀ out₀ t12 tally air more out = more
 
 row-of-requires : tie.Need-row-of-requires Inv-loop μ-loop
 row-of-requires c κs = search needs

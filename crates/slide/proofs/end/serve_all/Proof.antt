@@ -5,10 +5,10 @@ use Rattle.slide.proofs.end.serve_all.Statement.{statement}
 use Rattle.slide.proofs.end.serve_all.Tie as tie
 
 abbrev Inv-loop : tie.InvT-loop
-Inv-loop sent chance₀ tally₀ left₀ air₀ to now out₀ slot₀ chance tally left air out slot = Unit {0}
+Inv-loop sent tally₀ air₀ to now out₀ slot₀ tally air out slot = Unit {0}
 
 abbrev μ-loop : tie.MeasureT-loop
-μ-loop sent chance₀ tally₀ left₀ air₀ to now out₀ slot₀ chance tally left air out slot = 3 - slot
+μ-loop sent tally₀ air₀ to now out₀ slot₀ tally air out slot = 3 - slot
 
 loop-holds : tie.Need-loop-holds Inv-loop μ-loop
 loop-holds c = search needs

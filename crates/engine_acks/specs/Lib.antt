@@ -1,0 +1,2 @@
+pub mod Acks
+pub mod Due

@@ -1,0 +1,3 @@
+// The engine's calls that take a link's oldest ack, and say whether a Consumed is due.
+pub mod acks;
+pub mod due;

@@ -1,0 +1,2 @@
+// The engine's call that adds a link.
+pub mod add;

@@ -1,0 +1,2 @@
+// The cells of what was received.
+pub mod cells;

@@ -1,0 +1,2 @@
+// The engine's call that flushes a link.
+pub mod flush;

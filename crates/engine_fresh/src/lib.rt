@@ -1,0 +1,2 @@
+// How the engine's state starts.
+pub mod fresh;

@@ -1,0 +1,2 @@
+// The engine's call that sends a packet again.
+pub mod resend;

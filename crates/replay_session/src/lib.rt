@@ -1,0 +1,3 @@
+// The replay's session, and what it takes from the engine after a frame.
+pub mod session;
+pub mod taking;
