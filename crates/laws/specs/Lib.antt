@@ -5,6 +5,7 @@ pub mod CellsKept
 pub mod CellsSeen
 pub mod FlushKept
 pub mod LinksKept
+pub mod MessageNumbers
 pub mod NearlySound
 pub mod PacketReplaced
 pub mod PacketsKept

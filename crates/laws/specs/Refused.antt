@@ -2,12 +2,17 @@
 -- answer's number is not 0, state and stores are those that came in. Assumes nothing.
 use mathlib.Core.Path.{_≡_, refl, ap}
 use mathlib.Core.Logic.{_≢_}
-use mathlib.Core.Bool.{cond}
+use mathlib.Core.Bool.{cond, _&&_}
 use mathlib.Core.List.{List, map}
 use Prim.Native.Nat.{ℕ}
 use lib.ListN.{length}
+use lib.Dec.{leb}
+use Rattle.refusal.specs.Verdicts.{by-test}
 use Rattle.refusal.specs.declared.verdict.Verdict.{Verdict}
 use Rattle.refusal.specs.declared.verdict.Verdict.the-variants as verdicts
+use Rattle.msg.specs.declared.link_msg.LinkMsg.{LinkMsg}
+use Rattle.msg.specs.Messages.{bytesOf}
+use Rattle.msg.specs.Writing.{writable, writtenNumber, writeOf, bufferOf}
 use Rattle.engine_state.specs.declared.state.State.{State}
 use Rattle.engine_state.specs.Answer.{outcomeNumber, changedBy}
 use Rattle.engine_state.specs.Gates.{slotVerdict, timedVerdict}
@@ -70,8 +75,20 @@ ack-taken-same : (answer : AckAnswer) (s : State) (slot : ℕ) → takeAckNumber
 ack-taken-same (acks.Number seq) s slot h = absurd (h refl)
 ack-taken-same (acks.No e) s slot h = refl
 
--- ---- the statement
+-- ---- the statements
 
+-- of writing, which is given no state
+pub refused-writing : (msg : LinkMsg) (buffer : List ℕ) → writtenNumber (writeOf msg buffer) ≢ 0 → bufferOf msg buffer ≡ buffer
+unfolding writeOf bufferOf
+refused-writing msg buffer told =
+    by-test (writable msg)
+    (λ may.
+    by-test (leb (length (bytesOf msg)) (length buffer))
+    (λ room. absurd (told (simp (may, room))))
+    (λ none. simp (may, none)))
+    (λ not. simp not)
+
+-- of every call on a state
 pub refused : (c : Call) (h : Holding) → number c h ≢ 0 → next c h ≡ h
 unfolding addOf removeOf confirmOf unconfirmOf blockOf markOf pingOf pongOf flushOf sendOf sendStore resendOf ackOf receiveOf receiveStore takeOf takeAckOf
 refused (Add id roundtrip max blocked unconfirmed) h told =

@@ -5,7 +5,7 @@ use mathlib.Core.List.{List, [], _∷_}
 use Prim.Native.Nat.{ℕ, _+_, _*_}
 use lib.Dec.{eqb, leb}
 use lib.ListN.{length, getD}
-use Rattle.refusal.specs.Refusals.{refuse}
+use Rattle.refusal.specs.Refusals.{refuse, numberOf}
 use Rattle.seq.specs.declared.Seq.{Seq}
 use Rattle.seq.specs.Numbers.{seqOf}
 use Rattle.msg.specs.declared.link_msg.RefusedReason.the-variants.{Closed, NotListening, ConnectionRefused, LinkRefused}
@@ -13,6 +13,11 @@ use Rattle.msg.specs.declared.link_msg.LinkMsg.{LinkMsg}
 use Rattle.msg.specs.declared.link_msg.LinkMsg.the-variants.{Welcome, Connect, Accepted, Refused, Ping, Pong, Data, Ack, Consumed, SendFinish, ReceiveClose, ReceiveFinish, TestData, SetBlock, Goodbye, Terminate}
 use Rattle.msg.specs.declared.reading.Reading.{Reading}
 use Rattle.msg.specs.declared.reading.Reading.the-variants.{Message, No}
+
+-- the paper's number for an answer
+abbrev pub readingNumber : Reading → ℕ
+readingNumber (Message msg) = 0
+readingNumber (No e) = numberOf e
 
 -- "message bytes not as below" give 20
 abbrev pub bad : Reading

@@ -5,7 +5,7 @@ use mathlib.Core.List.{List, [], _∷_, _++_}
 use Prim.Native.Nat.{ℕ, _≤_}
 use lib.Dec.{leb}
 use lib.ListN.{length, take, drop}
-use Rattle.refusal.specs.Refusals.{refuse}
+use Rattle.refusal.specs.Refusals.{refuse, numberOf}
 use Rattle.msg.specs.declared.link_msg.LinkMsg.{LinkMsg}
 use Rattle.msg.specs.declared.link_msg.LinkMsg.the-variants.{Welcome, Connect, Accepted, Refused, Ping, Pong, Data, Ack, Consumed, SendFinish, ReceiveClose, ReceiveFinish, TestData, SetBlock, Goodbye, Terminate}
 use Rattle.msg.specs.declared.writing.Written.{Written}
@@ -32,6 +32,11 @@ writable (TestData size) = leb size 1024
 writable (SetBlock blocked) = true
 writable Goodbye = true
 writable Terminate = true
+
+-- the paper's number for an answer
+abbrev pub writtenNumber : Written → ℕ
+writtenNumber (Bytes n) = 0
+writtenNumber (No e) = numberOf e
 
 -- "an output buffer too short" gives 7
 unfoldable pub writeOf : LinkMsg → List ℕ → Written
