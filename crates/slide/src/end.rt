@@ -1,4 +1,5 @@
-// What either end does at each tick, whatever it sends: it takes what arrives, acks it, doubts a silent link, resends and flushes.
+// What either end does, whatever it sends: it gives messages to the links, takes what arrives, acks it, doubts a silent link,
+// resends and flushes.
 use crate::air;
 use crate::air::Air;
 use crate::air::PLACES;
@@ -19,9 +20,11 @@ use engine::changes;
 use engine::flush;
 use engine::receive;
 use engine::resend;
+use engine::send;
 use engine::unconfirm;
 use engine_acks::acks::TakeAck;
 use engine_resend::resend::ResendAnswer;
+use engine_send::send::SendAnswer;
 use engine_state::Outcome;
 use engine_state::rows::row_of;
 use engine_state::state::SentReliableStatus;
@@ -36,7 +39,7 @@ use seq::Seq;
 pub type Store = [u8; 65536];
 
 // The links' slots are 0 to 2.
-pub const LINKS: u8 = 3;
+const LINKS: u8 = 3;
 
 // After how many nanoseconds without an ack a link is doubted: 50 ticks.
 const PATIENCE: u64 = 50_000_000;
@@ -46,13 +49,36 @@ const CELL: usize = 1024;
 const CELLS: u32 = 64;
 
 // Writes a message and gives it to a link.
-pub fn post(tally: &mut Tally, air: &mut Air, slot: u8, to: u8, msg: LinkMsg, payload: &[u8]) {
+fn post(tally: &mut Tally, air: &mut Air, slot: u8, to: u8, msg: LinkMsg, payload: &[u8]) {
     let mut frame = [0u8; 9];
     let written = msg::write(msg, &mut frame);
     match written {
         Written::Bytes(n) => air::put(air, slot, to, part(&frame, 0, n), payload, tally),
         Written::No(_) => count(tally, REFUSED),
     }
+}
+
+// Gives a message to a link, and counts it where the engine takes it: a full packet table or a dead link has it wait.
+pub fn give(
+    s: State,
+    sent: &mut Store,
+    tally: &mut Tally,
+    air: &mut Air,
+    slot: u8,
+    to: u8,
+    now: u64,
+    msg: ReliableMsg,
+    payload: &[u8],
+    what: usize,
+) -> State {
+    let result = send::send(s, sent, slot, now, msg, payload);
+    let answer = result.answer;
+    let SendAnswer::Number(seq) = answer else {
+        return s;
+    };
+    count(tally, what);
+    post(tally, air, slot, to, msg.to_link_msg(seq), payload);
+    result.state
 }
 
 fn note_arrival(tally: &mut Tally, expected: Seq, seq: Seq) {

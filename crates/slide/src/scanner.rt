@@ -2,41 +2,15 @@
 use crate::air::Air;
 use crate::air::SERVER;
 use crate::air::part;
-use crate::end;
 use crate::end::Store;
+use crate::end::give;
 use crate::picture::shade;
 use crate::tally::ENDED;
 use crate::tally::GIVEN;
 use crate::tally::Tally;
-use crate::tally::count;
 use engine::State;
-use engine::send;
-use engine_send::send::SendAnswer;
 use msg::ReliableMsg;
 use tiles::TILES;
-
-// Gives a message to a link, and counts it where the engine takes it: a full packet table or a dead link has it wait.
-pub fn give(
-    s: State,
-    sent: &mut Store,
-    tally: &mut Tally,
-    air: &mut Air,
-    slot: u8,
-    to: u8,
-    now: u64,
-    msg: ReliableMsg,
-    payload: &[u8],
-    what: usize,
-) -> State {
-    let result = send::send(s, sent, slot, now, msg, payload);
-    let answer = result.answer;
-    let SendAnswer::Number(seq) = answer else {
-        return s;
-    };
-    count(tally, what);
-    end::post(tally, air, slot, to, msg.to_link_msg(seq), payload);
-    result.state
-}
 
 // The number of the next tile, or TILES.
 fn next_tile(tally: &Tally) -> u16 {

@@ -2,10 +2,10 @@
 use crate::air::Air;
 use crate::air::SCANNER;
 use crate::end::Store;
+use crate::end::give;
 use crate::map;
 use crate::map::Row;
 use crate::picture::shade;
-use crate::scanner::give;
 use crate::tally::EVENT;
 use crate::tally::FINISHED;
 use crate::tally::GOOD;
