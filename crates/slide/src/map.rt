@@ -99,7 +99,7 @@ fn report_links(tally: &Tally) {
 
 fn report_ends(tally: &Tally) {
     line(tally[AHEAD], b"messages ahead of an earlier one");
-    line(tally[AGAIN], b"messages once more");
+    line(tally[AGAIN], b"messages again after they had been passed");
     line(tally[DOUBTED], b"links doubted after a silence");
     line(tally[RESENT], b"messages resent over another link");
     line(

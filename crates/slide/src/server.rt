@@ -49,13 +49,22 @@ fn look(bytes: &[u8], tally: &mut Tally, row: &mut Row, tick: u64) {
     }
 }
 
+// The end of the stream was handed out: nothing may be missing before it.
+fn finish(tally: &mut Tally) {
+    if tally[GOOD] == TILES as u64 {
+        count(tally, FINISHED);
+    } else {
+        count(tally, WRONG);
+    }
+}
+
 fn look_at(msg: ReliableMsg, seq: Seq, bytes: &[u8], tally: &mut Tally, row: &mut Row, tick: u64) {
     if seq.0 == 0 {
         tally[EVENT] = WRAPPED;
     }
     match msg {
         ReliableMsg::Data => look(bytes, tally, row, tick),
-        ReliableMsg::SendFinish => count(tally, FINISHED),
+        ReliableMsg::SendFinish => finish(tally),
         _ => count(tally, WRONG),
     }
 }

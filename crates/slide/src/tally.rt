@@ -12,7 +12,7 @@ pub const DELAYED: usize = 3;
 
 pub const CUT_OFF: usize = 4;
 
-// Reliable messages that arrived before one with a smaller number, or once more.
+// Reliable messages that arrived before one with a smaller number, or again after they had been passed.
 pub const AHEAD: usize = 5;
 
 pub const AGAIN: usize = 6;
@@ -30,7 +30,8 @@ pub const GIVEN: usize = 10;
 
 pub const ENDED: usize = 11;
 
-// Tiles handed out by the server: at their place with their bytes, or not; and the SendFinish.
+// Tiles handed out by the server at their place with their bytes; whatever else it handed out; and the SendFinish after the last
+// tile.
 pub const GOOD: usize = 12;
 
 pub const WRONG: usize = 13;
