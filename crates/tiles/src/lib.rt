@@ -10,7 +10,7 @@ pub const COLUMNS: u16 = 41;
 
 pub const ROWS: u16 = 29;
 
-pub const TILES: u16 = 1189;
+pub const TILES: u16 = COLUMNS * ROWS;
 
 // The most bytes of a tile.
 pub const MAX_TILE: usize = 1024;
