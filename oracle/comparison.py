@@ -7,6 +7,7 @@ import collections
 import os
 import shlex
 import subprocess
+import sys
 import tempfile
 
 from generator import script
@@ -27,6 +28,15 @@ class Sides:
     def __init__(self, port=PORT, driver=DRIVER):
         self.port = shlex.split(port)
         self.driver = driver
+
+    def make_ready(self):
+        """Runs the port once on no script. `./run` proves and builds first: here once, with all the time it takes, and not in every worker."""
+        try:
+            done = subprocess.run(self.port, stdin=subprocess.DEVNULL, stdout=subprocess.DEVNULL, cwd=ROOT, check=False)
+        except OSError as why:
+            sys.exit("the port's command cannot be run: %s" % why)
+        if done.returncode:
+            sys.exit("nothing was compared, since the port's command failed: " + " ".join(self.port))
 
     def answers(self, lines):
         """For each line of a script, what the port and the original answered."""

@@ -1,11 +1,11 @@
-// What the original sequence numbers answer, for crates/seq_vectors to compare with: a line for each pair (a, b),
+// What the original sequence numbers answer, for crates/vectors to compare with: a line for each pair (a, b),
 //
 //     AAAAAAAA BBBBBBBB SSSSSSSS DDDDDDDD dddddddd O
 //
 // with a, b, the number b past a, the number b before a and the signed distance a − b, each as 8 hexadecimal digits,
 // and how a compares with b: `<`, `=` or `>`. A line is 47 bytes long, its line feed with it.
 //
-// Run from the repository's root:  oracle/seq-vectors >crates/seq_vectors/stdin
+// Run from the repository's root:  oracle/seq-vectors >crates/vectors/stdin
 // The script puts the original seq.rs, unchanged, beside a copy of this file.
 
 // The original has more than is asked here.

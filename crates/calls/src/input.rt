@@ -1,13 +1,14 @@
 // Reads the script in pieces, and has each line answered as soon as it is whole.
+use crate::call;
+use crate::out;
+use crate::out::Buffer;
 use crate::run;
 use crate::run::Payload;
-use crate::run::Store;
+use crate::run::ReceivedStore;
+use crate::run::SentStore;
 use crate::session;
 use crate::session::Session;
-use calls_print::out;
-use calls_print::out::Buffer;
-use calls_script::call;
-use calls_script::words::first;
+use crate::words::first;
 use libc::STDIN_FILENO;
 ghost use Prim.Native.Nat.{_≤_};
 ghost use lib.ListN.{length};
@@ -22,8 +23,8 @@ fn answer(
     s: Session,
     line: &[u8],
     payload: &mut Payload,
-    sent: &mut Store,
-    received: &mut Store,
+    sent: &mut SentStore,
+    received: &mut ReceivedStore,
     out: &mut Buffer,
 ) -> Session {
     let called = call::parse(line, payload);
@@ -35,8 +36,8 @@ fn end_line(
     s: Session,
     line: &[u8],
     payload: &mut Payload,
-    sent: &mut Store,
-    received: &mut Store,
+    sent: &mut SentStore,
+    received: &mut ReceivedStore,
     out: &mut Buffer,
 ) -> Session {
     let kept = s.kept;
@@ -71,8 +72,8 @@ fn pass(
     end: usize,
     line: &mut Line,
     payload: &mut Payload,
-    sent: &mut Store,
-    received: &mut Store,
+    sent: &mut SentStore,
+    received: &mut ReceivedStore,
     out: &mut Buffer,
 ) -> Session
     requires { ⌜ (at ≤ end) × (end ≤ length (now piece)) ⌝ }
@@ -89,8 +90,8 @@ fn lines(
     piece: &[u8],
     line: &mut Line,
     payload: &mut Payload,
-    sent: &mut Store,
-    received: &mut Store,
+    sent: &mut SentStore,
+    received: &mut ReceivedStore,
     out: &mut Buffer,
 ) -> Session {
     let mut next = s;
@@ -109,8 +110,8 @@ fn read_on(
     input: &mut Piece,
     line: &mut Line,
     payload: &mut Payload,
-    sent: &mut Store,
-    received: &mut Store,
+    sent: &mut SentStore,
+    received: &mut ReceivedStore,
     out: &mut Buffer,
 ) -> Session {
     let got = libc::read(STDIN_FILENO, input);
@@ -131,8 +132,8 @@ fn read_all(
     input: &mut Piece,
     line: &mut Line,
     payload: &mut Payload,
-    sent: &mut Store,
-    received: &mut Store,
+    sent: &mut SentStore,
+    received: &mut ReceivedStore,
     out: &mut Buffer,
 ) -> Session {
     let mut s = session::start();
@@ -152,8 +153,8 @@ fn last_line(
     s: Session,
     line: &mut Line,
     payload: &mut Payload,
-    sent: &mut Store,
-    received: &mut Store,
+    sent: &mut SentStore,
+    received: &mut ReceivedStore,
     out: &mut Buffer,
 ) -> Session {
     if s.kept == 0 && !s.is_long {
@@ -167,8 +168,8 @@ pub fn script(
     input: &mut Piece,
     line: &mut Line,
     payload: &mut Payload,
-    sent: &mut Store,
-    received: &mut Store,
+    sent: &mut SentStore,
+    received: &mut ReceivedStore,
     out: &mut Buffer,
 ) {
     let s = read_all(input, line, payload, sent, received, out);

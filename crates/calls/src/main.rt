@@ -1,15 +1,25 @@
 // Answers a script of calls on one end, a line for each, as docs/CALLS.md has them: the script is standard input, of any length.
+mod answer;
+mod call;
+mod dump;
 mod input;
+mod kinds;
+mod message;
+mod out;
 mod run;
 mod session;
+mod words;
+
+use crate::call::MOST_RECEIVED_LENT;
+use crate::call::MOST_SENT_LENT;
 
 // The buffers are made here, once, and lent to everything below.
 fn main() {
     let mut piece = [0u8; 65536];
     let mut line = [0u8; 4160];
     let mut payload = [0u8; 2048];
-    let mut sent = [0u8; 65537];
-    let mut received = [0u8; 65537];
+    let mut sent = [0u8; MOST_SENT_LENT];
+    let mut received = [0u8; MOST_RECEIVED_LENT];
     let mut out = [0u8; 65536];
     input::script(
         &mut piece,

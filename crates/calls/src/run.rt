@@ -1,30 +1,18 @@
 // Runs each call, and prints what it answers.
+use crate::answer;
+use crate::call::Call;
+use crate::call::MOST_RECEIVED_LENT;
+use crate::call::MOST_SENT_LENT;
+use crate::call::Plain;
+use crate::call::Stored;
+use crate::dump;
+use crate::message;
+use crate::out;
+use crate::out::Buffer;
 use crate::session::Session;
-use calls_print::answer;
-use calls_print::dump;
-use calls_print::message;
-use calls_print::out;
-use calls_print::out::Buffer;
-use calls_script::call::Call;
-use calls_script::call::Plain;
-use calls_script::call::Stored;
-use calls_script::words::first;
-use engine::ack;
-use engine::acks;
-use engine::add;
-use engine::changes;
-use engine::due;
-use engine::flush;
-use engine::fresh;
-use engine::receive;
-use engine::resend;
-use engine::send;
-use engine::show;
-use engine::take;
-use engine::unconfirm;
-use engine_slow::slow;
-use engine_state::Changed;
-use engine_state::Outcome;
+use crate::words::first;
+use engine::Changed;
+use engine::Outcome;
 use link::MaxPing;
 use msg::LinkMsg;
 use msg::Reading;
@@ -32,8 +20,10 @@ use msg::ReliableMsg;
 use msg::Written;
 use seq::Seq;
 
-// A store, with the byte more that may be lent.
-pub type Store = [u8; 65537];
+// The stores, each with the byte more that may be lent.
+pub type SentStore = [u8; MOST_SENT_LENT];
+
+pub type ReceivedStore = [u8; MOST_RECEIVED_LENT];
 
 // The bytes of a call, and the buffer that `write` writes to.
 pub type Payload = [u8; 2048];
@@ -58,18 +48,18 @@ fn fresh(
     s: Session,
     start: u32,
     buffer: u32,
-    sent: &mut Store,
-    received: &mut Store,
+    sent: &mut SentStore,
+    received: &mut ReceivedStore,
     out: &mut Buffer,
 ) -> Session {
-    let result = fresh::fresh(Seq(start), buffer);
+    let result = engine::fresh(Seq(start), buffer);
     let outcome = result.outcome;
     let state = result.state;
     let at = answer::outcome(out, s.at, outcome);
     match outcome {
         Outcome::Done => {
-            *sent = [0; 65537];
-            *received = [0; 65537];
+            *sent = [0; MOST_SENT_LENT];
+            *received = [0; MOST_RECEIVED_LENT];
             s.over(state, at)
         }
         Outcome::No(_) => s.to(at),
@@ -86,7 +76,7 @@ fn add(
     out: &mut Buffer,
 ) -> Session {
     let before = s.state;
-    let result = add::add(before, id, trip, max, blocked, unconfirmed);
+    let result = engine::add(before, id, trip, max, blocked, unconfirmed);
     let answer = result.answer;
     let state = result.state;
     let at = answer::added(out, s.at, answer);
@@ -95,47 +85,47 @@ fn add(
 
 fn remove(s: Session, slot: u8, out: &mut Buffer) -> Session {
     let state = s.state;
-    changed(s, unconfirm::remove(state, slot), out)
+    changed(s, engine::remove(state, slot), out)
 }
 
 fn confirm(s: Session, slot: u8, out: &mut Buffer) -> Session {
     let state = s.state;
-    changed(s, changes::confirm(state, slot), out)
+    changed(s, engine::confirm(state, slot), out)
 }
 
 fn unconfirm(s: Session, slot: u8, out: &mut Buffer) -> Session {
     let state = s.state;
-    changed(s, unconfirm::unconfirm(state, slot), out)
+    changed(s, engine::unconfirm(state, slot), out)
 }
 
 fn block(s: Session, slot: u8, blocked: bool, out: &mut Buffer) -> Session {
     let state = s.state;
-    changed(s, changes::block(state, slot, blocked), out)
+    changed(s, engine::block(state, slot, blocked), out)
 }
 
 fn ping(s: Session, slot: u8, time: u64, out: &mut Buffer) -> Session {
     let state = s.state;
-    changed(s, changes::ping(state, slot, time), out)
+    changed(s, engine::ping(state, slot, time), out)
 }
 
 fn flush(s: Session, slot: u8, time: u64, out: &mut Buffer) -> Session {
     let state = s.state;
-    changed(s, flush::flush(state, slot, time), out)
+    changed(s, engine::flush(state, slot, time), out)
 }
 
 fn pong(s: Session, slot: u8, time: u64, out: &mut Buffer) -> Session {
     let state = s.state;
-    changed(s, changes::pong(state, slot, time), out)
+    changed(s, engine::pong(state, slot, time), out)
 }
 
 fn mark(s: Session, slot: u8, n: u32, out: &mut Buffer) -> Session {
     let state = s.state;
-    changed(s, changes::mark(state, slot, Seq(n)), out)
+    changed(s, engine::mark(state, slot, Seq(n)), out)
 }
 
 fn ack(s: Session, slot: u8, time: u64, n: u32, out: &mut Buffer) -> Session {
     let state = s.state;
-    changed(s, ack::ack(state, slot, time, Seq(n)), out)
+    changed(s, engine::ack(state, slot, time, Seq(n)), out)
 }
 
 fn send(
@@ -152,7 +142,7 @@ fn send(
     if sent.len() < lent {
         return unknown(s, out);
     }
-    let result = send::send(before, &mut sent[0..lent], slot, time, msg, payload);
+    let result = engine::send(before, &mut sent[0..lent], slot, time, msg, payload);
     let answer = result.answer;
     let state = result.state;
     let at = answer::sent(out, s.at, answer);
@@ -161,7 +151,7 @@ fn send(
 
 fn resend(s: Session, slot: u8, time: u64, n: u32, sent: &[u8], out: &mut Buffer) -> Session {
     let before = s.state;
-    let result = resend::resend(before, slot, time, Seq(n));
+    let result = engine::resend(before, slot, time, Seq(n));
     let answer = result.answer;
     let state = result.state;
     let at = answer::resent(out, s.at, answer, sent, n);
@@ -184,7 +174,7 @@ fn receive(
     }
     changed(
         s,
-        receive::receive(state, &mut received[0..lent], slot, msg, Seq(n), payload),
+        engine::receive(state, &mut received[0..lent], slot, msg, Seq(n), payload),
         out,
     )
 }
@@ -193,14 +183,14 @@ fn show(s: Session, received: &[u8], out: &mut Buffer) -> Session {
     let lent = s.received;
     let state = s.state;
     let store = first(received, lent);
-    let answer = show::showing(state, store);
-    let at = answer::shown(out, s.at, answer, show::show(state, store));
+    let answer = engine::showing(state, store);
+    let at = answer::shown(out, s.at, answer, engine::show(state, store));
     s.to(at)
 }
 
 fn take(s: Session, out: &mut Buffer) -> Session {
     let before = s.state;
-    let result = take::take(before);
+    let result = engine::take(before);
     let answer = result.answer;
     let state = result.state;
     let at = answer::taken(out, s.at, answer);
@@ -209,7 +199,7 @@ fn take(s: Session, out: &mut Buffer) -> Session {
 
 fn take_ack(s: Session, slot: u8, out: &mut Buffer) -> Session {
     let before = s.state;
-    let result = acks::take_ack(before, slot);
+    let result = engine::take_ack(before, slot);
     let answer = result.answer;
     let state = result.state;
     let at = answer::taken_ack(out, s.at, answer);
@@ -218,13 +208,13 @@ fn take_ack(s: Session, slot: u8, out: &mut Buffer) -> Session {
 
 fn due(s: Session, out: &mut Buffer) -> Session {
     let state = s.state;
-    let at = answer::due(out, s.at, due::is_consume_ack_required(state));
+    let at = answer::due(out, s.at, engine::is_consume_ack_required(state));
     s.to(at)
 }
 
 fn slow(s: Session, out: &mut Buffer) -> Session {
     let state = s.state;
-    let at = answer::slow(out, s.at, slow::slow_links(state));
+    let at = answer::slow(out, s.at, engine::slow_links(state));
     s.to(at)
 }
 
@@ -330,8 +320,8 @@ fn on_stores(
     s: Session,
     call: Stored,
     payload: &[u8],
-    sent: &mut Store,
-    received: &mut Store,
+    sent: &mut SentStore,
+    received: &mut ReceivedStore,
     out: &mut Buffer,
 ) -> Session {
     match call {
@@ -364,8 +354,8 @@ fn on_begun_stores(
     s: Session,
     call: Stored,
     payload: &[u8],
-    sent: &mut Store,
-    received: &mut Store,
+    sent: &mut SentStore,
+    received: &mut ReceivedStore,
     out: &mut Buffer,
 ) -> Session {
     if s.begun {
@@ -379,8 +369,8 @@ pub fn run(
     s: Session,
     call: Call,
     payload: &mut Payload,
-    sent: &mut Store,
-    received: &mut Store,
+    sent: &mut SentStore,
+    received: &mut ReceivedStore,
     out: &mut Buffer,
 ) -> Session {
     match call {

@@ -1,16 +1,14 @@
 // What a script's run carries from line to line, beside the buffers.
+use engine::RECEIVED_BYTES;
+use engine::SENT_BYTES;
 use engine::State;
-use engine::fresh;
 use seq::Seq;
-
-// With how many bytes a store is lent, unless a `lend` said otherwise.
-pub const STORE: usize = 65536;
 
 pub struct Session {
     // whether a `fresh` was accepted; until then no call reaches the state
     pub begun: bool,
     pub state: State,
-    // with how many bytes the stores are lent
+    // with how many bytes the stores are lent: as many as they have, unless a `lend` said otherwise
     pub sent: usize,
     pub received: usize,
     // up to where the output buffer is full
@@ -23,13 +21,13 @@ pub struct Session {
 }
 
 pub fn start() -> Session {
-    let none = fresh::fresh(Seq(0), 0);
+    let none = engine::fresh(Seq(0), 0);
     let state = none.state;
     Session {
         begun: false,
         state,
-        sent: STORE,
-        received: STORE,
+        sent: SENT_BYTES,
+        received: RECEIVED_BYTES,
         at: 0,
         kept: 0,
         is_long: false,
@@ -58,8 +56,8 @@ impl Session {
         let mut out = self;
         out.begun = true;
         out.state = state;
-        out.sent = STORE;
-        out.received = STORE;
+        out.sent = SENT_BYTES;
+        out.received = RECEIVED_BYTES;
         out.at = at;
         out
     }

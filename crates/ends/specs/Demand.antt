@@ -8,14 +8,14 @@ use lib.ListN.{length, getD}
 use Rattle.seq.specs.Numbers.{plus}
 use Rattle.msg.specs.declared.reliable.ReliableMsg.the-variants as msgs
 use Rattle.refusal.specs.Refusals.{refuse}
-use Rattle.engine_state.specs.declared.state.SentReliableStatus.{SentReliableStatus}
-use Rattle.engine_state.specs.declared.state.SentReliableStatus.the-variants.{Sent, Received, ResendQueued}
-use Rattle.engine_state.specs.declared.answer.Outcome.the-variants as outcomes
-use Rattle.engine_state.specs.Cells.{isReadyKind}
-use Rattle.engine_state.specs.Table.{packetOf}
-use Rattle.engine_ack.specs.Ack.{ackOf}
-use Rattle.engine_handout.specs.declared.ready.HandOut.the-variants as handouts
-use Rattle.engine_handout.specs.Take.{takeOf}
+use Rattle.engine.specs.declared.state.SentReliableStatus.{SentReliableStatus}
+use Rattle.engine.specs.declared.state.SentReliableStatus.the-variants.{Sent, Received, ResendQueued}
+use Rattle.engine.specs.declared.answer.Outcome.the-variants as outcomes
+use Rattle.engine.specs.Received.{isReadyKind}
+use Rattle.engine.specs.Table.{packetOf}
+use Rattle.engine.specs.Acking.{ackOf}
+use Rattle.engine.specs.declared.handing_out.HandOut.the-variants as handouts
+use Rattle.engine.specs.HandingOut.{takeOf}
 use Rattle.ends.specs.World.{Msg, Packet, Ack, World, swap, after, moved, BroughtAck, Timely, Acked, Step, at-a, Run, _then_, Fresh}
 
 abbrev pub noMsg : Msg
@@ -46,14 +46,14 @@ Complete W = Emptied W → (i : ℕ) → i < length (W .a .given) → Accepted W
 
 -- the stronger end: with nothing left to take, what b handed out is all that a was given
 abbrev pub AllOut : World → Type 0
-AllOut W = Emptied W → takeOf (W .b .state) .answer ≡ handouts.No (refuse 19) → W .b .out ≡ handed (W .a .given)
+AllOut W = Emptied W → takeOf (W .b .state) .answer ≡ handouts.No (refuse 19 tt) → W .b .out ≡ handed (W .a .given)
 
 -- the status of the packet of message i
 abbrev pub statusOf : World → ℕ → SentReliableStatus
 statusOf W i = packetOf (W .a .state .tx) (plus (W .start) i) .status
 
 abbrev pub SentOver : SentReliableStatus → ℕ → Type 0
-SentOver (Sent time flushed on link) slot = on ≡ slot
+SentOver (Sent flight) slot = flight .slot ≡ slot
 SentOver Received slot = ⊥
 SentOver (ResendQueued link) slot = ⊥
 

@@ -6,39 +6,37 @@ use Prim.Native.Nat.{ℕ, _^_, _<_}
 use lib.ListN.{length}
 use Rattle.seq.specs.declared.Seq.{Seq}
 use Rattle.msg.specs.declared.reliable.ReliableMsg.{ReliableMsg}
-use Rattle.engine_state.specs.declared.state.State.{State}
-use Rattle.engine_state.specs.declared.answer.Outcome.{Outcome}
-use Rattle.engine_state.specs.declared.answer.Outcome.the-variants as outcomes
-use Rattle.engine_state.specs.declared.answer.Changed.{Changed}
-use Rattle.engine_add.specs.declared.add.Added.{Added}
-use Rattle.engine_add.specs.declared.add.AddAnswer.{AddAnswer}
-use Rattle.engine_add.specs.declared.add.AddAnswer.the-variants as adds
-use Rattle.engine_add.specs.Add.{addOf}
-use Rattle.engine_links.specs.Changes.{confirmOf, blockOf, markOf, pingOf, pongOf}
-use Rattle.engine_unconfirm.specs.Unconfirm.{unconfirmOf, removeOf}
-use Rattle.engine_send.specs.declared.send.SendResult.{SendResult}
-use Rattle.engine_send.specs.declared.send.SendAnswer.{SendAnswer}
-use Rattle.engine_send.specs.declared.send.SendAnswer.the-variants as sends
-use Rattle.engine_resend.specs.declared.resend.ResendResult.{ResendResult}
-use Rattle.engine_resend.specs.declared.resend.ResendAnswer.{ResendAnswer}
-use Rattle.engine_resend.specs.declared.resend.ResendAnswer.the-variants as resends
-use Rattle.engine_send.specs.Send.{sendOf, sendStore}
-use Rattle.engine_flush.specs.Flush.{flushOf}
-use Rattle.engine_resend.specs.Resend.{resendOf}
-use Rattle.engine_ack.specs.Ack.{ackOf}
-use Rattle.engine_receive.specs.Receive.{receiveOf, receiveStore}
-use Rattle.engine_handout.specs.declared.take.TakeResult.{TakeResult}
-use Rattle.engine_handout.specs.declared.ready.HandOut.{HandOut}
-use Rattle.engine_handout.specs.declared.ready.HandOut.the-variants as handouts
-use Rattle.engine_acks.specs.declared.acks.TakeAckResult.{TakeAckResult}
-use Rattle.engine_acks.specs.declared.acks.TakeAck.{TakeAck as AckAnswer}
-use Rattle.engine_acks.specs.declared.acks.TakeAck.the-variants as acks
-use Rattle.engine_handout.specs.Show.{shownOf}
-use Rattle.engine_handout.specs.Take.{takeOf}
-use Rattle.engine_acks.specs.Acks.{takeAckOf}
+use Rattle.engine.specs.declared.state.State.{State}
+use Rattle.engine.specs.declared.answer.Outcome.{Outcome}
+use Rattle.engine.specs.declared.answer.Outcome.the-variants as outcomes
+use Rattle.engine.specs.declared.answer.Changed.{Changed}
+use Rattle.engine.specs.declared.links.Added.{Added}
+use Rattle.engine.specs.declared.links.AddAnswer.{AddAnswer}
+use Rattle.engine.specs.declared.links.AddAnswer.the-variants as adds
+use Rattle.engine.specs.Links.{addOf, confirmOf, blockOf, markOf, pingOf, pongOf}
+use Rattle.engine.specs.Unconfirming.{unconfirmOf, removeOf}
+use Rattle.engine.specs.declared.sending.SendResult.{SendResult}
+use Rattle.engine.specs.declared.sending.SendAnswer.{SendAnswer}
+use Rattle.engine.specs.declared.sending.SendAnswer.the-variants as sends
+use Rattle.engine.specs.declared.resending.ResendResult.{ResendResult}
+use Rattle.engine.specs.declared.resending.ResendAnswer.{ResendAnswer}
+use Rattle.engine.specs.declared.resending.ResendAnswer.the-variants as resends
+use Rattle.engine.specs.Sending.{sendOf, sendStore}
+use Rattle.engine.specs.Flushing.{flushOf}
+use Rattle.engine.specs.Resending.{resendOf}
+use Rattle.engine.specs.Acking.{ackOf}
+use Rattle.engine.specs.Receiving.{receiveOf, receiveStore}
+use Rattle.engine.specs.declared.handing_out.TakeResult.{TakeResult}
+use Rattle.engine.specs.declared.handing_out.HandOut.{HandOut}
+use Rattle.engine.specs.declared.handing_out.HandOut.the-variants as handouts
+use Rattle.engine.specs.declared.handing_out.TakeAckResult.{TakeAckResult}
+use Rattle.engine.specs.declared.handing_out.TakeAck.{TakeAck as AckAnswer}
+use Rattle.engine.specs.declared.handing_out.TakeAck.the-variants as acks
+use Rattle.engine.specs.HandingOut.{shownOf, takeOf, takeAckOf}
+use Rattle.engine.specs.Sizes.{RECEIVED_BYTES}
 use Rattle.ends.specs.World.{Msg, Packet, Ack, End, World, after, moved, owing, addBy, addAt, removeBy, removeAt, sendBy, sendAt, resendBy, resendAt, receiveBy, receiveAt, takeBy, takeAt, takeAckBy, takeAckAt, Brought, BroughtAck, Timely, Call, Add, Remove, Confirm, Unconfirm, Block, Mark, Ping, Pong, Flush, Send, Resend, Receive, Acked, Take, TakeAck}
 use Rattle.ends.specs.Model.{Tx, Like}
-use Rattle.ends.specs.Views.{tx, Queues, Whole, Alone}
+use Rattle.ends.specs.Views.{tx, Whole, Alone}
 use Rattle.ends.specs.Laws.{Laws, Keeps, Sends, Resends, Acks, Unconfirms, Removes, Receives, HandsOut, TakesAck, AddsLink}
 use Rattle.ends.specs.Refused.{ack-no, unconfirm-no, remove-no, add-no, resend-no, take-no, take-ack-no, send-no, receive-no}
 
@@ -91,7 +89,7 @@ like : (t : Tx) → Like t t
 like t = record { next-same = refl; count-same = refl; store-same = refl; length-same = refl; table-same = λ n h. refl }
 
 alone : (s : State) → Alone s s
-alone s = record { tx-alone = λ store. like (tx s store); rx-alone = λ store. refl; acks-alone = λ slot. refl; queues = λ h. h }
+alone s = record { tx-alone = λ store. like (tx s store); rx-alone = λ store. refl; acks-alone = λ slot. refl }
 
 -- a refused call
 refused : (W : World) (s : State) → Whole (W .a .state) → s ≡ W .a .state → Did W (moved W (after (W .a) s))
@@ -123,18 +121,18 @@ refused-received W s store whole e f = subst (λ (x : End). Did W (moved W x)) (
 }) (refused W s whole e)
 
 -- the state after a call that is whole, by its laws
-whole-by : {s s′ : State} → Whole s → Keeps s s′ → (Queues s → Queues s′) → Whole s′
-whole-by w k q = let both = k (w .shaped) (w .sound) in record { shaped = both .0; sound = both .1; queues = q (w .queues) }
+whole-by : {s s′ : State} → Whole s → Keeps s s′ → Whole s′
+whole-by w k = let both = k (w .shaped) (w .sound) in record { shaped = both .0; sound = both .1 }
 
 -- ---- each call
 
-module _ (L : Laws) (W : World) (whole : Whole (W .a .state)) (store-fits : length (W .a .received) ≡ 65536)
+module _ (L : Laws) (W : World) (whole : Whole (W .a .state)) (store-fits : length (W .a .received) ≡ RECEIVED_BYTES)
     (numbers : (p : Packet) → Brought p (W .ba) → p .number < 2 ^ 32) (ack-numbers : (x : Ack) → BroughtAck x (W .ba) → x .number < 2 ^ 32) where
   abbrev S : State
   S = W .a .state
 
   seen-alone : (s : State) → Keeps S s → Alone S s → Did W (moved W (after (W .a) s))
-  seen-alone s k law = still s (whole-by whole k (law .queues)) law
+  seen-alone s k law = still s (whole-by whole k) law
 
   pub did : {X : World} → Call W X → Did W X
   unfolding addAt removeAt sendAt resendAt receiveAt takeAt takeAckAt
@@ -145,7 +143,7 @@ module _ (L : Laws) (W : World) (whole : Whole (W .a .state)) (store-fits : leng
 
       go : (a : AddAnswer) → r .answer ≡ a → Did W (moved W (addBy a (after (W .a) (r .state))))
       go (adds.Slot slot) q = let law = L .receiving .add-law S id roundtrip max blocked untested slot whole q in
-          added slot (r .state) (whole-by whole (L .sounding .add-sound S id roundtrip max blocked untested) (law .queues)) law
+          added slot (r .state) (whole-by whole (L .sounding .add-sound S id roundtrip max blocked untested)) law
       go (adds.No e) q = refused W (r .state) whole (add-no S e id roundtrip max blocked untested q)
   did (Remove slot) = go (r .outcome) refl
     where
@@ -153,7 +151,7 @@ module _ (L : Laws) (W : World) (whole : Whole (W .a .state)) (store-fits : leng
       r = removeOf S slot
 
       go : (o : Outcome) → r .outcome ≡ o → Did W (moved W (removeBy o slot (after (W .a) (r .state))))
-      go outcomes.Done q = let law = L .sending .remove-law S slot whole q in removed slot (r .state) (whole-by whole (L .sounding .remove-sound S slot) (law .queues)) law
+      go outcomes.Done q = let law = L .sending .remove-law S slot whole q in removed slot (r .state) (whole-by whole (L .sounding .remove-sound S slot)) law
       go (outcomes.No e) q = refused W (r .state) whole (remove-no S e slot q)
   did (Confirm slot) = seen-alone (confirmOf S slot .state) (L .sounding .confirm-sound S slot) (L .receiving .confirm-law S slot whole)
   did (Unconfirm slot) = go (r .outcome) refl
@@ -162,7 +160,7 @@ module _ (L : Laws) (W : World) (whole : Whole (W .a .state)) (store-fits : leng
       r = unconfirmOf S slot
 
       go : (o : Outcome) → r .outcome ≡ o → Did W (moved W (after (W .a) (r .state)))
-      go outcomes.Done q = let law = L .sending .unconfirm-law S slot whole q in unconfirmed slot (r .state) (whole-by whole (L .sounding .unconfirm-sound S slot) (law .queues)) law
+      go outcomes.Done q = let law = L .sending .unconfirm-law S slot whole q in unconfirmed slot (r .state) (whole-by whole (L .sounding .unconfirm-sound S slot)) law
       go (outcomes.No e) q = refused W (r .state) whole (unconfirm-no S e slot q)
   did (Block slot blocked) = seen-alone (blockOf S slot blocked .state) (L .sounding .block-sound S slot blocked) (L .receiving .block-law S slot blocked whole)
   did (Mark slot seq) = seen-alone (markOf S slot seq .state) (L .sounding .mark-sound S slot seq) (L .receiving .mark-law S slot seq whole)
@@ -179,7 +177,7 @@ module _ (L : Laws) (W : World) (whole : Whole (W .a .state)) (store-fits : leng
 
       go : (a : SendAnswer) → r .answer ≡ a → Did W (sendBy a W m (r .state) store)
       go (sends.Number number) q = let law = L .sending .send-law S (W .a .sent) slot time m number whole q in
-          sent slot m number (r .state) store (whole-by whole (L .sounding .send-sound S (length (W .a .sent)) slot time (m .kind) (length (m .bytes))) (law .queues)) law
+          sent slot m number (r .state) store (whole-by whole (L .sounding .send-sound S (length (W .a .sent)) slot time (m .kind) (length (m .bytes)))) law
       go (sends.No e) q = let kept = send-no S e (W .a .sent) slot time (m .kind) (m .bytes) q in refused-sent W (r .state) store whole (kept .0) (kept .1)
   did (Resend slot time n n32) = go (r .answer) refl
     where
@@ -188,7 +186,7 @@ module _ (L : Laws) (W : World) (whole : Whole (W .a .state)) (store-fits : leng
 
       go : (a : ResendAnswer) → r .answer ≡ a → Did W (resendBy a W n (r .state))
       go (resends.Message kind len) q = let law = L .sending .resend-law S (W .a .sent) slot time n kind len whole n32 q in
-          resent slot n kind len (r .state) n32 (whole-by whole (L .sounding .resend-sound S slot time n n32) (law .queues)) law
+          resent slot n kind len (r .state) n32 (whole-by whole (L .sounding .resend-sound S slot time n n32)) law
       go (resends.No e) q = refused W (r .state) whole (resend-no S e slot time n q)
   did (Receive slot p brought timely) = go (r .outcome) refl
     where
@@ -201,7 +199,7 @@ module _ (L : Laws) (W : World) (whole : Whole (W .a .state)) (store-fits : leng
       go : (o : Outcome) → r .outcome ≡ o → Did W (moved W (receiveBy o (W .a) slot p (r .state) store))
       go outcomes.Done q = let law = L .receiving .receive-law S (W .a .received) slot (p .number) (p .msg) whole (numbers p brought) q in
           received slot p (r .state) store brought timely
-          (whole-by whole (L .sounding .receive-sound S (length (W .a .received)) slot (p .msg .kind) (p .number) (length (p .msg .bytes)) (numbers p brought)) (law .queues)) law
+          (whole-by whole (L .sounding .receive-sound S (length (W .a .received)) slot (p .msg .kind) (p .number) (length (p .msg .bytes)) (numbers p brought))) law
       go (outcomes.No e) q = let kept = receive-no S e (W .a .received) slot (p .msg .kind) (p .number) (p .msg .bytes) q in refused-received W (r .state) store whole (kept .0) (kept .1)
   did (Acked slot time x brought timely) = go (r .outcome) refl
     where
@@ -210,7 +208,7 @@ module _ (L : Laws) (W : World) (whole : Whole (W .a .state)) (store-fits : leng
 
       go : (o : Outcome) → r .outcome ≡ o → Did W (moved W (after (W .a) (r .state)))
       go outcomes.Done q = let law = L .sending .ack-law S slot time (x .number) whole (ack-numbers x brought) q in
-          acked slot x (r .state) brought timely (whole-by whole (L .sounding .ack-sound S slot time (x .number) (ack-numbers x brought)) (law .queues)) law
+          acked slot x (r .state) brought timely (whole-by whole (L .sounding .ack-sound S slot time (x .number) (ack-numbers x brought))) law
       go (outcomes.No e) q = refused W (r .state) whole (ack-no S e slot time (x .number) q)
   did Take = go (r .answer) refl
     where
@@ -219,7 +217,7 @@ module _ (L : Laws) (W : World) (whole : Whole (W .a .state)) (store-fits : leng
 
       go : (a : HandOut) → r .answer ≡ a → Did W (moved W (takeBy a (W .a) (shownOf S (W .a .received)) (r .state)))
       go (handouts.Message kind number len) q = let law = L .receiving .take-law S (W .a .received) kind number len whole store-fits q in
-          took kind number len (r .state) (whole-by whole (L .sounding .take-sound S) (law .queues)) law
+          took kind number len (r .state) (whole-by whole (L .sounding .take-sound S)) law
       go (handouts.No e) q = refused W (r .state) whole (take-no S e q)
   did (TakeAck slot) = go (r .answer) refl
     where
@@ -228,5 +226,5 @@ module _ (L : Laws) (W : World) (whole : Whole (W .a .state)) (store-fits : leng
 
       go : (a : AckAnswer) → r .answer ≡ a → Did W (takeAckBy a W slot (r .state))
       go (acks.Number number) q = let law = L .receiving .take-ack-law S slot number whole q in
-          took-ack slot number (r .state) (whole-by whole (L .sounding .take-ack-sound S slot) (law .queues)) law
+          took-ack slot number (r .state) (whole-by whole (L .sounding .take-ack-sound S slot)) law
       go (acks.No e) q = refused W (r .state) whole (take-ack-no S e slot q)

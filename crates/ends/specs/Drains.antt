@@ -8,7 +8,6 @@ use native.Mathlib.Omega.{arith}
 use native.Mathlib.Decide.{decLt, decLe, ℕ-discrete}
 use lib.ListN.{length, getD, set}
 use borrow.Author.Tests.{le-leb, eq-eqb}
-use Rattle.refusal.specs.Verdicts.{split}
 use Rattle.ends.specs.World.{Ack}
 use Rattle.ends.specs.Wrap.{diff, cell}
 use Rattle.ends.specs.Model.{Pkt, noPkt, Status, SentOn, Queued, Received, Tx, isQueued, isReceived, inTable, pktAt, withStatus, withCells, settled, settledPkt, sweep, acked}
@@ -19,6 +18,8 @@ use Rattle.ends.specs.TxLaws.{hit, miss, length-snoc, swept-le}
 use Rattle.ends.specs.TxKeeps.{map-received, like-at}
 use Rattle.ends.specs.RxKeeps.{Kept}
 use Rattle.ends.specs.Keeps.{keeps-all}
+use Rattle.refusal.specs.Tests.{split}
+use Rattle.engine.specs.Sizes.{PACKETS}
 
 -- index j is Received, or no more in the table
 abbrev pub Done : Way → ℕ → Type 0
@@ -46,7 +47,7 @@ unfolding state
 state-count slot n t true = refl
 state-count slot n t false = refl
 
-done-ack-any : (w : Way) → length (w .tx .cells) ≡ 64 → (slot : ℕ) (a : Ack) (j : ℕ) → Done w j → Done (onAck slot a w) j
+done-ack-any : (w : Way) → length (w .tx .cells) ≡ PACKETS → (slot : ℕ) (a : Ack) (j : ℕ) → Done w j → Done (onAck slot a w) j
 unfolding state
 done-ack-any w l slot a j d j<N q = go (inTable (a .number) (w .tx)) q
   where
@@ -119,7 +120,7 @@ done-ack w k slot a h sent j<N q = go (decLe (length (w .given)) (a .index + t .
         inside : a .index < length (w .given)
         inside = a-is .inside
 
-        room : t .count ≤ 64
+        room : t .count ≤ PACKETS
         room = k .inv .txi .room
 
         back-is : diff (t .next) n ≡ length (w .given) - a .index

@@ -3,22 +3,21 @@ use mathlib.Core.Path.{_≡_, refl, _∙_, ap}
 use mathlib.Core.List.{List, [], map}
 use Prim.Native.Nat.{ℕ, _<_}
 use lib.Dec.{ltb}
-use lib.ListN.{length, getD, length-replicate, getD-replicate}
+use lib.ListN.{getD, getD-replicate}
 use borrow.Author.Tests.{ltb-true}
-use Rattle.seq.specs.Numbers.{seqOf}
+use borrow.Table.Steps.{cases}
 use Rattle.refusal.specs.declared.verdict.Verdict.{Verdict}
 use Rattle.refusal.specs.declared.verdict.Verdict.the-variants as verdicts
-use Rattle.refusal.specs.Verdicts.{by-test}
 use Rattle.link.specs.declared.row.LinkRow.{LinkRow}
-use Rattle.link.specs.Row.{emptyRow}
+use Rattle.link.specs.Row.{emptyRow, noRow}
 use Rattle.link.specs.Acks.{waiting}
-use Rattle.engine_state.specs.declared.state.State.{State}
-use Rattle.engine_state.specs.Answer.{changedBy}
-use Rattle.engine_fresh.specs.Fresh as state
-use Rattle.engine_state.specs.Roster.{noRow}
-use Rattle.engine_state.specs.Rows.{rowOf}
+use Rattle.engine.specs.declared.state.State.{State}
+use Rattle.engine.specs.Answer.{changedBy}
+use Rattle.engine.specs.Starting as state
+use Rattle.engine.specs.Rows.{rowOf}
+use Rattle.engine.specs.Sizes.{SLOTS}
 use Rattle.ends.specs.OneWay.{freshTx, freshRx}
-use Rattle.ends.specs.Views.{tx, rx, waitingOf, valueOf, Queues}
+use Rattle.ends.specs.Views.{tx, rx, waitingOf, valueOf}
 
 either : (v : Verdict) (s : State) → changedBy v s s .state ≡ s
 either verdicts.Pass s = refl
@@ -37,19 +36,12 @@ module _ (start buffer : ℕ) where
   unfolding state.freshState state.freshRx
   fresh-rx store = ap (λ (s : State). rx s store) fresh-state
 
-  row : (k : ℕ) → k < 8 → getD (state.freshState start buffer .links) k noRow ≡ emptyRow
+  row : (k : ℕ) → k < SLOTS → getD (state.freshState start buffer .links) k noRow ≡ emptyRow
   unfolding state.freshState
-  row k h = getD-replicate 8 k emptyRow noRow h
+  row k h = getD-replicate SLOTS k emptyRow noRow h
 
   pub fresh-acks : (k : ℕ) → waitingOf (state.freshOf start buffer .state) k ≡ []
   unfolding rowOf waiting emptyRow
   fresh-acks k =
       ap (λ (s : State). waitingOf s k) fresh-state
-      ∙ by-test (ltb k 8) (λ t. simp t (ap (λ (r : LinkRow). map valueOf (waiting r)) (row k (ltb-true k 8 t)))) (λ t. simp t)
-
-  pub fresh-queues : Queues (state.freshOf start buffer .state)
-  unfolding emptyRow
-  fresh-queues k h =
-      ap (λ (s : State). length (getD (s .links) k noRow .«tx_ack_queue»)) fresh-state
-      ∙ ap (λ (r : LinkRow). length (r .«tx_ack_queue»)) (row k h)
-      ∙ length-replicate 64 (seqOf 0)
+      ∙ cases (ltb k 8) (λ t. simp t (ap (λ (r : LinkRow). map valueOf (waiting r)) (row k (ltb-true k 8 t)))) (λ t. simp t)

@@ -8,13 +8,13 @@ use Prim.Native.Nat.{ℕ, _-_}
 use lib.ListN.{length, getD}
 use lib.Dec.{eqb}
 use Rattle.seq.specs.Numbers.{plus, minus}
-use Rattle.engine_state.specs.declared.state.State.{State}
-use Rattle.engine_state.specs.declared.answer.Outcome.the-variants as outcomes
-use Rattle.engine_send.specs.declared.send.SendAnswer.the-variants as sends
-use Rattle.engine_resend.specs.declared.resend.ResendAnswer.the-variants as resends
-use Rattle.engine_handout.specs.declared.ready.HandOut.the-variants as handouts
-use Rattle.engine_acks.specs.declared.acks.TakeAck.the-variants as acks
-use Rattle.engine_handout.specs.Show.{shownOf}
+use Rattle.engine.specs.declared.state.State.{State}
+use Rattle.engine.specs.declared.answer.Outcome.the-variants as outcomes
+use Rattle.engine.specs.declared.sending.SendAnswer.the-variants as sends
+use Rattle.engine.specs.declared.resending.ResendAnswer.the-variants as resends
+use Rattle.engine.specs.declared.handing_out.HandOut.the-variants as handouts
+use Rattle.engine.specs.declared.handing_out.TakeAck.the-variants as acks
+use Rattle.engine.specs.HandingOut.{shownOf}
 use Rattle.ends.specs.World.{Ack, World, swap, after, moved, owing, upd, tail, sendBy, resendBy, receiveBy, takeBy}
 use Rattle.ends.specs.Wrap.{diff}
 use Rattle.ends.specs.Model.{Tx, Rx, Like, repeated, received}

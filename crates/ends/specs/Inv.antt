@@ -6,10 +6,11 @@ use mathlib.Core.Logic.{_⊎_}
 use mathlib.Core.List.{List, List·Memᴰ}
 use Prim.Native.Nat.{ℕ, _+_, _-_, _%_, _≤_, _<_}
 use lib.ListN.{length, getD, take}
-use Rattle.engine_state.specs.declared.state.Held.{Held}
-use Rattle.engine_state.specs.declared.state.Held.the-variants.{Message}
-use Rattle.engine_state.specs.declared.state.RxCell.{RxCell}
-use Rattle.engine_state.specs.Cells.{noCell, isFull, isReadyKind}
+use Rattle.engine.specs.declared.state.Held.{Held}
+use Rattle.engine.specs.declared.state.Held.the-variants.{Message}
+use Rattle.engine.specs.declared.state.RxCell.{RxCell}
+use Rattle.engine.specs.Received.{noCell, isFull, isReadyKind}
+use Rattle.engine.specs.Sizes.{PACKETS, DATA_BYTES, SENT_BYTES, CELLS, RECEIVED_BYTES}
 use Rattle.ends.specs.World.{Msg, Packet, Ack}
 use Rattle.ends.specs.Demand.{noMsg, handed}
 use Rattle.ends.specs.Wrap.{num}
@@ -19,7 +20,7 @@ use Rattle.ends.specs.OneWay.{Way, HasAccepted}
 
 -- the cell of count j
 abbrev pub pos : ℕ → ℕ → ℕ
-pos s j = (s + j) % 64
+pos s j = (s + j) % PACKETS
 
 abbrev pub at : List Msg → ℕ → Msg
 at G j = getD G j noMsg
@@ -40,10 +41,10 @@ pub record PktIs (t : Tx) (k : ℕ) (m : Msg) : Type 0 where
 
 pub record TxI (s : ℕ) (G : List Msg) (t : Tx) : Type 0 where
   pub next-is : t .next ≡ num s (length G)
-  pub room : t .count ≤ 64
+  pub room : t .count ≤ PACKETS
   pub within : t .count ≤ length G
-  pub tcells : length (t .cells) ≡ 64
-  pub tstore : length (t .store) ≡ 65536
+  pub tcells : length (t .cells) ≡ PACKETS
+  pub tstore : length (t .store) ≡ SENT_BYTES
   pub pkt : (j : ℕ) → j < length G → length G ≤ j + t .count → PktIs t (pos s j) (at G j)
 
 -- the first packet isn't Received
@@ -64,21 +65,21 @@ pub record RxI (s : ℕ) (G : List Msg) (r : Rx) (e o : ℕ) : Type 0 where
   pub exp-is : r .expected ≡ num s e
   pub old-is : r .oldest ≡ num s o
   pub oe : o ≤ e
-  pub eo : e ≤ o + 64
+  pub eo : e ≤ o + CELLS
   pub en : e ≤ length G
-  pub rcells : length (r .cells) ≡ 64
-  pub rstore : length (r .store) ≡ 65536
-  pub held : (j : ℕ) → o ≤ j → j < o + 64 → isFull (heldOf r (pos s j)) ≡ true → (j < length G) × HeldIs r (pos s j) (at G j)
+  pub rcells : length (r .cells) ≡ CELLS
+  pub rstore : length (r .store) ≡ RECEIVED_BYTES
+  pub held : (j : ℕ) → o ≤ j → j < o + CELLS → isFull (heldOf r (pos s j)) ≡ true → (j < length G) × HeldIs r (pos s j) (at G j)
   pub ready : (j : ℕ) → o ≤ j → j < e → isFull (heldOf r (pos s j)) ≡ isReadyKind (at G j .kind)
 
 -- the oldest ready message is one that is handed out; the next expected one isn't there yet
 pub record Rest (s : ℕ) (G : List Msg) (r : Rx) (e o : ℕ) : Type 0 where
   pub first : o < e → isReadyKind (at G o .kind) ≡ true
-  pub stuck : e < o + 64 → isFull (heldOf r (pos s e)) ≡ false
+  pub stuck : e < o + CELLS → isFull (heldOf r (pos s e)) ≡ false
 
 -- message j has been accepted
 abbrev pub Has : ℕ → Rx → ℕ → ℕ → ℕ → Type 0
-Has s r e o j = (j < e) ⊎ ((e ≤ j) × (j < o + 64) × (isFull (heldOf r (pos s j)) ≡ true))
+Has s r e o j = (j < e) ⊎ ((e ≤ j) × (j < o + CELLS) × (isFull (heldOf r (pos s j)) ≡ true))
 
 -- ---- the links
 
@@ -95,7 +96,7 @@ pub record AckIs (s : ℕ) (G : List Msg) (r : Rx) (e o : ℕ) (a : Ack) : Type 
 -- ---- all of it
 
 pub record Inv (w : Way) (e o : ℕ) : Type 0 where
-  pub small : (j : ℕ) → j < length (w .given) → length (at (w .given) j .bytes) ≤ 1024
+  pub small : (j : ℕ) → j < length (w .given) → length (at (w .given) j .bytes) ≤ DATA_BYTES
   pub txi : TxI (w .start) (w .given) (w .tx)
   pub head : Head (w .start) (length (w .given)) (w .tx)
   pub rxi : RxI (w .start) (w .given) (w .rx) e o

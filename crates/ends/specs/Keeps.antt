@@ -9,9 +9,9 @@ use native.Mathlib.Omega.{arith}
 use lib.ListN.{length, getD, take, drop, replicate, length-replicate, getD-replicate, take-append-drop}
 use lib.Seq.{take-length}
 use borrow.Author.Tests.{eqb-true, not-false}
-use Rattle.refusal.specs.Verdicts.{false-true}
-use Rattle.engine_state.specs.declared.state.RxCell.{RxCell}
-use Rattle.engine_state.specs.Cells.{noCell, isFull}
+use Rattle.engine.specs.declared.state.RxCell.{RxCell}
+use Rattle.engine.specs.Received.{noCell, isFull}
+use Rattle.engine.specs.Sizes.{PACKETS, CELLS, SENT_BYTES, RECEIVED_BYTES}
 use Rattle.ends.specs.World.{Msg}
 use Rattle.ends.specs.Demand.{handed, Beginning}
 use Rattle.ends.specs.Model.{noPkt, takeOk}
@@ -21,6 +21,7 @@ use Rattle.ends.specs.Inv.{pos, at}
 use Rattle.ends.specs.RxLaws.{handed-append}
 use Rattle.ends.specs.TxKeeps.{keeps-send, keeps-resend, keeps-unconfirm, keeps-relabel, keeps-ack}
 use Rattle.ends.specs.RxKeeps.{Kept, keeps-again, keeps-receive, keeps-take}
+use Rattle.refusal.specs.Tests.{false-true}
 
 -- ---- every move
 
@@ -40,9 +41,9 @@ keeps-all (_and_ r x) k = keeps x (keeps-all r k)
 
 -- ---- fresh ends
 
-module _ (s : ℕ) (sent received : List ℕ) (s32 : s < 4294967296) (lt : length sent ≡ 65536) (lr : length received ≡ 65536) where
-  fresh-free : (k : ℕ) → k < 64 → isFull (getD (replicate 64 noCell) k noCell .held) ≡ false
-  fresh-free k h = ap (λ (c : RxCell). isFull (c .held)) (getD-replicate 64 k noCell noCell h)
+module _ (s : ℕ) (sent received : List ℕ) (s32 : s < 4294967296) (lt : length sent ≡ SENT_BYTES) (lr : length received ≡ RECEIVED_BYTES) where
+  fresh-free : (k : ℕ) → k < CELLS → isFull (getD (replicate CELLS noCell) k noCell .held) ≡ false
+  fresh-free k h = ap (λ (c : RxCell). isFull (c .held)) (getD-replicate CELLS k noCell noCell h)
 
   pub fresh-kept : Kept (freshWay s sent received)
   unfolding handed
@@ -51,7 +52,7 @@ module _ (s : ℕ) (sent received : List ℕ) (s32 : s < 4294967296) (lt : lengt
     o = 0;
     inv = record {
       small = λ j p. absurd (omega arith);
-      txi = record { next-is = omega arith; room = omega arith; within = omega arith; tcells = length-replicate 64 noPkt; tstore = lt; pkt = λ j p q. absurd (omega arith) };
+      txi = record { next-is = omega arith; room = omega arith; within = omega arith; tcells = length-replicate PACKETS noPkt; tstore = lt; pkt = λ j p q. absurd (omega arith) };
       head = λ p. absurd (omega arith);
       rxi = record {
         exp-is = omega arith;
@@ -59,7 +60,7 @@ module _ (s : ℕ) (sent received : List ℕ) (s32 : s < 4294967296) (lt : lengt
         oe = omega arith;
         eo = omega arith;
         en = omega arith;
-        rcells = length-replicate 64 noCell;
+        rcells = length-replicate CELLS noCell;
         rstore = lr;
         held = λ j p q h. false-true (sym (fresh-free (pos s j) (omega arith)) ∙ h);
         ready = λ j p q. absurd (omega arith);

@@ -10,30 +10,28 @@ use Rattle.seq.specs.declared.Seq.{Seq}
 use Rattle.msg.specs.declared.reliable.ReliableMsg.{ReliableMsg}
 use Rattle.refusal.specs.Refusals.{refuse}
 use Rattle.link.specs.declared.row.MaxPing.{MaxPing}
-use Rattle.engine_state.specs.declared.state.State.{State}
-use Rattle.engine_state.specs.declared.answer.Outcome.the-variants as outcomes
-use Rattle.engine_state.specs.Stores.{cellStart}
-use Rattle.engine_fresh.specs.Fresh.{freshOf}
-use Rattle.engine_state.specs.Sound.{Sound, Shaped}
-use Rattle.engine_add.specs.declared.add.AddAnswer.the-variants as adds
-use Rattle.engine_add.specs.Add.{addOf}
-use Rattle.engine_links.specs.Changes.{confirmOf, blockOf, markOf, pingOf, pongOf}
-use Rattle.engine_unconfirm.specs.Unconfirm.{unconfirmOf, removeOf}
-use Rattle.engine_send.specs.declared.send.SendAnswer.the-variants as sends
-use Rattle.engine_resend.specs.declared.resend.ResendAnswer.the-variants as resends
-use Rattle.engine_send.specs.Send.{sendOf, sendStore}
-use Rattle.engine_flush.specs.Flush.{flushOf}
-use Rattle.engine_resend.specs.Resend.{resendOf}
-use Rattle.engine_ack.specs.Ack.{ackOf}
-use Rattle.engine_receive.specs.Receive.{receiveOf, receiveStore}
-use Rattle.engine_handout.specs.declared.ready.HandOut.the-variants as handouts
-use Rattle.engine_acks.specs.declared.acks.TakeAck.the-variants as acks
-use Rattle.engine_handout.specs.Show.{shownOf}
-use Rattle.engine_handout.specs.Take.{takeOf}
-use Rattle.engine_acks.specs.Acks.{takeAckOf}
+use Rattle.engine.specs.declared.state.State.{State}
+use Rattle.engine.specs.declared.answer.Outcome.the-variants as outcomes
+use Rattle.engine.specs.Stores.{cellStart}
+use Rattle.engine.specs.Starting.{freshOf}
+use Rattle.engine.specs.Sound.{Sound, Shaped}
+use Rattle.engine.specs.declared.links.AddAnswer.the-variants as adds
+use Rattle.engine.specs.Links.{addOf, confirmOf, blockOf, markOf, pingOf, pongOf}
+use Rattle.engine.specs.Unconfirming.{unconfirmOf, removeOf}
+use Rattle.engine.specs.declared.sending.SendAnswer.the-variants as sends
+use Rattle.engine.specs.declared.resending.ResendAnswer.the-variants as resends
+use Rattle.engine.specs.Sending.{sendOf, sendStore}
+use Rattle.engine.specs.Flushing.{flushOf}
+use Rattle.engine.specs.Resending.{resendOf}
+use Rattle.engine.specs.Acking.{ackOf}
+use Rattle.engine.specs.Receiving.{receiveOf, receiveStore}
+use Rattle.engine.specs.declared.handing_out.HandOut.the-variants as handouts
+use Rattle.engine.specs.declared.handing_out.TakeAck.the-variants as acks
+use Rattle.engine.specs.HandingOut.{shownOf, takeOf, takeAckOf}
+use Rattle.engine.specs.Sizes.{PACKETS, SENT_BYTES}
 use Rattle.ends.specs.World.{Msg, upd}
 use Rattle.ends.specs.Model.{Rx, Like, sendOk, sent, resendOk, resent, resentMsg, unconfirmed, acked, near, repeated, received, takeOk, answer, taken}
-use Rattle.ends.specs.Views.{tx, rx, waitingOf, Queues, Whole, TxAlone, RxAlone, AcksAlone, Alone}
+use Rattle.ends.specs.Views.{tx, rx, waitingOf, Whole, TxAlone, RxAlone, AcksAlone, Alone}
 
 -- ---- the sending half
 
@@ -44,35 +42,30 @@ pub record Sends (s : State) (store : List ℕ) (slot : ℕ) (m : Msg) (number :
   pub tx-is : Like (sent slot m (tx s store)) (tx s′ store′)
   pub rx-alone : RxAlone s s′
   pub acks-alone : AcksAlone s s′
-  pub queues : Queues s → Queues s′
 
 pub record Resends (s : State) (store : List ℕ) (slot n : ℕ) (kind : ReliableMsg) (len : ℕ) (s′ : State) : Type 0 where
   pub ok : resendOk n (tx s store) ≡ true
   -- what it answers, with the bytes of its sent cell
-  pub msg-is : _≡_ {A = Msg} (record { kind = kind; bytes = take len (drop (cellStart n) store) }) (resentMsg n (tx s store))
+  pub msg-is : _≡_ {A = Msg} (record { kind = kind; bytes = take len (drop (cellStart PACKETS n) store) }) (resentMsg n (tx s store))
   pub tx-is : Like (resent slot n (tx s store)) (tx s′ store)
   pub rx-alone : RxAlone s s′
   pub acks-alone : AcksAlone s s′
-  pub queues : Queues s → Queues s′
 
 pub record Acks (s : State) (slot n : ℕ) (s′ : State) : Type 0 where
   pub tx-is : (store : List ℕ) → Like (acked slot n (tx s store)) (tx s′ store)
   pub rx-alone : RxAlone s s′
   pub acks-alone : AcksAlone s s′
-  pub queues : Queues s → Queues s′
 
 pub record Unconfirms (s : State) (slot : ℕ) (s′ : State) : Type 0 where
   pub tx-is : (store : List ℕ) → Like (unconfirmed slot (tx s store)) (tx s′ store)
   pub rx-alone : RxAlone s s′
   pub acks-alone : AcksAlone s s′
-  pub queues : Queues s → Queues s′
 
 -- with the link go the acks that wait for it
 pub record Removes (s : State) (slot : ℕ) (s′ : State) : Type 0 where
   pub tx-is : (store : List ℕ) → Like (unconfirmed slot (tx s store)) (tx s′ store)
   pub rx-alone : RxAlone s s′
   pub acks-are : (k : ℕ) → waitingOf s′ k ≡ upd (waitingOf s) slot [] k
-  pub queues : Queues s → Queues s′
 
 pub record SendingLaws : Type 0 where
   pub send-law : (s : State) (store : List ℕ) (slot time : ℕ) (m : Msg) (number : Seq) → Whole s
@@ -97,7 +90,6 @@ pub record Receives (s : State) (store : List ℕ) (slot n : ℕ) (m : Msg) (s�
   pub tx-alone : TxAlone s s′
   pub rx-is : Takes (repeated n (rx s store)) n m (rx s store) (rx s′ store′)
   pub acks-are : (k : ℕ) → waitingOf s′ k ≡ upd (waitingOf s) slot (waitingOf s slot ++ (n ∷ [])) k
-  pub queues : Queues s → Queues s′
 
 pub record HandsOut (s : State) (store : List ℕ) (kind : ReliableMsg) (s′ : State) : Type 0 where
   pub ok : takeOk (rx s store) ≡ true
@@ -106,7 +98,6 @@ pub record HandsOut (s : State) (store : List ℕ) (kind : ReliableMsg) (s′ : 
   pub tx-alone : TxAlone s s′
   pub rx-is : rx s′ store ≡ taken (rx s store)
   pub acks-alone : AcksAlone s s′
-  pub queues : Queues s → Queues s′
 
 pub record TakesAck (s : State) (slot : ℕ) (number : Seq) (s′ : State) : Type 0 where
   pub others : List ℕ
@@ -114,23 +105,21 @@ pub record TakesAck (s : State) (slot : ℕ) (number : Seq) (s′ : State) : Typ
   pub tx-alone : TxAlone s s′
   pub rx-alone : RxAlone s s′
   pub acks-are : (k : ℕ) → waitingOf s′ k ≡ upd (waitingOf s) slot others k
-  pub queues : Queues s → Queues s′
 
 -- no ack waits for a new link
 pub record AddsLink (s : State) (slot : ℕ) (s′ : State) : Type 0 where
   pub tx-alone : TxAlone s s′
   pub rx-alone : RxAlone s s′
   pub acks-are : (k : ℕ) → waitingOf s′ k ≡ upd (waitingOf s) slot [] k
-  pub queues : Queues s → Queues s′
 
 pub record ReceivingLaws : Type 0 where
   pub receive-law : (s : State) (store : List ℕ) (slot n : ℕ) (m : Msg) → Whole s → n < 2 ^ 32
       → receiveOf s (length store) slot (m .kind) n (length (m .bytes)) .outcome ≡ outcomes.Done
       → Receives s store slot n m (receiveOf s (length store) slot (m .kind) n (length (m .bytes)) .state) (receiveStore s store slot (m .kind) n (m .bytes))
-  pub take-law : (s : State) (store : List ℕ) (kind : ReliableMsg) (number : Seq) (len : ℕ) → Whole s → length store ≡ 65536
+  pub take-law : (s : State) (store : List ℕ) (kind : ReliableMsg) (number : Seq) (len : ℕ) → Whole s → length store ≡ SENT_BYTES
       → takeOf s .answer ≡ handouts.Message kind number len → HandsOut s store kind (takeOf s .state)
   -- with nothing to take, none is ready
-  pub none-law : (s : State) (store : List ℕ) → Whole s → takeOf s .answer ≡ handouts.No (refuse 19) → takeOk (rx s store) ≡ false
+  pub none-law : (s : State) (store : List ℕ) → Whole s → takeOf s .answer ≡ handouts.No (refuse 19 tt) → takeOk (rx s store) ≡ false
   pub take-ack-law : (s : State) (slot : ℕ) (number : Seq) → Whole s → takeAckOf s slot .answer ≡ acks.Number number → TakesAck s slot number (takeAckOf s slot .state)
   pub add-law : (s : State) (id roundtrip : ℕ) (max : MaxPing) (blocked unconfirmed : Bool) (slot : ℕ) → Whole s
       → addOf s id roundtrip max blocked unconfirmed .answer ≡ adds.Slot slot → AddsLink s slot (addOf s id roundtrip max blocked unconfirmed .state)

@@ -3,17 +3,19 @@
 use mathlib.Core.Path.{_≡_}
 use mathlib.Core.Bool.{Bool, true, false, not, cond, _&&_, _||_}
 use mathlib.Core.List.{List, map}
-use Prim.Native.Nat.{ℕ, zero, suc, _+_, _%_}
+use Prim.Native.Nat.{ℕ, zero, suc, _+_}
 use lib.ListN.{length, getD, set}
 use lib.Dec.{leb, ltb, eqb}
 use Rattle.seq.specs.Numbers.{before}
 use Rattle.msg.specs.declared.reliable.ReliableMsg.{ReliableMsg}
 use Rattle.msg.specs.declared.reliable.ReliableMsg.the-variants as msgs
-use Rattle.engine_state.specs.declared.state.Held.{Held}
-use Rattle.engine_state.specs.declared.state.Held.the-variants.{Nothing, Message}
-use Rattle.engine_state.specs.declared.state.RxCell.{RxCell}
-use Rattle.engine_state.specs.Cells.{noCell, isFull}
-use Rattle.engine_cells.specs.Cells.{keptOf}
+use Rattle.engine.specs.declared.state.Held.{Held}
+use Rattle.engine.specs.declared.state.Held.the-variants.{Nothing, Message}
+use Rattle.engine.specs.declared.state.RxCell.{RxCell}
+use Rattle.engine.specs.Received.{noCell, isFull}
+use Rattle.engine.specs.Cells.{keptOf}
+use Rattle.engine.specs.Sizes.{PACKETS, CELLS, DATA_BYTES}
+use Rattle.engine.specs.Ring.{nextCell}
 use Rattle.ends.specs.World.{Msg}
 use Rattle.ends.specs.Demand.{noMsg}
 use Rattle.ends.specs.Wrap.{num, diff, cell}
@@ -55,7 +57,7 @@ heldAt r n = getD (r .cells) (cell n) noCell .held
 -- ---- Send
 
 abbrev pub sendOk : Msg → Tx → Bool
-sendOk m t = ltb (t .count) 64 && leb (length (m .bytes)) 1024
+sendOk m t = ltb (t .count) PACKETS && leb (length (m .bytes)) DATA_BYTES
 
 abbrev pub sent : ℕ → Msg → Tx → Tx
 sent slot m t = record {
@@ -124,7 +126,7 @@ marked slot n t = cond (inTable n t) (withCells (set (t .cells) (cell n) (settle
 -- of so many packets from a cell on, those left once Received ones are dropped from the front
 unfoldable pub swept : ℕ → ℕ → List Pkt → ℕ
 swept at zero cells = zero
-swept at (suc c) cells = cond (isReceived (getD cells at noPkt .status)) (swept ((at + 1) % 64) c cells) (suc c)
+swept at (suc c) cells = cond (isReceived (getD cells at noPkt .status)) (swept (nextCell PACKETS at) c cells) (suc c)
 
 abbrev pub sweep : Tx → Tx
 sweep t = record { next = t .next; count = swept (cell (diff (t .next) (t .count))) (t .count) (t .cells); cells = t .cells; store = t .store }
@@ -136,7 +138,7 @@ acked slot n t = sweep (marked slot n t)
 
 -- less than 64 past the oldest number
 abbrev pub near : ℕ → Rx → Bool
-near n r = ltb (diff n (r .oldest)) 64
+near n r = ltb (diff n (r .oldest)) CELLS
 
 -- "A number before the next expected, or already held"
 abbrev pub repeated : ℕ → Rx → Bool
@@ -168,7 +170,7 @@ stored n m r = record {
 }
 
 abbrev pub received : ℕ → Msg → Rx → Rx
-received n m r = advanced 64 (stored n m r)
+received n m r = advanced CELLS (stored n m r)
 
 -- ---- Hand out
 
@@ -198,7 +200,7 @@ abbrev pub emptied : Rx → Rx
 emptied r = record { expected = r .expected; oldest = r .oldest; cells = set (r .cells) (cell (r .oldest)) noCell; store = r .store }
 
 abbrev pub taken : Rx → Rx
-taken r = skipped 64 (passedBy (emptied r))
+taken r = skipped CELLS (passedBy (emptied r))
 
 -- ---- the same table
 

@@ -5,7 +5,8 @@ use mathlib.Core.Bool.{true, false}
 use mathlib.Core.List.{List, [], _∷_, _++_, List·Memᴰ}
 use Prim.Native.Nat.{ℕ, _+_, _-_, _<_}
 use lib.ListN.{length, replicate}
-use Rattle.engine_state.specs.Cells.{noCell}
+use Rattle.engine.specs.Received.{noCell}
+use Rattle.engine.specs.Sizes.{PACKETS, CELLS}
 use Rattle.ends.specs.World.{Msg, Packet, Ack}
 use Rattle.ends.specs.Wrap.{diff}
 use Rattle.ends.specs.Model.{Tx, Rx, noPkt, sendOk, sent, resendOk, resent, resentMsg, unconfirmed, acked, near, repeated, received, takeOk, answer, taken, Like}
@@ -23,10 +24,10 @@ pub record Way : Type 0 where
   pub acks : List Ack
 
 abbrev pub freshTx : ℕ → List ℕ → Tx
-freshTx start store = record { next = start; count = 0; cells = replicate 64 noPkt; store = store }
+freshTx start store = record { next = start; count = 0; cells = replicate PACKETS noPkt; store = store }
 
 abbrev pub freshRx : ℕ → List ℕ → Rx
-freshRx start store = record { expected = start; oldest = start; cells = replicate 64 noCell; store = store }
+freshRx start store = record { expected = start; oldest = start; cells = replicate CELLS noCell; store = store }
 
 abbrev pub freshWay : ℕ → List ℕ → List ℕ → Way
 freshWay start sent received = record { start = start; tx = freshTx start sent; rx = freshRx start received; given = []; out = []; accepted = []; msgs = []; acks = [] }

@@ -7,15 +7,15 @@ use native.Mathlib.Omega.{arith}
 use native.Mathlib.Decide.{decLe}
 use lib.ListN.{length, getD, List·getD-map}
 use Rattle.seq.specs.Numbers.{plus}
-use Rattle.refusal.specs.Verdicts.{false-true}
-use Rattle.engine_state.specs.declared.state.SentReliableStatus.{SentReliableStatus}
-use Rattle.engine_state.specs.declared.state.SentReliableStatus.the-variants as statuses
-use Rattle.engine_state.specs.declared.state.State.{State}
-use Rattle.engine_state.specs.declared.answer.Outcome.the-variants as outcomes
-use Rattle.engine_fresh.specs.Fresh.{freshOf}
-use Rattle.engine_state.specs.Packets.{noPacket}
-use Rattle.engine_state.specs.Table.{packetOf}
-use Rattle.engine_ack.specs.Ack.{ackOf}
+use Rattle.engine.specs.declared.state.SentReliableStatus.{SentReliableStatus}
+use Rattle.engine.specs.declared.state.SentReliableStatus.the-variants as statuses
+use Rattle.engine.specs.declared.state.State.{State}
+use Rattle.engine.specs.declared.answer.Outcome.the-variants as outcomes
+use Rattle.engine.specs.Starting.{freshOf}
+use Rattle.engine.specs.Packets.{noPacket}
+use Rattle.engine.specs.Table.{packetOf}
+use Rattle.engine.specs.Acking.{ackOf}
+use Rattle.engine.specs.Sizes.{SENT_BYTES, RECEIVED_BYTES}
 use Rattle.ends.specs.World.{Packet, Ack, End, World, swap, after, moved, Brought, BroughtAck, Timely, Call, Step, at-a, at-b, Run, here, _then_, Fresh, fresh, freshEnd, freshWorld}
 use Rattle.ends.specs.Demand.{Safe, Complete, AllOut, statusOf, SentOver, Returned, now, earlier, Drains, Demand3}
 use Rattle.ends.specs.Wrap.{num-cell}
@@ -28,9 +28,10 @@ use Rattle.ends.specs.Keeps.{keeps, keeps-all, fresh-kept, safe-kept, co
 use Rattle.ends.specs.Drains.{Done, done-move, done-moves, done-ack, all-done, moves-grow, acked-le}
 use Rattle.ends.specs.Views.{statusSeen, packetSeen, tx, Whole}
 use Rattle.ends.specs.Laws.{Laws}
-use Rattle.ends.specs.FreshSeen.{fresh-tx, fresh-rx, fresh-acks, fresh-queues}
+use Rattle.ends.specs.FreshSeen.{fresh-tx, fresh-rx, fresh-acks}
 use Rattle.ends.specs.Did.{Did, did, whole-after, other-end}
 use Rattle.ends.specs.Halves.{half, Owes, Goes, sender, receiver}
+use Rattle.refusal.specs.Tests.{false-true}
 
 -- ---- what is seen of a packet's status
 
@@ -41,7 +42,7 @@ packet-seen s store start i =
     ∙ ap (λ (k : ℕ). statusSeen (getD (s .tx .«txed_packets») k noPacket .status)) (sym (num-cell start i))
 
 sent-over : (st : SentReliableStatus) (slot : ℕ) → SentOver st slot → statusSeen st ≡ SentOn slot
-sent-over (statuses.Sent time flushed on link) slot h = ap SentOn h
+sent-over (statuses.Sent flight) slot h = ap SentOn h
 sent-over statuses.Received slot h = absurd h
 sent-over (statuses.ResendQueued link) slot h = absurd h
 
@@ -110,7 +111,7 @@ module _ (L : Laws) where
 
   -- ---- fresh ends
 
-  fresh-side : (s x y : ℕ) (sa ra sb rb : List ℕ) → s < 2 ^ 32 → length sa ≡ 65536 → length rb ≡ 65536
+  fresh-side : (s x y : ℕ) (sa ra sb rb : List ℕ) → s < 2 ^ 32 → length sa ≡ SENT_BYTES → length rb ≡ RECEIVED_BYTES
       → Side (freshWorld s (freshEnd s x sa ra) (freshEnd s y sb rb))
   unfolding half
   fresh-side s x y sa ra sb rb s32 la lb = record {
@@ -129,7 +130,7 @@ module _ (L : Laws) where
   }
 
   fresh-whole : (s x : ℕ) → s < 2 ^ 32 → freshOf s x .outcome ≡ outcomes.Done → Whole (freshOf s x .state)
-  fresh-whole s x s32 h = let both = L .sounding .fresh-sound s x s32 h in record { shaped = both .0; sound = both .1; queues = fresh-queues s x }
+  fresh-whole s x s32 h = let both = L .sounding .fresh-sound s x s32 h in record { shaped = both .0; sound = both .1 }
 
   joined-fresh : {U : World} → Fresh U → Joined U
   joined-fresh (fresh s x y sa ra sb rb s32 hx hy l₁ l₂ l₃ l₄) = record {

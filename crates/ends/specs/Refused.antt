@@ -11,29 +11,28 @@ use Rattle.refusal.specs.declared.verdict.Verdict.{Verdict}
 use Rattle.refusal.specs.declared.verdict.Verdict.the-variants as verdicts
 use Rattle.link.specs.declared.row.MaxPing.{MaxPing}
 use Rattle.link.specs.Row.{emptyRow, freshRow}
-use Rattle.engine_state.specs.declared.state.State.{State}
-use Rattle.engine_state.specs.declared.answer.Outcome.the-variants as outcomes
-use Rattle.engine_state.specs.Answer.{changedBy}
-use Rattle.engine_state.specs.Stores.{storeBy, cellStart, placed}
-use Rattle.engine_state.specs.Gates.{slotVerdict}
-use Rattle.engine_state.specs.Rows.{withRow}
-use Rattle.engine_add.specs.declared.add.AddAnswer.the-variants as adds
-use Rattle.engine_add.specs.Add.{addOf, addedBy, addVerdict, lowestIn}
-use Rattle.engine_unconfirm.specs.Unconfirm.{unconfirmedState, unconfirmOf, removeOf}
-use Rattle.engine_send.specs.declared.send.SendAnswer.the-variants as sends
-use Rattle.engine_resend.specs.declared.resend.ResendAnswer.the-variants as resends
-use Rattle.engine_send.specs.Send.{sendOf, sendStore, sentBy, sentState, sendVerdict}
-use Rattle.engine_resend.specs.Resend.{resendOf, resentBy, resentState, resendVerdict}
-use Rattle.engine_ack.specs.Ack.{ackOf, ackVerdict, ackedState}
-use Rattle.engine_receive.specs.Receive.{receiveOf, receiveStore, receiveVerdict, repeatedState, receivedState}
-use Rattle.engine_cells.specs.Cells.{isRepeat}
-use Rattle.engine_handout.specs.declared.ready.HandOut.{HandOut}
-use Rattle.engine_handout.specs.declared.ready.HandOut.the-variants as handouts
-use Rattle.engine_acks.specs.declared.acks.TakeAck.{TakeAck}
-use Rattle.engine_acks.specs.declared.acks.TakeAck.the-variants as acks
-use Rattle.engine_handout.specs.Ready.{handOutBy}
-use Rattle.engine_handout.specs.Take.{takeOf, takenBy, takeVerdict}
-use Rattle.engine_acks.specs.Acks.{takeAckOf, takenAckBy, ackAnswer}
+use Rattle.engine.specs.declared.state.State.{State}
+use Rattle.engine.specs.declared.answer.Outcome.the-variants as outcomes
+use Rattle.engine.specs.Answer.{changedBy}
+use Rattle.engine.specs.Stores.{storeBy, cellStart, copied}
+use Rattle.engine.specs.Gates.{slotVerdict}
+use Rattle.engine.specs.declared.links.AddAnswer.the-variants as adds
+use Rattle.engine.specs.Links.{addOf, addedBy, addVerdict, lowestIn}
+use Rattle.engine.specs.Unconfirming.{unconfirmedState, unconfirmOf, removeOf}
+use Rattle.engine.specs.declared.sending.SendAnswer.the-variants as sends
+use Rattle.engine.specs.declared.resending.ResendAnswer.the-variants as resends
+use Rattle.engine.specs.Sending.{sendOf, sendStore, sentBy, sentState, sendVerdict}
+use Rattle.engine.specs.Resending.{resendOf, resentBy, resentState, resendVerdict}
+use Rattle.engine.specs.Acking.{ackOf, ackVerdict, ackedState}
+use Rattle.engine.specs.Receiving.{receiveOf, receiveStore, receiveVerdict, repeatedState, receivedState}
+use Rattle.engine.specs.Cells.{isRepeat}
+use Rattle.engine.specs.declared.handing_out.HandOut.{HandOut}
+use Rattle.engine.specs.declared.handing_out.HandOut.the-variants as handouts
+use Rattle.engine.specs.declared.handing_out.TakeAck.{TakeAck}
+use Rattle.engine.specs.declared.handing_out.TakeAck.the-variants as acks
+use Rattle.engine.specs.HandingOut.{handOutBy, takeOf, takenBy, takeVerdict, takeAckOf, takenAckBy, ackAnswer}
+use Rattle.engine.specs.Sizes.{CELLS, PACKETS}
+use Rattle.engine.specs.Fields.{withRow}
 
 clash : {A : Type 0} → _≡_ {A = ℕ} 0 1 → A
 clash z = absurd (omega arith)
@@ -111,12 +110,12 @@ module _ (s : State) (e : Refusal) where
   send-no store slot time kind bytes h =
       let v = sendVerdict s (length store) slot time kind (length bytes) in
       let next = sentState s slot time kind (length bytes) in
-      (sent-no v s next e h, sent-store-no v s next e store (placed store (cellStart (s .tx .«tx_seq» .0)) bytes) h)
+      (sent-no v s next e h, sent-store-no v s next e store (copied store (cellStart PACKETS (s .tx .«tx_seq» .0)) bytes) h)
 
   pub receive-no : (store : List ℕ) (slot : ℕ) (kind : ReliableMsg) (n : ℕ) (bytes : List ℕ) → receiveOf s (length store) slot kind n (length bytes) .outcome ≡ outcomes.No e
       → (receiveOf s (length store) slot kind n (length bytes) .state ≡ s) × (receiveStore s store slot kind n bytes ≡ store)
   unfolding receiveOf receiveStore
   receive-no store slot kind n bytes h =
       let v = receiveVerdict s (length store) slot kind n (length bytes) in
-      let next = cond (isRepeat 64 (s .rx) n) (repeatedState s slot n) (receivedState s slot kind n (length bytes)) in
-      (changed-no v s next e h, store-no v s next e store (cond (isRepeat 64 (s .rx) n) store (placed store (cellStart n) bytes)) h)
+      let next = cond (isRepeat CELLS (s .rx) n) (repeatedState s slot n) (receivedState s slot kind n (length bytes)) in
+      (changed-no v s next e h, store-no v s next e store (cond (isRepeat CELLS (s .rx) n) store (copied store (cellStart CELLS n) bytes)) h)

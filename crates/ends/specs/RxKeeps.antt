@@ -9,8 +9,8 @@ use native.Mathlib.Decide.{ℕ-discrete}
 use lib.ListN.{length}
 use borrow.Author.Tests.{ltb-true, eqb-false, not-true}
 use Rattle.seq.specs.Numbers.{before}
-use Rattle.refusal.specs.Verdicts.{split, false-true}
-use Rattle.engine_state.specs.Cells.{isFull}
+use Rattle.engine.specs.Received.{isFull}
+use Rattle.engine.specs.Sizes.{CELLS}
 use Rattle.ends.specs.World.{Msg, Packet, Ack}
 use Rattle.ends.specs.Wrap.{diff, cell, before-true, before-false}
 use Rattle.ends.specs.Model.{Rx, heldAt, near, repeated, stored, received, takeOk, answer}
@@ -19,6 +19,7 @@ use Rattle.ends.specs.Inv.{pos, at, RxI, Has, PacketIs, AckIs, Inv}
 use Rattle.ends.specs.RxLaws.{rx-store, store-has, store-mono, store-back}
 use Rattle.ends.specs.RxPass.{advance, Advanced}
 use Rattle.ends.specs.RxTake.{take-one, Taken}
+use Rattle.refusal.specs.Tests.{split, false-true}
 
 -- the invariant, at some counts
 pub record Kept (w : Way) : Type 0 where
@@ -45,7 +46,7 @@ module _ (w : Way) (e o : ℕ) (i : Inv w e o) (p : Packet) (p-is : PacketIs (w 
   x₄ = p .index
 
   -- the sending end is at most 64 ahead of the next expected number
-  ahead : length G₄ ≤ e + 64
+  ahead : length G₄ ≤ e + CELLS
   ahead = omega (arith, i .tight, i .txi .room)
 
   -- "A number before the next expected": the comparison of wrapped numbers tells old from new
@@ -55,8 +56,8 @@ module _ (w : Way) (e o : ℕ) (i : Inv w e o) (p : Packet) (p-is : PacketIs (w 
   new-is : before n₄ (r₄ .expected) ≡ false → e ≤ x₄
   new-is h = omega (arith, before-false n₄ (r₄ .expected) h, p-is .number-is, i .rxi .exp-is, timely, p-is .inside, i .rxi .en, ahead)
 
-  window-is : e ≤ x₄ → near n₄ r₄ ≡ true → x₄ < o + 64
-  window-is q h = omega (arith, ltb-true (diff n₄ (r₄ .oldest)) 64 h, p-is .number-is, i .rxi .old-is, p-is .inside, i .rxi .oe, i .rxi .eo, ahead)
+  window-is : e ≤ x₄ → near n₄ r₄ ≡ true → x₄ < o + CELLS
+  window-is q h = omega (arith, ltb-true (diff n₄ (r₄ .oldest)) CELLS h, p-is .number-is, i .rxi .old-is, p-is .inside, i .rxi .oe, i .rxi .eo, ahead)
 
   k₄ : cell n₄ ≡ pos s₄ x₄
   k₄ = omega (arith, p-is .number-is)
@@ -82,7 +83,7 @@ module _ (w : Way) (e o : ℕ) (i : Inv w e o) (p : Packet) (p-is : PacketIs (w 
       up a (inr h) = i .acks-ok a h
 
   -- accepted for the first time
-  module _ (ex : e ≤ x₄) (xo : x₄ < o + 64) where
+  module _ (ex : e ≤ x₄) (xo : x₄ < o + CELLS) where
     abbrev r₅ : Rx
     r₅ = stored n₄ (p .msg) r₄
 
@@ -90,7 +91,7 @@ module _ (w : Way) (e o : ℕ) (i : Inv w e o) (p : Packet) (p-is : PacketIs (w 
     stored-i = rx-store s₄ G₄ r₄ e o (i .rxi) (i .small) n₄ x₄ (p .msg) (p-is .number-is) (p-is .msg-is) ex xo (p-is .inside)
 
     adv : Advanced s₄ G₄ r₅ e o (received n₄ (p .msg) r₄)
-    adv = advance 64 s₄ G₄ r₅ e o stored-i (i .rest .first) ahead
+    adv = advance CELLS s₄ G₄ r₅ e o stored-i (i .rest .first) ahead
 
     now-has : (j : ℕ) → Has s₄ r₄ e o j → Has s₄ (received n₄ (p .msg) r₄) (adv .e′) (adv .o′) j
     now-has j h = adv .moved .mono j (store-mono s₄ G₄ r₄ e o (i .rxi) (i .small) n₄ x₄ (p .msg) (p-is .number-is) (p-is .msg-is) ex xo (p-is .inside) j h)

@@ -9,10 +9,11 @@ use native.Mathlib.Numerals.{add-one}
 use native.Mathlib.Decide.{decLt, ℕ-discrete}
 use lib.ListN.{length, getD, set, take, length-set}
 use lib.Seq.{take-suc}
-use Rattle.engine_state.specs.declared.state.Held.{Held}
-use Rattle.engine_state.specs.declared.state.Held.the-variants.{Message}
-use Rattle.engine_state.specs.declared.state.RxCell.{RxCell}
-use Rattle.engine_state.specs.Cells.{noCell, isFull, isReadyKind}
+use Rattle.engine.specs.declared.state.Held.{Held}
+use Rattle.engine.specs.declared.state.Held.the-variants.{Message}
+use Rattle.engine.specs.declared.state.RxCell.{RxCell}
+use Rattle.engine.specs.Received.{noCell, isFull, isReadyKind}
+use Rattle.engine.specs.Sizes.{CELLS, DATA_BYTES}
 use Rattle.ends.specs.World.{Msg}
 use Rattle.ends.specs.Demand.{noMsg, handed}
 use Rattle.ends.specs.Wrap.{num, cell}
@@ -99,24 +100,24 @@ First G e o = o < e → isReadyKind (at G o .kind) ≡ true
 
 -- ---- a new message is stored
 
-module _ (s : ℕ) (G : List Msg) (r : Rx) (e o : ℕ) (i : RxI s G r e o) (small : (j : ℕ) → j < length G → length (at G j .bytes) ≤ 1024)
-    (n x : ℕ) (m : Msg) (n-is : n ≡ num s x) (m-is : m ≡ at G x) (ex : e ≤ x) (xo : x < o + 64) (xN : x < length G) where
+module _ (s : ℕ) (G : List Msg) (r : Rx) (e o : ℕ) (i : RxI s G r e o) (small : (j : ℕ) → j < length G → length (at G j .bytes) ≤ DATA_BYTES)
+    (n x : ℕ) (m : Msg) (n-is : n ≡ num s x) (m-is : m ≡ at G x) (ex : e ≤ x) (xo : x < o + CELLS) (xN : x < length G) where
   store-k : cell n ≡ pos s x
   store-k = omega (arith, n-is)
 
-  fits : length (m .bytes) ≤ 1024
+  fits : length (m .bytes) ≤ DATA_BYTES
   fits = rw m-is (small x xN)
 
   store-hit : (j : ℕ) → j ≡ x → heldOf (stored n m r) (pos s j) ≡ Message (m .kind) (length (m .bytes))
   store-hit j h = hit-held (r .cells) (cell n) (pos s j) _ (omega (arith, i .rcells)) (omega (arith, store-k))
 
-  store-far : (j : ℕ) → o ≤ j → j < o + 64 → j ≢ x → pos s j ≢ cell n
+  store-far : (j : ℕ) → o ≤ j → j < o + CELLS → j ≢ x → pos s j ≢ cell n
   store-far j p q ne h = omega (arith, store-k, i .oe)
 
-  store-miss : (j : ℕ) → o ≤ j → j < o + 64 → j ≢ x → heldOf (stored n m r) (pos s j) ≡ heldOf r (pos s j)
+  store-miss : (j : ℕ) → o ≤ j → j < o + CELLS → j ≢ x → heldOf (stored n m r) (pos s j) ≡ heldOf r (pos s j)
   store-miss j p q ne = miss-held (r .cells) (cell n) (pos s j) _ (store-far j p q ne)
 
-  store-held : (j : ℕ) → o ≤ j → j < o + 64 → isFull (heldOf (stored n m r) (pos s j)) ≡ true → Dec (j ≡ x) → (j < length G) × HeldIs (stored n m r) (pos s j) (at G j)
+  store-held : (j : ℕ) → o ≤ j → j < o + CELLS → isFull (heldOf (stored n m r) (pos s j)) ≡ true → Dec (j ≡ x) → (j < length G) × HeldIs (stored n m r) (pos s j) (at G j)
   store-held j p q h (yes y) = (
     omega arith,
     rw (ap (at G) y ∙ sym m-is) (record {
@@ -182,7 +183,7 @@ move-oldest s G r e o i oe free = record {
     en = i .en;
     rcells = i .rcells;
     rstore = i .rstore;
-    held = λ j p q h. older j p q h (decLt j (o + 64));
+    held = λ j p q h. older j p q h (decLt j (o + CELLS));
     ready = λ j p q. i .ready j (omega arith) q;
   };
   grows = omega arith;
@@ -191,7 +192,7 @@ move-oldest s G r e o i oe free = record {
   same-out = handed-skip G o (omega (arith, i .en)) (sym (i .ready o (omega arith) oe) ∙ free);
 }
   where
-    older : (j : ℕ) → o + 1 ≤ j → j < o + 1 + 64 → isFull (heldOf r (pos s j)) ≡ true → Dec (j < o + 64) → (j < length G) × HeldIs r (pos s j) (at G j)
+    older : (j : ℕ) → o + 1 ≤ j → j < o + 1 + CELLS → isFull (heldOf r (pos s j)) ≡ true → Dec (j < o + CELLS) → (j < length G) × HeldIs r (pos s j) (at G j)
     older j p q h (yes y) = i .held j (omega arith) y h
     older j p q h (no y) = clash (sym h ∙ ap (λ (k : ℕ). isFull (heldOf r k)) same ∙ free)
       where
@@ -204,9 +205,9 @@ move-oldest s G r e o i oe free = record {
 
     less : (j : ℕ) → Has s (passedBy r) e (o + 1) j → Has s r e o j
     less j (inl p) = inl p
-    less j (inr h) = go (decLt j (o + 64))
+    less j (inr h) = go (decLt j (o + CELLS))
       where
-        go : Dec (j < o + 64) → Has s r e o j
+        go : Dec (j < o + CELLS) → Has s r e o j
         go (yes y) = inr (h .0, y, h .2)
         go (no y) = clash (sym (h .2) ∙ ap (λ (k : ℕ). isFull (heldOf r k)) same ∙ free)
           where

@@ -3,16 +3,17 @@
 use mathlib.Core.Path.{_≡_, refl, sym, ap, subst, _∙_}
 use mathlib.Core.Bool.{Bool, _&&_}
 use mathlib.Core.List.{_∷_, map}
-use Prim.Native.Nat.{ℕ, _^_, _≤_, _<_}
+use Prim.Native.Nat.{ℕ, _≤_, _<_}
 use native.Mathlib.Omega.{arith}
 use lib.Dec.{eqb, leb, ltb}
 use lib.ListN.{getD}
 use borrow.Author.Tests.{eqb-false, ltb-true}
+use borrow.Table.Steps.{cases}
 use Rattle.seq.specs.declared.Seq.{Seq}
 use Rattle.seq.specs.Numbers.{seqOf}
 use Rattle.refusal.specs.declared.verdict.Verdict.{Verdict}
 use Rattle.refusal.specs.declared.verdict.Verdict.the-variants as verdicts
-use Rattle.refusal.specs.Verdicts.{gate-pass, by-test}
+use Rattle.refusal.specs.Verdicts.{gate-pass}
 use Rattle.link.specs.declared.row.LinkRow.{LinkRow}
 use Rattle.link.specs.declared.row.MaxPing.{MaxPing}
 use Rattle.link.specs.declared.row.Limit.the-variants.{At}
@@ -21,23 +22,25 @@ use Rattle.link.specs.declared.acks.OldestAck.the-variants as oldest
 use Rattle.link.specs.Row.{freshRow, confirmed, blockedRow}
 use Rattle.link.specs.Limit.{markedRow}
 use Rattle.link.specs.Roundtrip.{pinged, ponged}
-use Rattle.link.specs.Sizes.{maxPingWithin}
+use Rattle.link.specs.Sizes.{maxPingWithin, MAX_TIME, ACKS}
 use Rattle.link.specs.Acks.{waiting, oldestAck, ackTaken}
-use Rattle.engine_state.specs.declared.state.State.{State}
-use Rattle.engine_state.specs.Answer.{changedBy}
-use Rattle.engine_state.specs.Decide.{soundb}
-use Rattle.engine_state.specs.Gates.{slotVerdict, timedVerdict}
-use Rattle.engine_state.specs.Rows.{rowOf, row-of, withRow, withTime}
-use Rattle.engine_add.specs.declared.add.AddAnswer.the-variants as adds
-use Rattle.engine_add.specs.Add.{lowestIn, addVerdict, addedBy, addOf}
-use Rattle.engine_links.specs.Changes.{confirmOf, blockOf, markOf, pingOf, pongOf}
-use Rattle.engine_acks.specs.declared.acks.TakeAck.the-variants as acks
-use Rattle.engine_acks.specs.Acks.{ackAs, ackAnswer, takenAckState, takenAckBy, takeAckOf}
+use Rattle.engine.specs.declared.state.State.{State}
+use Rattle.engine.specs.Answer.{changedBy}
+use Rattle.engine.specs.Decide.{soundb}
+use Rattle.engine.specs.Gates.{slotVerdict, timedVerdict}
+use Rattle.engine.specs.Rows.{rowOf, row-of}
+use Rattle.engine.specs.declared.links.AddAnswer.the-variants as adds
+use Rattle.engine.specs.Links.{lowestIn, addVerdict, addedBy, addOf, confirmOf, blockOf, markOf, pingOf, pongOf}
+use Rattle.engine.specs.declared.handing_out.TakeAck.the-variants as acks
+use Rattle.engine.specs.HandingOut.{ackAs, ackAnswer, takenAckState, takenAckBy, takeAckOf}
+use Rattle.engine.specs.Fields.{withRow, withTime}
+use Rattle.engine.specs.Sizes.{SLOTS}
+use Rattle.laws.specs.RowAcks.{SameAcks, confirm-acks, block-acks, mark-acks, ping-acks, pong-acks, row-full}
 use Rattle.laws.specs.Passed.{changed-keeps, slot-passed, timed-passed}
 use Rattle.ends.specs.Views.{valueOf, tx, Whole, Alone}
 use Rattle.ends.specs.Laws.{TakesAck, AddsLink, ReceivingLaws}
-use Rattle.ends.specs.AcksSeen.{SameAcks, confirm-acks, block-acks, mark-acks, ping-acks, pong-acks, acks-set, acks-same, queues-set, queues-same}
-use Rattle.ends.specs.RxSteps.{row-full, like-self, taken-waiting, taken-length}
+use Rattle.ends.specs.AcksSeen.{acks-set, acks-same}
+use Rattle.ends.specs.RxSteps.{like-self, taken-waiting}
 use Rattle.ends.specs.RxOfTable.{receive-law, take-law, none-law}
 
 -- ---- taking an ack
@@ -60,7 +63,7 @@ record FirstAck (r : LinkRow) (number : Seq) : Type 0 where
 first-ack : (r : LinkRow) (number : Seq) → oldestAck r ≡ oldest.Number number → FirstAck r number
 unfolding oldestAck
 first-ack r number e =
-    by-test (eqb (r .«ack_count») 0)
+    cases (eqb (r .«ack_count») 0)
     (λ t. let f : oldest.Nothing ≡ oldest.Number number = simp t at e in let z : _≡_ {A = ℕ} 0 1 = cc in absurd (omega arith))
     (λ t.
     let f : oldest.Number (getD (r .«tx_ack_queue») 0 (seqOf 0)) ≡ oldest.Number number = simp t at e in
@@ -76,19 +79,18 @@ take-ack-law s slot number whole e =
     let h = ack-handed (slotVerdict s slot) (oldestAck r) number e in
     let small = slot-passed s slot (h .passed) .0 in
     let f = first-ack r number (h .first) in
-    let eight = whole .shaped .links-eight in
-    let few : r .«ack_count» ≤ 64 = rw (row-of s slot small) (whole .sound .ack-count slot small) in
+    let eight = whole .shaped .links-full in
+    let few : r .«ack_count» ≤ ACKS = rw (row-of s slot small) (whole .sound .ack-count slot small) in
     let next = withRow s slot (ackTaken r) in
     subst (λ a. TakesAck s slot number (takenAckBy a s slot)) (sym e)
     (record {
       others = map valueOf (waiting (ackTaken r));
       acks-were =
-          ap (map valueOf) (taken-waiting r (row-full s slot (whole .queues) small) (f .some) few)
+          ap (map valueOf) (taken-waiting r (row-full s slot (whole .shaped)) (f .some) few)
           ∙ ap (λ (q : Seq). q .0 ∷ map valueOf (waiting (ackTaken r))) (f .first);
       tx-alone = λ st. like-self (tx s st);
       rx-alone = λ st. refl;
       acks-are = acks-set s next slot (ackTaken r) eight small refl;
-      queues = λ q. queues-set s next slot (ackTaken r) eight small refl (taken-length r (row-full s slot q small) (f .some)) q;
     })
 
 -- ---- links
@@ -101,13 +103,13 @@ add-passed : (v : Verdict) (at slot : ℕ) (s next : State) → addedBy v at s n
 add-passed verdicts.Pass at slot s next e = record { passed = refl; here = cc }
 add-passed (verdicts.No r) at slot s next e = let z : _≡_ {A = ℕ} 0 1 = cc in absurd (omega arith)
 
-lowest-small : (s : State) (slot id roundtrip : ℕ) (max : MaxPing) → addVerdict s slot id roundtrip max ≡ verdicts.Pass → slot < 8
+lowest-small : (s : State) (slot id roundtrip : ℕ) (max : MaxPing) → addVerdict s slot id roundtrip max ≡ verdicts.Pass → slot < SLOTS
 unfolding addVerdict
 lowest-small s slot id roundtrip max v =
     let one = gate-pass (soundb s) _ _ v in
-    let three = gate-pass (leb roundtrip (2 ^ 56) && maxPingWithin max) _ _ (one .1) in
-    let five = gate-pass (ltb slot 8) _ _ (three .1) in
-    ltb-true slot 8 (five .0)
+    let three = gate-pass (leb roundtrip MAX_TIME && maxPingWithin max) _ _ (one .1) in
+    let five = gate-pass (ltb slot SLOTS) _ _ (three .1) in
+    ltb-true slot SLOTS (five .0)
 
 pub add-law : (s : State) (id roundtrip : ℕ) (max : MaxPing) (blocked unconfirmed : Bool) (slot : ℕ) → Whole s
     → addOf s id roundtrip max blocked unconfirmed .answer ≡ adds.Slot slot → AddsLink s slot (addOf s id roundtrip max blocked unconfirmed .state)
@@ -119,30 +121,28 @@ add-law s id roundtrip max blocked unconfirmed slot whole e =
     let next = withRow s at new in
     let h = add-passed v at slot s next e in
     let small = lowest-small s at id roundtrip max (h .passed) in
-    let eight = whole .shaped .links-eight in
+    let eight = whole .shaped .links-full in
     subst (λ (k : ℕ). AddsLink s k (addedBy v at s next .state)) (h .here)
     (subst (λ (w : Verdict). AddsLink s at (addedBy w at s next .state)) (sym (h .passed))
     (record {
       tx-alone = λ st. like-self (tx s st);
       rx-alone = λ st. refl;
       acks-are = acks-set s next at new eight small refl;
-      queues = queues-set s next at new eight small refl refl;
     }))
 
 -- ---- plain changes of a row
 
 alone-self : (s : State) → Alone s s
-alone-self s = record { tx-alone = λ st. like-self (tx s st); rx-alone = λ st. refl; acks-alone = λ k. refl; queues = λ q. q }
+alone-self s = record { tx-alone = λ st. like-self (tx s st); rx-alone = λ st. refl; acks-alone = λ k. refl }
 
 module _ (s : State) (slot : ℕ) (whole : Whole s) (row : LinkRow) (same : SameAcks row (rowOf s slot)) where
-  row-alone : (time : ℕ) → slot < 8 → Alone s (withTime (withRow s slot row) time)
+  row-alone : (time : ℕ) → slot < SLOTS → Alone s (withTime (withRow s slot row) time)
   row-alone time small =
       let next = withTime (withRow s slot row) time in
       record {
         tx-alone = λ st. like-self (tx s st);
         rx-alone = λ st. refl;
-        acks-alone = acks-same s next slot row (whole .shaped .links-eight) small refl same;
-        queues = queues-same s next slot row (whole .shaped .links-eight) small refl same;
+        acks-alone = acks-same s next slot row (whole .shaped .links-full) small refl same;
       }
 
   plain-alone : Alone s (changedBy (slotVerdict s slot) s (withRow s slot row) .state)

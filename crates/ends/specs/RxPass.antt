@@ -10,18 +10,18 @@ use lib.ListN.{length, set, length-set}
 use lib.Seq.{set-getD}
 use lib.Dec.{ltb, eqb}
 use borrow.Author.Tests.{ltb-true, eqb-true, eqb-false, lt-ltb}
-use Rattle.refusal.specs.Verdicts.{split}
-use Rattle.engine_state.specs.declared.state.Held.{Held}
-use Rattle.engine_state.specs.declared.state.Held.the-variants.{Nothing, Message}
-use Rattle.engine_state.specs.declared.state.RxCell.{RxCell}
-use Rattle.engine_state.specs.Cells.{noCell, isFull, isReadyKind}
-use Rattle.engine_cells.specs.Cells.{keptOf}
+use Rattle.engine.specs.declared.state.Held.{Held}
+use Rattle.engine.specs.declared.state.Held.the-variants.{Nothing, Message}
+use Rattle.engine.specs.declared.state.RxCell.{RxCell}
+use Rattle.engine.specs.Received.{noCell, isFull, isReadyKind}
+use Rattle.engine.specs.Cells.{keptOf}
+use Rattle.engine.specs.Sizes.{CELLS}
 use Rattle.ends.specs.World.{Msg}
-use Rattle.ends.specs.Demand.{handed}
 use Rattle.ends.specs.Wrap.{num, diff, cell}
-use Rattle.ends.specs.Model.{Rx, heldAt, canAdvance, passed, advanced, emptied}
+use Rattle.ends.specs.Model.{Rx, heldAt, canAdvance, passed, advanced}
 use Rattle.ends.specs.Inv.{pos, at, heldOf, HeldIs, RxI, Rest, Has}
 use Rattle.ends.specs.RxLaws.{hit-held, miss-held, and-false, clash, Moved, moved-refl, moved-trans, First, move-oldest}
+use Rattle.refusal.specs.Tests.{split}
 
 -- ---- one step of the next expected number
 
@@ -31,11 +31,11 @@ pub record Passed (s : ℕ) (G : List Msg) (r : Rx) (e o : ℕ) (r′ : Rx) : Ty
   pub first′ : First G (e + 1) o′
 
 module _ (s : ℕ) (G : List Msg) (r : Rx) (e o : ℕ) (i : RxI s G r e o) (fst : First G e o) (go? : canAdvance r ≡ true) where
-  tests : (ltb (diff (r .expected) (r .oldest)) 64 ≡ true) × (isFull (heldAt r (r .expected)) ≡ true)
-  tests = split (ltb (diff (r .expected) (r .oldest)) 64) (isFull (heldAt r (r .expected))) go?
+  tests : (ltb (diff (r .expected) (r .oldest)) CELLS ≡ true) × (isFull (heldAt r (r .expected)) ≡ true)
+  tests = split (ltb (diff (r .expected) (r .oldest)) CELLS) (isFull (heldAt r (r .expected))) go?
 
-  pass-gap : e < o + 64
-  pass-gap = omega (arith, ltb-true (diff (r .expected) (r .oldest)) 64 (tests .0), i .exp-is, i .old-is, i .oe, i .eo)
+  pass-gap : e < o + CELLS
+  pass-gap = omega (arith, ltb-true (diff (r .expected) (r .oldest)) CELLS (tests .0), i .exp-is, i .old-is, i .oe, i .eo)
 
   pass-k : cell (r .expected) ≡ pos s e
   pass-k = omega (arith, i .exp-is)
@@ -77,7 +77,7 @@ module _ (s : ℕ) (G : List Msg) (r : Rx) (e o : ℕ) (i : RxI s G r e o) (fst 
     first′ = λ p. firstly (ℕ-discrete o e) p;
   }
     where
-      pass-gap′ : e + 1 ≤ o + 64
+      pass-gap′ : e + 1 ≤ o + CELLS
       pass-gap′ = omega (arith, pass-gap)
 
       inN : e + 1 ≤ length G
@@ -118,7 +118,7 @@ module _ (s : ℕ) (G : List Msg) (r : Rx) (e o : ℕ) (i : RxI s G r e o) (fst 
   unfolding dropped
   drop-hit j y = hit-held (r .cells) (cell (r .expected)) (pos s j) _ (omega (arith, i .rcells)) (omega (arith, pass-k))
 
-  drop-miss : (j : ℕ) → o ≤ j → j < o + 64 → j ≢ e → heldOf dropped (pos s j) ≡ heldOf r (pos s j)
+  drop-miss : (j : ℕ) → o ≤ j → j < o + CELLS → j ≢ e → heldOf dropped (pos s j) ≡ heldOf r (pos s j)
   unfolding dropped
   drop-miss j p q ne = miss-held (r .cells) (cell (r .expected)) (pos s j) _ (λ y. omega (arith, y, pass-k, pass-gap, i .oe))
 
@@ -142,7 +142,7 @@ module _ (s : ℕ) (G : List Msg) (r : Rx) (e o : ℕ) (i : RxI s G r e o) (fst 
     same-out = refl;
   }
     where
-      heldly : (j : ℕ) → o ≤ j → j < o + 64 → isFull (heldOf dropped (pos s j)) ≡ true → Dec (j ≡ e) → (j < length G) × HeldIs dropped (pos s j) (at G j)
+      heldly : (j : ℕ) → o ≤ j → j < o + CELLS → isFull (heldOf dropped (pos s j)) ≡ true → Dec (j ≡ e) → (j < length G) × HeldIs dropped (pos s j) (at G j)
       heldly j p q h (yes y) = clash (sym h ∙ ap isFull (drop-hit j y))
       heldly j p q h (no y) = let old = i .held j p q (sym (ap isFull (drop-miss j p q y)) ∙ h) in
           (old .0, record { cell-is = drop-miss j p q y ∙ old .1 .cell-is; bytes-is = old .1 .bytes-is })
@@ -227,7 +227,7 @@ pub advance : (f : ℕ) (s : ℕ) (G : List Msg) (r : Rx) (e o : ℕ) → RxI s 
 unfolding advanced
 advance zero s G r e o i fst h = record { e′ = e; o′ = o; moved = moved-refl i; rest = record { first = fst; stuck = λ p. none p (isFull (heldOf r (pos s e))) refl } }
   where
-    none : e < o + 64 → (b : Bool) → isFull (heldOf r (pos s e)) ≡ b → b ≡ false
+    none : e < o + CELLS → (b : Bool) → isFull (heldOf r (pos s e)) ≡ b → b ≡ false
     none p true q = absurd (omega (arith, i .held e (i .oe) p q .0))
     none p false q = refl
 advance (suc f) s G r e o i fst h = go (canAdvance r) refl (λ (r′ : Rx) (o′ : ℕ) (i′ : RxI s G r′ (e + 1) o′) (fst′ : First G (e + 1) o′). advance f s G r′ (e + 1) o′ i′ fst′ (omega arith))
@@ -243,8 +243,8 @@ advance (suc f) s G r e o i fst h = go (canAdvance r) refl (λ (r′ : Rx) (o′
         next = below (passed r) (one .o′) (one .moved .rxi) (one .first′)
     go false q below = record { e′ = e; o′ = o; moved = moved-refl i; rest = record { first = fst; stuck = stop } }
       where
-        stop : e < o + 64 → isFull (heldOf r (pos s e)) ≡ false
-        stop p = rw (omega-k) (and-false (ltb (diff (r .expected) (r .oldest)) 64) (isFull (heldAt r (r .expected))) q (lt-ltb (diff (r .expected) (r .oldest)) 64 (omega (arith, i .exp-is, i .old-is, i .oe))))
+        stop : e < o + CELLS → isFull (heldOf r (pos s e)) ≡ false
+        stop p = rw (omega-k) (and-false (ltb (diff (r .expected) (r .oldest)) CELLS) (isFull (heldAt r (r .expected))) q (lt-ltb (diff (r .expected) (r .oldest)) CELLS (omega (arith, i .exp-is, i .old-is, i .oe))))
           where
             omega-k : pos s e ≡ cell (r .expected)
             omega-k = omega (arith, i .exp-is)

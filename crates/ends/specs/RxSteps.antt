@@ -6,22 +6,20 @@ use mathlib.Core.List.{List, [], _∷_, _++_}
 use Prim.Native.Nat.{ℕ, zero, suc, _+_, _-_, _≤_, _<_}
 use native.Mathlib.Omega.{arith}
 use lib.Dec.{eqb}
-use lib.ListN.{length, getD, set, take, drop, length-set, length-append, length-drop}
+use lib.ListN.{length, getD, set, take, drop}
 use lib.Seq.{take-append-le, take-suc-set}
 use borrow.Author.Tests.{lt-ltb, ne-eqb}
 use Rattle.seq.specs.declared.Seq.{Seq}
 use Rattle.seq.specs.Numbers.{seqOf, plus, minus}
 use Rattle.link.specs.declared.row.LinkRow.{LinkRow}
 use Rattle.link.specs.Acks.{waiting, ackQueued, shifted, ackTaken}
-use Rattle.engine_state.specs.declared.state.Receiving.{Receiving}
-use Rattle.engine_state.specs.declared.state.State.{State}
-use Rattle.engine_state.specs.Cells.{isFull}
-use Rattle.engine_state.specs.Rows.{rowOf, row-of}
-use Rattle.engine_cells.specs.Cells.{cellOf, nearOldest, keptOf, oldestAfter, canAdvance, passedOver, advanced}
-use Rattle.engine_handout.specs.Take.{canSkip, passedBy, skipped}
-use Rattle.ends.specs.Model.{Rx, Tx, Like}
-use Rattle.ends.specs.Model.{passed as passedSeen, advanced as advancedSeen, passedBy as passedBySeen, skipped as skippedSeen}
-use Rattle.ends.specs.Views.{Queues}
+use Rattle.link.specs.Sizes.{ACKS}
+use Rattle.engine.specs.declared.state.Receiving.{Receiving}
+use Rattle.engine.specs.Received.{isFull}
+use Rattle.engine.specs.Cells.{cellOf, nearOldest, keptOf, oldestAfter, canAdvance, passedOver, advanced}
+use Rattle.engine.specs.HandingOut.{canSkip, passedBy, skipped}
+use Rattle.engine.specs.Sizes.{CELLS}
+use Rattle.ends.specs.Model.{Rx, Tx, Like, passed as passedSeen, advanced as advancedSeen, passedBy as passedBySeen, skipped as skippedSeen}
 
 -- ---- the receive table
 
@@ -46,57 +44,53 @@ abbrev withOldest : Rx → ℕ → Rx
 withOldest r o = record { expected = r .expected; oldest = o; cells = r .cells; store = r .store }
 
 module _ (store : List ℕ) where
-  passed-seen : (r : Receiving) → seenRx (passedOver 64 r) store ≡ passedSeen (seenRx r store)
+  passed-seen : (r : Receiving) → seenRx (passedOver CELLS r) store ≡ passedSeen (seenRx r store)
   unfolding passedOver cellOf plus
   passed-seen r =
-      ap (withOldest (seenRx (passedOver 64 r) store))
-      (oldest-value (isFull (keptOf (cellOf 64 r (r .«rx_seq» .0)))) (r .«rx_oldest») (r .«rx_seq») (seqOf (plus (r .«rx_seq» .0) 1)))
+      ap (withOldest (seenRx (passedOver CELLS r) store))
+      (oldest-value (isFull (keptOf (cellOf CELLS r (r .«rx_seq» .0)))) (r .«rx_oldest») (r .«rx_seq») (seqOf (plus (r .«rx_seq» .0) 1)))
 
   -- "consecutive messages advance the next expected number"
-  pub advanced-seen : (k : ℕ) (r : Receiving) → seenRx (advanced 64 k r) store ≡ advancedSeen k (seenRx r store)
+  pub advanced-seen : (k : ℕ) (r : Receiving) → seenRx (advanced CELLS k r) store ≡ advancedSeen k (seenRx r store)
   unfolding advanced advancedSeen canAdvance nearOldest cellOf minus
   advanced-seen zero r = refl
   advanced-seen (suc k) r =
-      cond-seen (canAdvance 64 r) (advanced 64 k (passedOver 64 r)) r store
-      ∙ ap (λ (x : Rx). cond (canAdvance 64 r) x (seenRx r store)) (advanced-seen k (passedOver 64 r) ∙ ap (advancedSeen k) (passed-seen r))
+      cond-seen (canAdvance CELLS r) (advanced CELLS k (passedOver CELLS r)) r store
+      ∙ ap (λ (x : Rx). cond (canAdvance CELLS r) x (seenRx r store)) (advanced-seen k (passedOver CELLS r) ∙ ap (advancedSeen k) (passed-seen r))
 
   passed-by-seen : (r : Receiving) → seenRx (passedBy r) store ≡ passedBySeen (seenRx r store)
   unfolding passedBy plus
   passed-by-seen r = refl
 
   -- to the next ready message or the next expected number
-  pub skipped-seen : (k : ℕ) (r : Receiving) → seenRx (skipped 64 k r) store ≡ skippedSeen k (seenRx r store)
+  pub skipped-seen : (k : ℕ) (r : Receiving) → seenRx (skipped CELLS k r) store ≡ skippedSeen k (seenRx r store)
   unfolding skipped skippedSeen canSkip cellOf
   skipped-seen zero r = refl
   skipped-seen (suc k) r =
-      cond-seen (canSkip 64 r) (skipped 64 k (passedBy r)) r store
-      ∙ ap (λ (x : Rx). cond (canSkip 64 r) x (seenRx r store)) (skipped-seen k (passedBy r) ∙ ap (skippedSeen k) (passed-by-seen r))
+      cond-seen (canSkip CELLS r) (skipped CELLS k (passedBy r)) r store
+      ∙ ap (λ (x : Rx). cond (canSkip CELLS r) x (seenRx r store)) (skipped-seen k (passedBy r) ∙ ap (skippedSeen k) (passed-by-seen r))
 
 -- ---- a link's queue
 
-module _ (r : LinkRow) (full : length (r .«tx_ack_queue») ≡ 64) where
+module _ (r : LinkRow) (full : length (r .«tx_ack_queue») ≡ ACKS) where
   -- an ack more
-  pub queued-waiting : (seq : Seq) → r .«ack_count» < 64 → waiting (ackQueued r seq) ≡ waiting r ++ (seq ∷ [])
+  pub queued-waiting : (seq : Seq) → r .«ack_count» < ACKS → waiting (ackQueued r seq) ≡ waiting r ++ (seq ∷ [])
   unfolding waiting ackQueued
   queued-waiting seq room =
       let one : r .«ack_count» + 1 ≡ suc (r .«ack_count») = omega arith in
-      simp (lt-ltb (r .«ack_count») 64 room)
+      simp (lt-ltb (r .«ack_count») ACKS room)
       (ap (λ (c : ℕ). take c (set (r .«tx_ack_queue») (r .«ack_count») seq)) one
       ∙ take-suc-set (r .«tx_ack_queue») (r .«ack_count») seq (omega (arith, full, room)))
 
-  pub queued-length : (seq : Seq) → r .«ack_count» < 64 → length (ackQueued r seq .«tx_ack_queue») ≡ 64
-  unfolding ackQueued
-  queued-length seq room = simp (lt-ltb (r .«ack_count») 64 room) (length-set (r .«tx_ack_queue») (r .«ack_count») seq ∙ full)
-
 -- the first of so many, and the others moved one to the front
-shifted-tail : (acks : List Seq) (c : ℕ) → length acks ≡ 64 → c < 64 → take (suc c) acks ≡ getD acks 0 (seqOf 0) ∷ take c (shifted acks)
+shifted-tail : (acks : List Seq) (c : ℕ) → length acks ≡ ACKS → c < CELLS → take (suc c) acks ≡ getD acks 0 (seqOf 0) ∷ take c (shifted acks)
 unfolding shifted
 shifted-tail [] c full h = absurd (omega arith)
 shifted-tail (x ∷ xs) c full h = ap (λ (ys : List Seq). x ∷ ys) (sym (take-append-le c xs (drop 63 (x ∷ xs)) (omega arith)))
 
-module _ (r : LinkRow) (full : length (r .«tx_ack_queue») ≡ 64) (some : 0 < r .«ack_count») where
+module _ (r : LinkRow) (full : length (r .«tx_ack_queue») ≡ ACKS) (some : 0 < r .«ack_count») where
   -- an ack less
-  pub taken-waiting : r .«ack_count» ≤ 64 → waiting r ≡ getD (r .«tx_ack_queue») 0 (seqOf 0) ∷ waiting (ackTaken r)
+  pub taken-waiting : r .«ack_count» ≤ ACKS → waiting r ≡ getD (r .«tx_ack_queue») 0 (seqOf 0) ∷ waiting (ackTaken r)
   unfolding waiting ackTaken
   taken-waiting few =
       let c = r .«ack_count» - 1 in
@@ -104,18 +98,7 @@ module _ (r : LinkRow) (full : length (r .«tx_ack_queue») ≡ 64) (some : 0 < 
       simp (ne-eqb (r .«ack_count») 0 (λ e. omega arith))
       (ap (λ (k : ℕ). take k (r .«tx_ack_queue»)) one ∙ shifted-tail (r .«tx_ack_queue») c full (omega arith))
 
-  pub taken-length : length (ackTaken r .«tx_ack_queue») ≡ 64
-  unfolding ackTaken shifted
-  taken-length =
-      simp (ne-eqb (r .«ack_count») 0 (λ e. omega arith))
-      (length-append (drop 1 (r .«tx_ack_queue»)) (drop 63 (r .«tx_ack_queue»))
-      ∙ omega (arith, full, length-drop 1 (r .«tx_ack_queue»), length-drop 63 (r .«tx_ack_queue»)))
-
--- ---- of the state
-
--- the slot's queue has 64 places
-pub row-full : (s : State) (slot : ℕ) → Queues s → slot < 8 → length (rowOf s slot .«tx_ack_queue») ≡ 64
-row-full s slot q small = ap (λ (r : LinkRow). length (r .«tx_ack_queue»)) (row-of s slot small) ∙ q slot small
+-- ---- the packet table
 
 -- the same table is a like one
 abbrev pub like-self : (t : Tx) → Like t t

@@ -9,10 +9,10 @@ use native.Mathlib.Decide.{decLt, ℕ-discrete}
 use lib.ListN.{length, getD, take, length-set}
 use lib.Dec.{eqb}
 use borrow.Author.Tests.{eqb-true, eqb-false, not-true, not-false}
-use Rattle.refusal.specs.Verdicts.{split}
-use Rattle.engine_state.specs.declared.state.Held.the-variants.{Nothing}
-use Rattle.engine_state.specs.declared.state.RxCell.{RxCell}
-use Rattle.engine_state.specs.Cells.{noCell, isFull, isReadyKind}
+use Rattle.engine.specs.declared.state.Held.the-variants.{Nothing}
+use Rattle.engine.specs.declared.state.RxCell.{RxCell}
+use Rattle.engine.specs.Received.{noCell, isFull, isReadyKind}
+use Rattle.engine.specs.Sizes.{CELLS}
 use Rattle.ends.specs.World.{Msg}
 use Rattle.ends.specs.Demand.{handed}
 use Rattle.ends.specs.Wrap.{cell}
@@ -20,6 +20,7 @@ use Rattle.ends.specs.Store.{getCell}
 use Rattle.ends.specs.Model.{Rx, heldAt, passedBy, emptied, canSkip, skipped, taken, answer}
 use Rattle.ends.specs.Inv.{pos, at, heldOf, HeldIs, RxI, Rest, Has}
 use Rattle.ends.specs.RxLaws.{hit-held, miss-held, and-false, handed-more, clash, Moved, moved-refl, moved-trans, First, move-oldest}
+use Rattle.refusal.specs.Tests.{split}
 
 -- ---- handing out
 
@@ -78,7 +79,7 @@ module _ (s : ℕ) (G : List Msg) (r : Rx) (e o : ℕ) (i : RxI s G r e o) (rest
   take-hit : (j : ℕ) → pos s j ≡ pos s o → heldOf (emptied r) (pos s j) ≡ Nothing
   take-hit j y = hit-held (r .cells) (cell (r .oldest)) (pos s j) _ (omega (arith, i .rcells)) (omega (arith, take-k, y))
 
-  take-miss : (j : ℕ) → o < j → j < o + 64 → heldOf (emptied r) (pos s j) ≡ heldOf r (pos s j)
+  take-miss : (j : ℕ) → o < j → j < o + CELLS → heldOf (emptied r) (pos s j) ≡ heldOf r (pos s j)
   take-miss j p q = miss-held (r .cells) (cell (r .oldest)) (pos s j) _ (λ y. omega (arith, y, take-k))
 
   pub answer-is : answer r ≡ at G o
@@ -99,11 +100,11 @@ module _ (s : ℕ) (G : List Msg) (r : Rx) (e o : ℕ) (i : RxI s G r e o) (rest
     en = i .en;
     rcells = length-set (r .cells) (cell (r .oldest)) noCell ∙ i .rcells;
     rstore = i .rstore;
-    held = λ j p q h. heldly j p q h (decLt j (o + 64));
+    held = λ j p q h. heldly j p q h (decLt j (o + CELLS));
     ready = λ j p q. ap isFull (take-miss j (omega arith) (omega (arith, i .eo))) ∙ i .ready j (omega arith) q;
   }
     where
-      heldly : (j : ℕ) → o + 1 ≤ j → j < o + 1 + 64 → isFull (heldOf (emptied r) (pos s j)) ≡ true → Dec (j < o + 64) → (j < length G) × HeldIs (emptied r) (pos s j) (at G j)
+      heldly : (j : ℕ) → o + 1 ≤ j → j < o + 1 + CELLS → isFull (heldOf (emptied r) (pos s j)) ≡ true → Dec (j < o + CELLS) → (j < length G) × HeldIs (emptied r) (pos s j) (at G j)
       heldly j p q h (yes y) = let old = i .held j (omega arith) y (sym (ap isFull (take-miss j (omega arith) y)) ∙ h) in
           (old .0, record { cell-is = take-miss j (omega arith) y ∙ old .1 .cell-is; bytes-is = old .1 .bytes-is })
       heldly j p q h (no y) = clash (sym h ∙ ap isFull (take-hit j (omega arith)))
@@ -114,16 +115,16 @@ module _ (s : ℕ) (G : List Msg) (r : Rx) (e o : ℕ) (i : RxI s G r e o) (rest
 
   one-back : (j : ℕ) → Has s (passedBy (emptied r)) e (o + 1) j → Has s r e o j
   one-back j (inl p) = inl p
-  one-back j (inr h) = go (decLt j (o + 64))
+  one-back j (inr h) = go (decLt j (o + CELLS))
     where
-      go : Dec (j < o + 64) → Has s r e o j
+      go : Dec (j < o + CELLS) → Has s r e o j
       go (yes y) = inr (h .0, y, sym (ap isFull (take-miss j (omega (arith, h .0)) y)) ∙ h .2)
       go (no y) = clash (sym (h .2) ∙ ap isFull (take-hit j (omega (arith, h .1))))
 
   one-stuck : isFull (heldOf (emptied r) (pos s e)) ≡ false
-  one-stuck = go (decLt e (o + 64))
+  one-stuck = go (decLt e (o + CELLS))
     where
-      go : Dec (e < o + 64) → isFull (heldOf (emptied r) (pos s e)) ≡ false
+      go : Dec (e < o + CELLS) → isFull (heldOf (emptied r) (pos s e)) ≡ false
       go (yes y) = ap isFull (take-miss e lt y) ∙ rest .stuck y
       go (no y) = ap isFull (take-hit e (omega (arith, i .eo)))
 
@@ -146,4 +147,4 @@ module _ (s : ℕ) (G : List Msg) (r : Rx) (e o : ℕ) (i : RxI s G r e o) (rest
   }
     where
       sk : Skipped s G (passedBy (emptied r)) e (o + 1) (taken r)
-      sk = skip 64 s G (passedBy (emptied r)) e (o + 1) one-taken (omega (arith, i .eo))
+      sk = skip CELLS s G (passedBy (emptied r)) e (o + 1) one-taken (omega (arith, i .eo))

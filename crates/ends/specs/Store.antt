@@ -8,6 +8,7 @@ use mathlib.Core.List.{List, _++_}
 use lib.ListN.{length, getD, take, drop, length-append, length-take, length-drop, List·getD-append}
 use lib.Seq.{take-at, drop-at, getD-append-add, getD-take, getD-drop, length-take-le, ext-getD}
 use native.Mathlib.Decide.{decLt}
+use Rattle.engine.specs.Sizes.{PACKETS, DATA_BYTES, SENT_BYTES}
 
 abbrev pub put : List ℕ → ℕ → List ℕ → List ℕ
 put d at v = take at d ++ (v ++ drop (at + length v) d)
@@ -59,21 +60,21 @@ get-put-other d at v at2 n h side =
 
 -- cells of 1,024 bytes
 abbrev pub putCell : List ℕ → ℕ → List ℕ → List ℕ
-putCell d k v = put d (k * 1024) v
+putCell d k v = put d (k * DATA_BYTES) v
 
 abbrev pub getCell : List ℕ → ℕ → ℕ → List ℕ
-getCell d k n = get d (k * 1024) n
+getCell d k n = get d (k * DATA_BYTES) n
 
-pub getCell-other : (d : List ℕ) (k j n : ℕ) (v : List ℕ) → length d ≡ 65536 → k < 64 → length v ≤ 1024 → n ≤ 1024 → j ≢ k
+pub getCell-other : (d : List ℕ) (k j n : ℕ) (v : List ℕ) → length d ≡ SENT_BYTES → k < PACKETS → length v ≤ DATA_BYTES → n ≤ DATA_BYTES → j ≢ k
     → getCell (putCell d k v) j n ≡ getCell d j n
-getCell-other d k j n v l hk hv hn ne = get-put-other d (k * 1024) v (j * 1024) n (omega arith) (which (decLt j k))
+getCell-other d k j n v l hk hv hn ne = get-put-other d (k * DATA_BYTES) v (j * DATA_BYTES) n (omega arith) (which (decLt j k))
   where
-    which : Dec (j < k) → (j * 1024 + n ≤ k * 1024) ⊎ (k * 1024 + length v ≤ j * 1024)
+    which : Dec (j < k) → (j * DATA_BYTES + n ≤ k * DATA_BYTES) ⊎ (k * DATA_BYTES + length v ≤ j * DATA_BYTES)
     which (yes p) = inl (omega arith)
     which (no p) = inr (omega arith)
 
-pub getCell-same : (d : List ℕ) (k : ℕ) (v : List ℕ) → length d ≡ 65536 → k < 64 → length v ≤ 1024 → getCell (putCell d k v) k (length v) ≡ v
-getCell-same d k v l hk hv = get-put-same d (k * 1024) v (omega arith)
+pub getCell-same : (d : List ℕ) (k : ℕ) (v : List ℕ) → length d ≡ SENT_BYTES → k < PACKETS → length v ≤ DATA_BYTES → getCell (putCell d k v) k (length v) ≡ v
+getCell-same d k v l hk hv = get-put-same d (k * DATA_BYTES) v (omega arith)
 
-pub length-putCell : (d : List ℕ) (k : ℕ) (v : List ℕ) → length d ≡ 65536 → k < 64 → length v ≤ 1024 → length (putCell d k v) ≡ 65536
-length-putCell d k v l hk hv = length-put d (k * 1024) v (omega arith) ∙ l
+pub length-putCell : (d : List ℕ) (k : ℕ) (v : List ℕ) → length d ≡ SENT_BYTES → k < PACKETS → length v ≤ DATA_BYTES → length (putCell d k v) ≡ SENT_BYTES
+length-putCell d k v l hk hv = length-put d (k * DATA_BYTES) v (omega arith) ∙ l

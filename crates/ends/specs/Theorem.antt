@@ -1,13 +1,11 @@
 -- Demand 3, proved: the statement of Demand holds of the engine's own definitions. Assumes nothing.
-use mathlib.Core.Path.{_≡_, refl}
+use mathlib.Core.Path.{_≡_}
 use Prim.Native.Nat.{ℕ}
-use native.Mathlib.Omega.{arith}
 use Rattle.refusal.specs.declared.verdict.Verdict.{Verdict}
 use Rattle.refusal.specs.declared.verdict.Verdict.the-variants as verdicts
-use Rattle.engine_state.specs.declared.state.State.{State}
-use Rattle.engine_state.specs.declared.answer.Outcome.the-variants as outcomes
-use Rattle.engine_state.specs.Answer.{changedBy}
-use Rattle.engine_fresh.specs.Fresh.{freshVerdict, freshState, freshOf}
+use Rattle.engine.specs.declared.answer.Outcome.the-variants as outcomes
+use Rattle.engine.specs.Answer.{done-passed}
+use Rattle.engine.specs.Starting.{freshVerdict, freshState, freshOf}
 use Rattle.laws.specs.LinksKept as links
 use Rattle.laws.specs.UnconfirmKept as unconfirms
 use Rattle.laws.specs.FlushKept.{flush-sound, flush-shaped}
@@ -22,17 +20,13 @@ use Rattle.ends.specs.TxOfCalls.{sending-laws}
 use Rattle.ends.specs.RxOfCalls.{receiving-laws}
 use Rattle.ends.specs.Proved.{demand3-from}
 
-done-passed : (v : Verdict) (s next : State) → changedBy v s next .outcome ≡ outcomes.Done → v ≡ verdicts.Pass
-done-passed verdicts.Pass s next e = refl
-done-passed (verdicts.No r) s next e = let z : _≡_ {A = ℕ} 0 1 = cc in absurd (omega arith)
-
 fresh-passed : (start buffer : ℕ) → freshOf start buffer .outcome ≡ outcomes.Done → freshVerdict buffer ≡ verdicts.Pass
 unfolding freshOf
 fresh-passed start buffer e = done-passed (freshVerdict buffer) (freshState start buffer) (freshState start buffer) e
 
 sound-laws : SoundLaws
 sound-laws = record {
-  fresh-sound = λ start buffer h e. (links.fresh-shaped start buffer h, links.fresh-sound start buffer h (fresh-passed start buffer e));
+  fresh-sound = λ start buffer h e. let v = fresh-passed start buffer e in (links.fresh-shaped start buffer h v, links.fresh-sound start buffer h v);
   send-sound = λ s store slot time kind len shaped sound. (send-shaped s store slot time kind len shaped, send-sound s store slot time kind len shaped sound);
   resend-sound = λ s slot time n h shaped sound. (resend-shaped s slot time n shaped sound h, resend-sound s slot time n shaped sound h);
   ack-sound = λ s slot time n h shaped sound. (ack-shaped s slot time n shaped sound h, ack-sound s slot time n shaped sound h);

@@ -10,7 +10,6 @@ use lib.ListN.{length, getD, set, length-set, length-map}
 use lib.Seq.{take-append-le}
 use lib.Dec.{leb, ltb, eqb}
 use borrow.Author.Tests.{ltb-true, leb-true}
-use Rattle.refusal.specs.Verdicts.{split}
 use Rattle.ends.specs.World.{Msg, Packet, Ack}
 use Rattle.ends.specs.Demand.{handed}
 use Rattle.ends.specs.Wrap.{num, diff, cell, num-cell}
@@ -20,6 +19,8 @@ use Rattle.ends.specs.OneWay.{Way, InTime, onSend, onResend, onUnconfirm
 use Rattle.ends.specs.Inv.{pos, at, pktOf, PktIs, TxI, Has, PacketIs, AckIs, Inv}
 use Rattle.ends.specs.TxLaws.{hit, miss, at-old, at-new, length-snoc, tx-send, send-old, send-new, same-set, same-map, read-map, tx-status, tx-sweep, swept-le, swept-tight, swept-head, first-cell, isReceived-is, table-of}
 use Rattle.ends.specs.RxLaws.{rx-grow, has-inside}
+use Rattle.refusal.specs.Tests.{split}
+use Rattle.engine.specs.Sizes.{PACKETS, DATA_BYTES}
 
 -- ---- Send
 
@@ -47,13 +48,13 @@ module _ (w : Way) (e o : ℕ) (i : Inv w e o) (slot : ℕ) (m : Msg) where
     out-is = i .out-is ∙ ap handed (sym (take-append-le o G (m ∷ []) (omega (arith, rxi .en, rxi .oe))));
   }
     where
-      tests : (ltb (w .tx .count) 64 ≡ true) × (leb (length (m .bytes)) 1024 ≡ true)
-      tests = split (ltb (w .tx .count) 64) (leb (length (m .bytes)) 1024) ok
+      tests : (ltb (w .tx .count) PACKETS ≡ true) × (leb (length (m .bytes)) DATA_BYTES ≡ true)
+      tests = split (ltb (w .tx .count) PACKETS) (leb (length (m .bytes)) DATA_BYTES) ok
 
-      free : w .tx .count < 64
+      free : w .tx .count < PACKETS
       free = ltb-true _ _ (tests .0)
 
-      fits : length (m .bytes) ≤ 1024
+      fits : length (m .bytes) ≤ DATA_BYTES
       fits = leb-true _ _ (tests .1)
 
       len : length G′ ≡ length G + 1
@@ -68,7 +69,7 @@ module _ (w : Way) (e o : ℕ) (i : Inv w e o) (slot : ℕ) (m : Msg) where
           same = omega (arith, len)
       headed (no y) = ap (λ (x : Pkt). isReceived (x .status)) (send-new (w .start) G (w .tx) slot m txi small free fits (length G′ - (w .tx .count + 1)) (omega (arith, len)))
 
-      smaller : (j : ℕ) → j < length G′ → Dec (j ≡ length G) → length (at G′ j .bytes) ≤ 1024
+      smaller : (j : ℕ) → j < length G′ → Dec (j ≡ length G) → length (at G′ j .bytes) ≤ DATA_BYTES
       smaller j p (yes y) = rw (at-new G m j y) fits
       smaller j p (no y) = let lt : j < length G = omega (arith, len) in rw (at-old G m j lt) (small j lt)
 
@@ -253,7 +254,7 @@ module _ (w : Way) (e o : ℕ) (i : Inv w e o) (slot : ℕ) (a : Ack) (a-is : Ac
               low : 1 ≤ diff (w .tx .next) n₃
               low = leb-true _ _ (bounds .0)
 
-              room : w .tx .count ≤ 64
+              room : w .tx .count ≤ PACKETS
               room = i .txi .room
 
               inside : a .index < length (w .given)

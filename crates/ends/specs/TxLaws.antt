@@ -3,7 +3,7 @@ use mathlib.Core.Path.{_≡_, refl, sym, _∙_, ap}
 use mathlib.Core.Bool.{Bool, true, false, cond}
 use mathlib.Core.Logic.{_≢_}
 use mathlib.Core.List.{List, [], _∷_, _++_, map}
-use Prim.Native.Nat.{ℕ, zero, suc, _+_, _-_, _%_, _≤_, _<_}
+use Prim.Native.Nat.{ℕ, zero, suc, _+_, _-_, _≤_, _<_}
 use native.Mathlib.Omega.{arith}
 use native.Mathlib.Decide.{ℕ-discrete}
 use lib.ListN.{length, getD, set, length-append, length-set, List·getD-append}
@@ -15,6 +15,8 @@ use Rattle.ends.specs.Wrap.{num, diff, cell}
 use Rattle.ends.specs.Store.{getCell-same, getCell-other, length-putCell}
 use Rattle.ends.specs.Model.{Pkt, noPkt, Status, SentOn, Queued, Received, Tx, sent, withStatus, withCells, requeuedPkt, sweep, swept, isReceived, inTable}
 use Rattle.ends.specs.Inv.{pos, at, pktOf, PktIs, TxI}
+use Rattle.engine.specs.Sizes.{PACKETS, DATA_BYTES}
+use Rattle.engine.specs.Ring.{nextCell, next-mod}
 
 -- ---- small helpers
 
@@ -36,7 +38,7 @@ length-snoc G m = length-append G (m ∷ [])
 
 -- ---- Send
 
-module _ (s : ℕ) (G : List Msg) (t : Tx) (slot : ℕ) (m : Msg) (i : TxI s G t) (small : (j : ℕ) → j < length G → length (at G j .bytes) ≤ 1024) (free : t .count < 64) (fits : length (m .bytes) ≤ 1024) where
+module _ (s : ℕ) (G : List Msg) (t : Tx) (slot : ℕ) (m : Msg) (i : TxI s G t) (small : (j : ℕ) → j < length G → length (at G j .bytes) ≤ DATA_BYTES) (free : t .count < PACKETS) (fits : length (m .bytes) ≤ DATA_BYTES) where
   send-k : cell (t .next) ≡ pos s (length G)
   send-k = omega (arith, i .next-is)
 
@@ -53,7 +55,7 @@ module _ (s : ℕ) (G : List Msg) (t : Tx) (slot : ℕ) (m : Msg) (i : TxI s G t
       k : ℕ
       k = cell (t .next)
 
-      k64 : k < 64
+      k64 : k < PACKETS
       k64 = omega arith
 
       go : Dec (j ≡ length G) → PktIs (sent slot m t) (pos s j) (at (G ++ (m ∷ [])) j)
@@ -128,7 +130,7 @@ same-map cs slot = record {
   same-len = λ k. read-map (requeuedPkt slot) (λ (p : Pkt). p .len) (λ p. refl) cs k;
 }
 
-pub tx-status : (s : ℕ) (G : List Msg) (t : Tx) (cs : List Pkt) → length cs ≡ 64 → SameBut (t .cells) cs → TxI s G t → TxI s G (withCells cs t)
+pub tx-status : (s : ℕ) (G : List Msg) (t : Tx) (cs : List Pkt) → length cs ≡ PACKETS → SameBut (t .cells) cs → TxI s G t → TxI s G (withCells cs t)
 tx-status s G t cs l same i = record {
   next-is = i .next-is;
   room = i .room;
@@ -147,9 +149,9 @@ tx-status s G t cs l same i = record {
 pub swept-le : (at c : ℕ) (cs : List Pkt) → swept at c cs ≤ c
 unfolding swept
 swept-le at zero cs = omega arith
-swept-le at (suc c) cs = go (isReceived (getD cs at noPkt .status)) (swept-le ((at + 1) % 64) c cs)
+swept-le at (suc c) cs = go (isReceived (getD cs at noPkt .status)) (swept-le (nextCell PACKETS at) c cs)
   where
-    go : (b : Bool) → swept ((at + 1) % 64) c cs ≤ c → cond b (swept ((at + 1) % 64) c cs) (suc c) ≤ suc c
+    go : (b : Bool) → swept (nextCell PACKETS at) c cs ≤ c → cond b (swept (nextCell PACKETS at) c cs) (suc c) ≤ suc c
     go true h = omega arith
     go false h = omega arith
 
@@ -174,22 +176,22 @@ isReceived-is (SentOn k) h = cc
 isReceived-is Queued h = cc
 isReceived-is Received h = refl
 
-next-cell : (s N c : ℕ) → suc c ≤ N → (pos s (N - suc c) + 1) % 64 ≡ pos s (N - c)
-next-cell s N c h = omega arith
+next-cell : (s N c : ℕ) → suc c ≤ N → nextCell PACKETS (pos s (N - suc c)) ≡ pos s (N - c)
+next-cell s N c h = next-mod PACKETS (pos s (N - suc c)) (omega arith) ∙ omega arith
 
 -- what the sweep drops was Received; so if the other end has every Received message, and lacks message e, the sweep stops at e
-pub swept-tight : (H : ℕ → Type 0) (s N e at c : ℕ) (cs : List Pkt) → at ≡ pos s (N - c) → c ≤ N → c ≤ 64
+pub swept-tight : (H : ℕ → Type 0) (s N e at c : ℕ) (cs : List Pkt) → at ≡ pos s (N - c) → c ≤ N → c ≤ PACKETS
     → ((j : ℕ) → j < N → N ≤ j + c → getD cs (pos s j) noPkt .status ≡ Received → H j) → (H e → ⊥) → N ≤ e + c → N ≤ e + swept at c cs
 unfolding swept
 swept-tight H s N e at zero cs en cN c64 r ne h = h
 swept-tight H s N e at (suc c) cs en cN c64 r ne h =
     go (isReceived (getD cs at noPkt .status)) refl
-    (λ (h′ : N ≤ e + c). swept-tight H s N e ((at + 1) % 64) c cs (rw en (next-cell s N c cN)) (omega arith) (omega arith) (λ j p q. r j p (omega arith)) ne h′)
+    (λ (h′ : N ≤ e + c). swept-tight H s N e (nextCell PACKETS at) c cs (rw en (next-cell s N c cN)) (omega arith) (omega arith) (λ j p q. r j p (omega arith)) ne h′)
   where
     i : ℕ
     i = N - suc c
 
-    go : (b : Bool) → isReceived (getD cs at noPkt .status) ≡ b → (N ≤ e + c → N ≤ e + swept ((at + 1) % 64) c cs) → N ≤ e + cond b (swept ((at + 1) % 64) c cs) (suc c)
+    go : (b : Bool) → isReceived (getD cs at noPkt .status) ≡ b → (N ≤ e + c → N ≤ e + swept (nextCell PACKETS at) c cs) → N ≤ e + cond b (swept (nextCell PACKETS at) c cs) (suc c)
     go false q below = h
     go true q below = below (least (ℕ-discrete i e))
       where
@@ -201,16 +203,16 @@ swept-tight H s N e at (suc c) cs en cN c64 r ne h =
         least (no x) = omega arith
 
 -- after the sweep the first packet isn't Received
-pub swept-head : (s N at c : ℕ) (cs : List Pkt) → at ≡ pos s (N - c) → c ≤ N → c ≤ 64
+pub swept-head : (s N at c : ℕ) (cs : List Pkt) → at ≡ pos s (N - c) → c ≤ N → c ≤ PACKETS
     → 0 < swept at c cs → isReceived (getD cs (pos s (N - swept at c cs)) noPkt .status) ≡ false
 unfolding swept
 swept-head s N at zero cs en cN c64 p = absurd (omega arith)
 swept-head s N at (suc c) cs en cN c64 p =
-    go (isReceived (getD cs at noPkt .status)) refl (swept-head s N ((at + 1) % 64) c cs (rw en (next-cell s N c cN)) (omega arith) (omega arith)) p
+    go (isReceived (getD cs at noPkt .status)) refl (swept-head s N (nextCell PACKETS at) c cs (rw en (next-cell s N c cN)) (omega arith) (omega arith)) p
   where
     go : (b : Bool) → isReceived (getD cs at noPkt .status) ≡ b
-        → (0 < swept ((at + 1) % 64) c cs → isReceived (getD cs (pos s (N - swept ((at + 1) % 64) c cs)) noPkt .status) ≡ false)
-        → 0 < cond b (swept ((at + 1) % 64) c cs) (suc c) → isReceived (getD cs (pos s (N - cond b (swept ((at + 1) % 64) c cs) (suc c))) noPkt .status) ≡ false
+        → (0 < swept (nextCell PACKETS at) c cs → isReceived (getD cs (pos s (N - swept (nextCell PACKETS at) c cs)) noPkt .status) ≡ false)
+        → 0 < cond b (swept (nextCell PACKETS at) c cs) (suc c) → isReceived (getD cs (pos s (N - cond b (swept (nextCell PACKETS at) c cs) (suc c))) noPkt .status) ≡ false
     go true q below p′ = below p′
     go false q below p′ = rw (← en) q
 

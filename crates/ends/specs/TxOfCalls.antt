@@ -9,46 +9,48 @@ use lib.Dec.{eqb}
 use lib.ListN.{length, getD, set, take, drop, length-set}
 use lib.Seq.{set-getD}
 use borrow.Author.Tests.{lt-ltb, le-leb}
+use borrow.Table.Steps.{cases}
 use Rattle.seq.specs.declared.Seq.{Seq}
 use Rattle.seq.specs.Numbers.{plus, minus}
 use Rattle.msg.specs.declared.reliable.ReliableMsg.{ReliableMsg}
 use Rattle.refusal.specs.declared.verdict.Verdict.{Verdict}
 use Rattle.refusal.specs.declared.verdict.Verdict.the-variants.{Pass, No}
-use Rattle.refusal.specs.Verdicts.{gate-pass, split, join, by-test}
-use Rattle.link.specs.declared.row.LinkRow.{LinkRow}
+use Rattle.refusal.specs.Verdicts.{gate-pass}
+use Rattle.refusal.specs.Tests.{split, join}
 use Rattle.link.specs.Row.{emptyRow, unconfirmedRow, withUnacked}
-use Rattle.link.specs.Limit.{markAcked, markResent}
-use Rattle.engine_state.specs.declared.state.SentReliableStatus.{SentReliableStatus}
-use Rattle.engine_state.specs.declared.state.SentReliableStatus.the-variants.{Sent, Received, ResendQueued}
-use Rattle.engine_state.specs.declared.state.SentReliable.{SentReliable}
-use Rattle.engine_state.specs.declared.state.Sending.{Sending}
-use Rattle.engine_state.specs.declared.state.State.{State}
-use Rattle.engine_state.specs.declared.answer.Outcome.the-variants as outcomes
-use Rattle.engine_state.specs.Answer.{changedBy}
-use Rattle.engine_state.specs.Decide.{soundb}
-use Rattle.engine_state.specs.Gates.{slotVerdict, timedVerdict}
-use Rattle.engine_state.specs.Packets.{noPacket, isReceived, isQueued}
-use Rattle.engine_state.specs.Queue.{requeued}
-use Rattle.engine_state.specs.Ring.{window, window-length}
-use Rattle.engine_state.specs.Rows.{rowOf, withRow, withTx, withTime, slotOk, timeOk}
-use Rattle.engine_state.specs.Stores.{cellStart, placed, storeBy}
-use Rattle.engine_state.specs.Table.{inTable, packetOf, withStatus, withPackets, withPacket}
-use Rattle.engine_unconfirm.specs.Unconfirm.{unconfirmedAs, unconfirmedPacket, unconfirmedState, unconfirmOf, removeOf}
-use Rattle.engine_send.specs.declared.send.SendAnswer.the-variants as sends
-use Rattle.engine_resend.specs.declared.resend.ResendAnswer.the-variants as resends
-use Rattle.engine_send.specs.Send.{sendVerdict, sentTx, toldRx, sentState, sentBy, sendOf, sendStore, passed}
-use Rattle.engine_resend.specs.Resend.{resendVerdict, resentState, resentBy, resendOf}
-use Rattle.engine_flush.specs.Flush.{flushedAs, flushedPacket, flushOf}
-use Rattle.engine_ack.specs.Settle.{settledRowAs, receivedTx, settledTxAs}
-use Rattle.engine_ack.specs.Sweep.{sweepFrom, sweepOf, sweptTx}
-use Rattle.engine_ack.specs.Ack.{ackVerdict, ackedRow, ackedTx, ackedState, ackOf}
+use Rattle.link.specs.Limit.{markResent}
+use Rattle.engine.specs.declared.state.SentReliableStatus.{SentReliableStatus}
+use Rattle.engine.specs.declared.state.SentReliableStatus.the-variants.{Sent, Received, ResendQueued}
+use Rattle.engine.specs.declared.state.SentReliable.{SentReliable}
+use Rattle.engine.specs.declared.state.Sending.{Sending}
+use Rattle.engine.specs.declared.state.State.{State}
+use Rattle.engine.specs.declared.answer.Outcome.the-variants as outcomes
+use Rattle.engine.specs.Answer.{changedBy}
+use Rattle.engine.specs.Decide.{soundb}
+use Rattle.engine.specs.Gates.{slotVerdict, timedVerdict}
+use Rattle.engine.specs.Packets.{noPacket, isReceived, isQueued}
+use Rattle.engine.specs.Queue.{requeued}
+use Rattle.engine.specs.Ring.{window, window-length, nextCell}
+use Rattle.engine.specs.Rows.{rowOf, slotOk, timeOk}
+use Rattle.engine.specs.Stores.{cellStart, copied, storeBy}
+use Rattle.engine.specs.Table.{inTable, packetOf, withPacket}
+use Rattle.engine.specs.Unconfirming.{unconfirmedAs, unconfirmedPacket, unconfirmedState, unconfirmOf, removeOf}
+use Rattle.engine.specs.declared.sending.SendAnswer.the-variants as sends
+use Rattle.engine.specs.declared.resending.ResendAnswer.the-variants as resends
+use Rattle.engine.specs.Sending.{sendVerdict, sentTx, toldRx, sentState, sentBy, sendOf, sendStore, send-passed}
+use Rattle.engine.specs.Resending.{resendVerdict, resentState, resentBy, resendOf}
+use Rattle.engine.specs.Flushing.{flushedAs, flushedPacket, flushOf}
+use Rattle.engine.specs.Acking.{receivedTx, settledTxAs, sweepFrom, sweepOf, sweptTx, ackVerdict, ackedRow, ackedTx, ackedState, ackOf}
+use Rattle.engine.specs.Sizes.{PACKETS, SLOTS, DATA_BYTES, SENT_BYTES}
+use Rattle.engine.specs.Fields.{withStatus, withPackets, withRow, withTx, withTime}
+use Rattle.laws.specs.RowAcks.{unacked-acks, unconfirm-acks, resent-acks, acked-acks}
 use Rattle.laws.specs.Passed.{changed-keeps, slot-ok, slot-passed, timed-passed}
 use Rattle.ends.specs.World.{Msg}
 use Rattle.ends.specs.Wrap.{cell}
 use Rattle.ends.specs.Model as model
 use Rattle.ends.specs.Model.{SentOn, Pkt, Tx, Like, noPkt, pktAt, withCells, requeuedPkt, settledPkt, swept, sweep}
 use Rattle.ends.specs.Views.{statusSeen, packetSeen, tx, valueOf, waitingOf, Whole, Alone}
-use Rattle.ends.specs.AcksSeen.{SameAcks, same-then, unacked-acks, unconfirm-acks, trip-acks, mark-acked-acks, mark-resent-acks, empty-waiting, empty-queue, acks-untouched, queues-untouched, acks-set, acks-same, queues-set, queues-same}
+use Rattle.ends.specs.AcksSeen.{empty-waiting, acks-untouched, acks-set, acks-same}
 use Rattle.ends.specs.Laws.{Sends, Resends, Acks, Unconfirms, Removes, SendingLaws}
 
 -- ---- lists
@@ -90,19 +92,19 @@ same-like t t′ n c l d = record {
 
 packet-seen : (t : Sending) (n : ℕ) (store : List ℕ) → pktAt (half t store) n ≡ packetSeen (packetOf t n)
 unfolding packetOf
-packet-seen t n store = getD-map packetSeen (t .«txed_packets») (n % 64) noPacket
+packet-seen t n store = getD-map packetSeen (t .«txed_packets») (n % PACKETS) noPacket
 
 table-seen : (t : Sending) (n : ℕ) (store : List ℕ) → model.inTable n (half t store) ≡ inTable t n
 unfolding inTable minus
 table-seen t n store = refl
 
 queued-seen : (st : SentReliableStatus) → model.isQueued (statusSeen st) ≡ isQueued st
-queued-seen (Sent since flushed on link) = refl
+queued-seen (Sent flight) = refl
 queued-seen Received = refl
 queued-seen (ResendQueued link) = refl
 
 received-seen : (st : SentReliableStatus) → model.isReceived (statusSeen st) ≡ isReceived st
-received-seen (Sent since flushed on link) = refl
+received-seen (Sent flight) = refl
 received-seen Received = refl
 received-seen (ResendQueued link) = refl
 
@@ -110,14 +112,14 @@ received-seen (ResendQueued link) = refl
 unconfirm-as : (slot : ℕ) (p : SentReliable) (st : SentReliableStatus)
     → packetSeen (unconfirmedAs st slot (withStatus p st)) ≡ requeuedPkt slot (packetSeen (withStatus p st))
 unfolding unconfirmedAs
-unconfirm-as slot p (Sent since flushed on link) = by-test (eqb on slot) (λ t. simp t) (λ t. simp t)
+unconfirm-as slot p (Sent flight) = cases (eqb (flight .slot) slot) (λ t. simp t) (λ t. simp t)
 unconfirm-as slot p Received = refl
 unconfirm-as slot p (ResendQueued link) = refl
 
 -- a flush time isn't seen
 flush-as : (slot time : ℕ) (p : SentReliable) (st : SentReliableStatus) → packetSeen (flushedAs st slot time (withStatus p st)) ≡ packetSeen (withStatus p st)
 unfolding flushedAs
-flush-as slot time p (Sent since flushed on link) = by-test (eqb on slot) (λ t. simp t) (λ t. simp t)
+flush-as slot time p (Sent flight) = cases (eqb (flight .slot) slot) (λ t. simp t) (λ t. simp t)
 flush-as slot time p Received = refl
 flush-as slot time p (ResendQueued link) = refl
 
@@ -147,29 +149,28 @@ module _ (s : State) (store : List ℕ) (slot time : ℕ) (m : Msg) (whole : Who
   abbrev bytes : ℕ
   bytes = length (m .bytes)
 
-  send-slot : sendVerdict s (length store) slot time (m .kind) bytes ≡ Pass → slot < 8
+  send-slot : sendVerdict s (length store) slot time (m .kind) bytes ≡ Pass → slot < SLOTS
   unfolding sendVerdict
   send-slot e =
       let e1 = gate-pass (soundb s) _ _ e in
-      let e2 = gate-pass (eqb (length store) 65536) _ _ (e1 .1) in
+      let e2 = gate-pass (eqb (length store) SENT_BYTES) _ _ (e1 .1) in
       let e3 = gate-pass (timeOk s time) _ _ (e2 .1) in
       let e4 = gate-pass (slotOk s slot) _ _ (e3 .1) in
       slot-ok s slot (e4 .0) .0
 
-  send-passed : sendVerdict s (length store) slot time (m .kind) bytes ≡ Pass
-      → Sends s store slot m (s .tx .«tx_seq») (sentState s slot time (m .kind) bytes) (placed store (cellStart (s .tx .«tx_seq» .0)) (m .bytes))
+  send-accepted : sendVerdict s (length store) slot time (m .kind) bytes ≡ Pass
+      → Sends s store slot m (s .tx .«tx_seq») (sentState s slot time (m .kind) bytes) (copied store (cellStart PACKETS (s .tx .«tx_seq» .0)) (m .bytes))
   unfolding sentState sentTx toldRx plus
-  send-passed e =
-      let p = passed s (length store) slot time (m .kind) bytes e in
+  send-accepted e =
+      let p = send-passed s (length store) slot time (m .kind) bytes e in
       let row = withUnacked (rowOf s slot) (rowOf s slot .«txed_unacked_data» + bytes) in
       let same = unacked-acks (rowOf s slot) (rowOf s slot .«txed_unacked_data» + bytes) in
       record {
-        ok = join (lt-ltb (s .tx .«txed_count») 64 (p .room .places)) (le-leb bytes 1024 (p .short));
+        ok = join (lt-ltb (s .tx .«txed_count») PACKETS (p .room .places)) (le-leb bytes DATA_BYTES (p .short));
         number-is = refl;
-        tx-is = same-like _ _ refl refl (map-set packetSeen (s .tx .«txed_packets») (s .tx .«tx_seq» .0 % 64) _) refl;
+        tx-is = same-like _ _ refl refl (map-set packetSeen (s .tx .«txed_packets») (s .tx .«tx_seq» .0 % PACKETS) _) refl;
         rx-alone = λ st. refl;
-        acks-alone = acks-same s (sentState s slot time (m .kind) bytes) slot row (whole .shaped .links-eight) (send-slot e) refl same;
-        queues = queues-same s (sentState s slot time (m .kind) bytes) slot row (whole .shaped .links-eight) (send-slot e) refl same;
+        acks-alone = acks-same s (sentState s slot time (m .kind) bytes) slot row (whole .shaped .links-full) (send-slot e) refl same;
       }
 
   send-law : (number : Seq) → sendOf s (length store) slot time (m .kind) bytes .answer ≡ sends.Number number
@@ -177,7 +178,7 @@ module _ (s : State) (store : List ℕ) (slot time : ℕ) (m : Msg) (whole : Who
   unfolding sendOf sendStore
   send-law number e =
       sent-keeps s (sentState s slot time (m .kind) bytes) (λ n s′ store′. Sends s store slot m n s′ store′) (sendVerdict s (length store) slot time (m .kind) bytes)
-      store (placed store (cellStart (s .tx .«tx_seq» .0)) (m .bytes)) number e send-passed
+      store (copied store (cellStart PACKETS (s .tx .«tx_seq» .0)) (m .bytes)) number e send-accepted
 
 -- ---- Resend
 
@@ -191,18 +192,17 @@ module _ (s : State) (store : List ℕ) (slot time n : ℕ) (whole : Whole s) wh
       let seen = packet-seen (s .tx) n store in
       let more = rowOf s slot .«txed_unacked_data» + packetOf (s .tx) n .len in
       let row = withUnacked (markResent (rowOf s slot) n) more in
-      let same = same-then row (markResent (rowOf s slot) n) (rowOf s slot) (unacked-acks (markResent (rowOf s slot) n) more) (mark-resent-acks (rowOf s slot) _ n) in
+      let same = resent-acks (rowOf s slot) n more in
       record {
         ok = join (table-seen (s .tx) n store ∙ b .0) (ap (λ (k : Pkt). model.isQueued (k .status)) seen ∙ queued-seen (packetOf (s .tx) n .status) ∙ b .1);
-        msg-is = sym (ap (λ (k : Pkt). record { kind = k .kind; bytes = take (k .len) (drop (cellStart n) store) }) seen);
+        msg-is = sym (ap (λ (k : Pkt). record { kind = k .kind; bytes = take (k .len) (drop (cellStart PACKETS n) store) }) seen);
         tx-is =
             same-like _ _ refl refl
-            (map-set packetSeen (s .tx .«txed_packets») (n % 64) _
-            ∙ sym (ap (λ (k : Pkt). set (map packetSeen (s .tx .«txed_packets»)) (n % 64) (model.withStatus (SentOn slot) k)) seen))
+            (map-set packetSeen (s .tx .«txed_packets») (n % PACKETS) _
+            ∙ sym (ap (λ (k : Pkt). set (map packetSeen (s .tx .«txed_packets»)) (n % PACKETS) (model.withStatus (SentOn slot) k)) seen))
             refl;
         rx-alone = λ st. refl;
-        acks-alone = acks-same s (resentState s slot time n) slot row (whole .shaped .links-eight) (p .2) refl same;
-        queues = queues-same s (resentState s slot time n) slot row (whole .shaped .links-eight) (p .2) refl same;
+        acks-alone = acks-same s (resentState s slot time n) slot row (whole .shaped .links-full) (p .2) refl same;
       }
 
   resend-law : (kind : ReliableMsg) (len : ℕ) → resendOf s slot time n .answer ≡ resends.Message kind len
@@ -214,7 +214,7 @@ module _ (s : State) (store : List ℕ) (slot time n : ℕ) (whole : Whole s) wh
 -- ---- Unconfirm and Remove
 
 module _ (s : State) (slot : ℕ) (whole : Whole s) where
-  unconfirm-done : slot < 8 → Unconfirms s slot (unconfirmedState s slot)
+  unconfirm-done : slot < SLOTS → Unconfirms s slot (unconfirmedState s slot)
   unfolding unconfirmedState requeued
   unconfirm-done small =
       let row = unconfirmedRow (rowOf s slot) in
@@ -225,8 +225,7 @@ module _ (s : State) (slot : ℕ) (whole : Whole s) where
             (map-seen packetSeen (unconfirmedPacket slot) (requeuedPkt slot) (λ p. unconfirm-as slot p (p .status)) (s .tx .«txed_packets»))
             refl;
         rx-alone = λ st. refl;
-        acks-alone = acks-same s (unconfirmedState s slot) slot row (whole .shaped .links-eight) small refl same;
-        queues = queues-same s (unconfirmedState s slot) slot row (whole .shaped .links-eight) small refl same;
+        acks-alone = acks-same s (unconfirmedState s slot) slot row (whole .shaped .links-full) small refl same;
       }
 
   unconfirm-law : unconfirmOf s slot .outcome ≡ outcomes.Done → Unconfirms s slot (unconfirmOf s slot .state)
@@ -235,11 +234,11 @@ module _ (s : State) (slot : ℕ) (whole : Whole s) where
       done-keeps s (unconfirmedState s slot) (λ s′. Unconfirms s slot s′) (slotVerdict s slot) e
       (λ v. unconfirm-done (slot-passed s slot v .0))
 
-  mid-eight : length (unconfirmedState s slot .links) ≡ 8
+  mid-eight : length (unconfirmedState s slot .links) ≡ SLOTS
   unfolding unconfirmedState
-  mid-eight = length-set (s .links) slot (unconfirmedRow (rowOf s slot)) ∙ whole .shaped .links-eight
+  mid-eight = length-set (s .links) slot (unconfirmedRow (rowOf s slot)) ∙ whole .shaped .links-full
 
-  remove-done : slot < 8 → Removes s slot (withRow (unconfirmedState s slot) slot emptyRow)
+  remove-done : slot < SLOTS → Removes s slot (withRow (unconfirmedState s slot) slot emptyRow)
   remove-done small =
       let mid = unconfirmedState s slot in
       let after = withRow mid slot emptyRow in
@@ -251,7 +250,6 @@ module _ (s : State) (slot : ℕ) (whole : Whole s) where
             acks-set mid after slot emptyRow mid-eight small refl k
             ∙ ap (λ (l : List Seq). cond (eqb k slot) (map valueOf l) (waitingOf mid k)) empty-waiting
             ∙ ap (λ (l : List ℕ). cond (eqb k slot) [] l) (old .acks-alone k);
-        queues = λ q. queues-set mid after slot emptyRow mid-eight small refl empty-queue (old .queues q);
       }
 
   remove-law : removeOf s slot .outcome ≡ outcomes.Done → Removes s slot (removeOf s slot .state)
@@ -269,37 +267,36 @@ flush-law : (s : State) (slot time : ℕ) → Alone s (flushOf s slot time .stat
 unfolding flushOf
 flush-law s slot time =
     changed-keeps (λ s′. Alone s s′) (timedVerdict s slot time Pass) s (flushed s slot time)
-    (record { tx-alone = λ store. same-like _ _ refl refl refl refl; rx-alone = λ store. refl; acks-alone = λ k. refl; queues = λ q. q })
+    (record { tx-alone = λ store. same-like _ _ refl refl refl refl; rx-alone = λ store. refl; acks-alone = λ k. refl })
     (λ v. record {
       tx-alone = λ store.
           same-like _ _ refl refl (map-kept packetSeen (flushedPacket slot time) (λ p. flush-as slot time p (p .status)) (s .tx .«txed_packets»)) refl;
       rx-alone = λ store. refl;
       acks-alone = acks-untouched s (flushed s slot time) refl;
-      queues = queues-untouched s (flushed s slot time) refl;
     })
 
 -- ---- Ack
 
 -- a cell that is written with what it holds
 as-was : (t : Sending) (store : List ℕ) (n : ℕ) (k : Pkt) → k ≡ pktAt (half t store) n
-    → map packetSeen (t .«txed_packets») ≡ set (map packetSeen (t .«txed_packets»)) (n % 64) k
+    → map packetSeen (t .«txed_packets») ≡ set (map packetSeen (t .«txed_packets»)) (n % PACKETS) k
 as-was t store n k e =
     let cells = map packetSeen (t .«txed_packets») in
-    sym (ap (λ (q : Pkt). set cells (n % 64) q) e ∙ set-getD cells (n % 64) noPkt)
+    sym (ap (λ (q : Pkt). set cells (n % PACKETS) q) e ∙ set-getD cells (n % PACKETS) noPkt)
 
 -- the packet that an ack settles
 settle-as : (t : Sending) (store : List ℕ) (slot n : ℕ) (p : SentReliable) (st : SentReliableStatus)
     → packetSeen (withStatus p st) ≡ pktAt (half t store) n
     → half (settledTxAs st t slot n (withStatus p st)) store
-    ≡ withCells (set (map packetSeen (t .«txed_packets»)) (n % 64) (settledPkt slot (packetSeen (withStatus p st)))) (half t store)
+    ≡ withCells (set (map packetSeen (t .«txed_packets»)) (n % PACKETS) (settledPkt slot (packetSeen (withStatus p st)))) (half t store)
 unfolding settledTxAs receivedTx requeued
-settle-as t store slot n p (Sent since flushed on link) e =
-    by-test (eqb on slot)
-    (λ y. simp y (ap (λ (cs : List Pkt). withCells cs (half t store)) (map-set packetSeen (t .«txed_packets») (n % 64) (withStatus p Received))))
+settle-as t store slot n p (Sent flight) e =
+    cases (eqb (flight .slot) slot)
+    (λ y. simp y (ap (λ (cs : List Pkt). withCells cs (half t store)) (map-set packetSeen (t .«txed_packets») (n % PACKETS) (withStatus p Received))))
     (λ y. simp y (ap (λ (cs : List Pkt). withCells cs (half t store)) (as-was t store n _ e)))
 settle-as t store slot n p Received e = ap (λ (cs : List Pkt). withCells cs (half t store)) (as-was t store n _ e)
 settle-as t store slot n p (ResendQueued link) e =
-    ap (λ (cs : List Pkt). withCells cs (half t store)) (map-set packetSeen (t .«txed_packets») (n % 64) (withStatus p Received))
+    ap (λ (cs : List Pkt). withCells cs (half t store)) (map-set packetSeen (t .«txed_packets») (n % PACKETS) (withStatus p Received))
 
 ack-table : (s : State) (store : List ℕ) (slot n : ℕ) → model.marked slot n (tx s store) ≡ half (ackedTx s slot n) store
 unfolding ackedTx
@@ -307,14 +304,14 @@ ack-table s store slot n =
     let seen = packet-seen (s .tx) n store in
     let there = table-seen (s .tx) n store in
     let p = packetOf (s .tx) n in
-    by-test (inTable (s .tx) n)
+    cases (inTable (s .tx) n)
     (λ y. rw (there, y)
-    (ap (λ (k : Pkt). withCells (set (map packetSeen (s .tx .«txed_packets»)) (n % 64) (settledPkt slot k)) (tx s store)) seen
+    (ap (λ (k : Pkt). withCells (set (map packetSeen (s .tx .«txed_packets»)) (n % PACKETS) (settledPkt slot k)) (tx s store)) seen
     ∙ sym (settle-as (s .tx) store slot n p (p .status) (sym seen))))
     (λ y. rw (there, y) refl)
 
 -- the sweep leaves as many
-swept-left : (cells : List SentReliable) (at c : ℕ) (last : Seq) (held : ℕ) → sweepFrom (window noPacket cells at c) last held .left ≡ swept at c (map packetSeen cells)
+swept-left : (cells : List SentReliable) (at c : ℕ) (last : Seq) (held : ℕ) → sweepFrom (window PACKETS noPacket cells at c) last held .left ≡ swept at c (map packetSeen cells)
 unfolding sweepFrom window swept
 swept-left cells at zero last held = refl
 swept-left cells at (suc c) last held =
@@ -322,45 +319,25 @@ swept-left cells at (suc c) last held =
     let seen : model.isReceived (getD (map packetSeen cells) at noPkt .status) ≡ isReceived (p .status) =
     ap (λ (k : Pkt). model.isReceived (k .status)) (getD-map packetSeen cells at noPacket) ∙ received-seen (p .status)
     in
-    by-test (isReceived (p .status))
-    (λ y. simp (seen, y) (swept-left cells ((at + 1) % 64) c (p .seq) (held - p .len)))
-    (λ y. simp (seen, y) (ap suc (window-length noPacket cells ((at + 1) % 64) c)))
+    cases (isReceived (p .status))
+    (λ y. simp (seen, y) (swept-left cells (nextCell PACKETS at) c (p .seq) (held - p .len)))
+    (λ y. simp (seen, y) (ap suc (window-length PACKETS noPacket cells (nextCell PACKETS at) c)))
 
-sweep-count : (t : Sending) (store : List ℕ) → t .«txed_count» ≤ 64 → sweptTx t .«txed_count» ≡ sweep (half t store) .count
+sweep-count : (t : Sending) (store : List ℕ) → t .«txed_count» ≤ PACKETS → sweptTx t .«txed_count» ≡ sweep (half t store) .count
 unfolding sweptTx sweepOf minus
 sweep-count t store few =
     let e : t .«txed_count» % 2 ^ 32 ≡ t .«txed_count» = omega arith in
-    rw e (swept-left (t .«txed_packets») (minus (t .«tx_seq» .0) (t .«txed_count») % 64) (t .«txed_count») (t .«txed_last_consumed») (t .«txed_unconsumable»))
+    rw e (swept-left (t .«txed_packets») (minus (t .«tx_seq» .0) (t .«txed_count») % PACKETS) (t .«txed_count») (t .«txed_last_consumed») (t .«txed_unconsumable»))
 
-sweep-like : (t : Sending) (store : List ℕ) → t .«txed_count» ≤ 64 → Like (sweep (half t store)) (half (sweptTx t) store)
+sweep-like : (t : Sending) (store : List ℕ) → t .«txed_count» ≤ PACKETS → Like (sweep (half t store)) (half (sweptTx t) store)
 unfolding sweptTx
 sweep-like t store few = same-like _ _ refl (sweep-count t store few) refl refl
 
--- the row that an ack leaves
-settle-row : (row : LinkRow) (len slot time : ℕ) (st : SentReliableStatus) → SameAcks (settledRowAs st row len slot time) row
-unfolding settledRowAs
-settle-row row len slot time (Sent since flushed on link) =
-    by-test (eqb on slot)
-    (λ y. simp y (same-then _ (withUnacked row (row .«txed_unacked_data» - len)) row (trip-acks (withUnacked row (row .«txed_unacked_data» - len)) since time) (unacked-acks row (row .«txed_unacked_data» - len))))
-    (λ y. simp y (record { queue = refl; count = refl }))
-settle-row row len slot time Received = record { queue = refl; count = refl }
-settle-row row len slot time (ResendQueued link) = record { queue = refl; count = refl }
-
 module _ (s : State) (slot time n : ℕ) (whole : Whole s) where
-  ack-row : SameAcks (ackedRow s slot time n) (rowOf s slot)
-  unfolding ackedRow
-  ack-row =
-      let r = rowOf s slot in
-      let p = packetOf (s .tx) n in
-      let old = mark-acked-acks r (r .«limit_increased») n in
-      by-test (inTable (s .tx) n)
-      (λ y. simp y (same-then _ (markAcked r n) r (settle-row (markAcked r n) (p .len) slot time (p .status)) old))
-      (λ y. simp y old)
-
   ack-count : (store : List ℕ) → ackedTx s slot n .«txed_count» ≡ s .tx .«txed_count»
   ack-count store =
       ap (λ (t : Tx). t .count) (sym (ack-table s store slot n))
-      ∙ by-test (model.inTable n (tx s store)) (λ y. simp y) (λ y. simp y)
+      ∙ cases (model.inTable n (tx s store)) (λ y. simp y) (λ y. simp y)
 
   ack-passed : ackVerdict s slot time n ≡ Pass → Acks s slot n (ackedState s slot time n)
   unfolding ackVerdict ackedState
@@ -372,8 +349,7 @@ module _ (s : State) (slot time n : ℕ) (whole : Whole s) where
             rw (ack-table s store slot n)
             (sweep-like (ackedTx s slot n) store (rw (ack-count store) (whole .sound .packet-count)));
         rx-alone = λ st. refl;
-        acks-alone = acks-same s after slot (ackedRow s slot time n) (whole .shaped .links-eight) (p .2) refl ack-row;
-        queues = queues-same s after slot (ackedRow s slot time n) (whole .shaped .links-eight) (p .2) refl ack-row;
+        acks-alone = acks-same s after slot (ackedRow s slot time n) (whole .shaped .links-full) (p .2) refl (acked-acks s slot time n);
       }
 
   ack-law : ackOf s slot time n .outcome ≡ outcomes.Done → Acks s slot n (ackOf s slot time n .state)

@@ -2,20 +2,19 @@
 -- numbers of the acks that wait for a slot. Assumes nothing.
 use mathlib.Core.Path.{_≡_}
 use mathlib.Core.List.{List, map}
-use Prim.Native.Nat.{ℕ, _<_}
-use lib.ListN.{length}
+use Prim.Native.Nat.{ℕ}
 use Rattle.seq.specs.declared.Seq.{Seq}
 use Rattle.link.specs.Acks.{waiting}
-use Rattle.engine_state.specs.declared.state.SentReliableStatus.{SentReliableStatus}
-use Rattle.engine_state.specs.declared.state.SentReliableStatus.the-variants as statuses
-use Rattle.engine_state.specs.declared.state.SentReliable.{SentReliable}
-use Rattle.engine_state.specs.declared.state.State.{State}
-use Rattle.engine_state.specs.Rows.{rowOf}
-use Rattle.engine_state.specs.Sound.{Sound, Shaped, rowAt}
+use Rattle.engine.specs.declared.state.SentReliableStatus.{SentReliableStatus}
+use Rattle.engine.specs.declared.state.SentReliableStatus.the-variants as statuses
+use Rattle.engine.specs.declared.state.SentReliable.{SentReliable}
+use Rattle.engine.specs.declared.state.State.{State}
+use Rattle.engine.specs.Rows.{rowOf}
+use Rattle.engine.specs.Sound.{Sound, Shaped}
 use Rattle.ends.specs.Model.{Status, SentOn, Queued, Received, Pkt, Tx, Rx, Like}
 
 abbrev pub statusSeen : SentReliableStatus → Status
-statusSeen (statuses.Sent time flushed slot link) = SentOn slot
+statusSeen (statuses.Sent flight) = SentOn (flight .slot)
 statusSeen statuses.Received = Received
 statusSeen (statuses.ResendQueued link) = Queued
 
@@ -35,15 +34,10 @@ valueOf n = n .0
 abbrev pub waitingOf : State → ℕ → List ℕ
 waitingOf s slot = map valueOf (waiting (rowOf s slot))
 
--- each row has 64 places for waiting acks: what the type of a row says, which Shaped doesn't repeat
-abbrev pub Queues : State → Type 0
-Queues s = (slot : ℕ) → slot < 8 → length (rowAt s slot .«tx_ack_queue») ≡ 64
-
 -- what is true of the state of an end at every point of a run
 pub record Whole (s : State) : Type 0 where
   pub shaped : Shaped s
   pub sound : Sound s
-  pub queues : Queues s
 
 -- ---- what a call leaves alone
 
@@ -61,4 +55,3 @@ pub record Alone (s s′ : State) : Type 0 where
   pub tx-alone : TxAlone s s′
   pub rx-alone : RxAlone s s′
   pub acks-alone : AcksAlone s s′
-  pub queues : Queues s → Queues s′

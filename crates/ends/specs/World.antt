@@ -10,32 +10,30 @@ use Rattle.seq.specs.declared.Seq.{Seq}
 use Rattle.seq.specs.Numbers.{plus, minus}
 use Rattle.msg.specs.declared.reliable.ReliableMsg.{ReliableMsg}
 use Rattle.link.specs.declared.row.MaxPing.{MaxPing}
-use Rattle.engine_state.specs.declared.state.State.{State}
-use Rattle.engine_state.specs.declared.answer.Outcome.{Outcome}
-use Rattle.engine_state.specs.declared.answer.Outcome.the-variants as outcomes
-use Rattle.engine_state.specs.Stores.{cellStart}
-use Rattle.engine_fresh.specs.Fresh.{freshOf}
-use Rattle.engine_add.specs.declared.add.AddAnswer.{AddAnswer}
-use Rattle.engine_add.specs.declared.add.AddAnswer.the-variants as adds
-use Rattle.engine_add.specs.Add.{addOf}
-use Rattle.engine_links.specs.Changes.{confirmOf, blockOf, markOf, pingOf, pongOf}
-use Rattle.engine_unconfirm.specs.Unconfirm.{unconfirmOf, removeOf}
-use Rattle.engine_send.specs.declared.send.SendAnswer.{SendAnswer}
-use Rattle.engine_send.specs.declared.send.SendAnswer.the-variants as sends
-use Rattle.engine_resend.specs.declared.resend.ResendAnswer.{ResendAnswer}
-use Rattle.engine_resend.specs.declared.resend.ResendAnswer.the-variants as resends
-use Rattle.engine_send.specs.Send.{sendOf, sendStore}
-use Rattle.engine_flush.specs.Flush.{flushOf}
-use Rattle.engine_resend.specs.Resend.{resendOf}
-use Rattle.engine_ack.specs.Ack.{ackOf}
-use Rattle.engine_receive.specs.Receive.{receiveOf, receiveStore}
-use Rattle.engine_handout.specs.declared.ready.HandOut.{HandOut}
-use Rattle.engine_handout.specs.declared.ready.HandOut.the-variants as handouts
-use Rattle.engine_acks.specs.declared.acks.TakeAck.{TakeAck as AckAnswer}
-use Rattle.engine_acks.specs.declared.acks.TakeAck.the-variants as acks
-use Rattle.engine_handout.specs.Show.{shownOf}
-use Rattle.engine_handout.specs.Take.{takeOf}
-use Rattle.engine_acks.specs.Acks.{takeAckOf}
+use Rattle.engine.specs.declared.state.State.{State}
+use Rattle.engine.specs.declared.answer.Outcome.{Outcome}
+use Rattle.engine.specs.declared.answer.Outcome.the-variants as outcomes
+use Rattle.engine.specs.Stores.{cellStart}
+use Rattle.engine.specs.Starting.{freshOf}
+use Rattle.engine.specs.declared.links.AddAnswer.{AddAnswer}
+use Rattle.engine.specs.declared.links.AddAnswer.the-variants as adds
+use Rattle.engine.specs.Links.{addOf, confirmOf, blockOf, markOf, pingOf, pongOf}
+use Rattle.engine.specs.Unconfirming.{unconfirmOf, removeOf}
+use Rattle.engine.specs.declared.sending.SendAnswer.{SendAnswer}
+use Rattle.engine.specs.declared.sending.SendAnswer.the-variants as sends
+use Rattle.engine.specs.declared.resending.ResendAnswer.{ResendAnswer}
+use Rattle.engine.specs.declared.resending.ResendAnswer.the-variants as resends
+use Rattle.engine.specs.Sending.{sendOf, sendStore}
+use Rattle.engine.specs.Flushing.{flushOf}
+use Rattle.engine.specs.Resending.{resendOf}
+use Rattle.engine.specs.Acking.{ackOf}
+use Rattle.engine.specs.Receiving.{receiveOf, receiveStore}
+use Rattle.engine.specs.declared.handing_out.HandOut.{HandOut}
+use Rattle.engine.specs.declared.handing_out.HandOut.the-variants as handouts
+use Rattle.engine.specs.declared.handing_out.TakeAck.{TakeAck as AckAnswer}
+use Rattle.engine.specs.declared.handing_out.TakeAck.the-variants as acks
+use Rattle.engine.specs.HandingOut.{shownOf, takeOf, takeAckOf}
+use Rattle.engine.specs.Sizes.{PACKETS, SENT_BYTES, RECEIVED_BYTES}
 
 -- ---- what there is
 
@@ -160,7 +158,7 @@ resendBy (resends.Message kind len) W n s = record {
   start = W .start;
   a = after (W .a) s;
   b = W .b;
-  ab = putMsg (W .ab) (record { index = newest (W .start) (length (W .a .given)) n; number = n; msg = record { kind = kind; bytes = take len (drop (cellStart n) (W .a .sent)) } });
+  ab = putMsg (W .ab) (record { index = newest (W .start) (length (W .a .given)) n; number = n; msg = record { kind = kind; bytes = take len (drop (cellStart PACKETS n) (W .a .sent)) } });
   ba = W .ba;
 }
 resendBy (resends.No r) W n s = moved W (after (W .a) s)
@@ -273,5 +271,5 @@ freshWorld start a b = record { start = start; a = a; b = b; ab = silent; ba = s
 pub data Fresh : World → Type 0 where
   fresh : (start buffer-a buffer-b : ℕ) (sent-a received-a sent-b received-b : List ℕ) → start < 2 ^ 32
       → freshOf start buffer-a .outcome ≡ outcomes.Done → freshOf start buffer-b .outcome ≡ outcomes.Done
-      → length sent-a ≡ 65536 → length received-a ≡ 65536 → length sent-b ≡ 65536 → length received-b ≡ 65536
+      → length sent-a ≡ SENT_BYTES → length received-a ≡ RECEIVED_BYTES → length sent-b ≡ SENT_BYTES → length received-b ≡ RECEIVED_BYTES
       → Fresh (freshWorld start (freshEnd start buffer-a sent-a received-a) (freshEnd start buffer-b sent-b received-b))

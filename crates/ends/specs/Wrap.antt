@@ -6,9 +6,10 @@ use Prim.Native.Nat.{ℕ, _+_, _-_, _%_, _≤_, _<_}
 use native.Mathlib.Omega.{arith}
 use lib.Dec.{ltb}
 use borrow.Author.Tests.{ltb-true, ltb-false}
-use Rattle.refusal.specs.Verdicts.{by-test, false-true}
+use borrow.Table.Steps.{cases}
 use Rattle.seq.specs.Numbers.{plus, minus, before}
 use Rattle.seq.specs.Laws.{before-high, before-low}
+use Rattle.refusal.specs.Tests.{false-true}
 
 -- the number that count j has
 abbrev pub num : ℕ → ℕ → ℕ
@@ -37,13 +38,13 @@ num-cell s j = omega arith
 pub before-true : (a b : ℕ) → before a b ≡ true → 2147483648 ≤ diff a b
 unfolding minus
 before-true a b e =
-    by-test (ltb (minus a b) 2147483648)
+    cases (ltb (minus a b) 2147483648)
     (λ t. false-true (rw (before-low a b (ltb-true (minus a b) 2147483648 t)) at e))
     (λ t. ltb-false (minus a b) 2147483648 t)
 
 pub before-false : (a b : ℕ) → before a b ≡ false → diff a b < 2147483648
 unfolding minus
 before-false a b e =
-    by-test (ltb (minus a b) 2147483648)
+    cases (ltb (minus a b) 2147483648)
     (λ t. ltb-true (minus a b) 2147483648 t)
     (λ t. false-true (sym (rw (before-high a b (ltb-false (minus a b) 2147483648 t)) at e)))

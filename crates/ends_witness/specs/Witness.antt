@@ -7,45 +7,40 @@ use mathlib.Core.List.{List, [], _∷_, List·Memᴰ, List·Memᴰ·head, List·
 use Prim.Native.Nat.{ℕ, _+_, _^_, _<_}
 use native.Mathlib.Omega.{arith}
 use native.Mathlib.Decide.{ℕ-discrete}
-use lib.ListN.{length, take, replicate, length-replicate}
+use lib.ListN.{length, replicate, length-replicate}
 use Rattle.msg.specs.declared.reliable.ReliableMsg.the-variants as msgs
 use Rattle.refusal.specs.Refusals.{refuse}
 use Rattle.link.specs.declared.row.MaxPing.the-variants.{Unlimited}
-use Rattle.engine_state.specs.declared.state.SentReliableStatus.{SentReliableStatus}
-use Rattle.engine_state.specs.declared.state.SentReliableStatus.the-variants as statuses
-use Rattle.engine_state.specs.declared.answer.Outcome.the-variants as outcomes
-use Rattle.engine_state.specs.Stores.{storeBy, placed, cellStart}
-use Rattle.engine_handout.specs.declared.ready.HandOut.the-variants as handouts
+use Rattle.engine.specs.declared.state.SentReliableStatus.{SentReliableStatus}
+use Rattle.engine.specs.declared.state.SentReliableStatus.the-variants as statuses
+use Rattle.engine.specs.declared.answer.Outcome.the-variants as outcomes
+use Rattle.engine.specs.Stores.{storeBy, copied, cellStart}
+use Rattle.engine.specs.declared.handing_out.HandOut.the-variants as handouts
 use Rattle.seq.specs.Numbers.{plus, minus, signed, before}
 use Rattle.link.specs.Acks.{ackQueued, oldestAck, shifted, ackTaken}
 use Rattle.link.specs.Limit.{markedRow, markAckedAs, markResentAs}
 use Rattle.link.specs.Roundtrip.{tripAfter, tripMoved}
 use Rattle.link.specs.Row.{freshRow, emptyRow, unconfirmedRow, withUnacked}
 use Rattle.link.specs.Sizes.{rowWithin}
-use Rattle.engine_state.specs.CellTally.{cellOk, cellWeighed, cellTallyFrom, cellTallyOf}
-use Rattle.engine_state.specs.Cells.{nextCell, cellsFrom}
-use Rattle.engine_state.specs.Decide.{firstOk, rowOk, rowsFrom, distinctBelow, sendingb, receivingb, linksb, soundb}
-use Rattle.engine_fresh.specs.Fresh.{freshTx, freshRx, freshState, freshVerdict, freshOf}
-use Rattle.engine_state.specs.Gates.{slotVerdict, timedVerdict}
-use Rattle.engine_state.specs.Queue.{putIn, gatherFrom, gatherOf, requeued}
-use Rattle.engine_state.specs.Ring.{window}
-use Rattle.engine_state.specs.Roster.{rosterOf, livesIn, livesBefore}
-use Rattle.engine_state.specs.Rows.{rowOf, slotOk, timeOk}
-use Rattle.engine_state.specs.Table.{inTable, packetOf, withPacket}
-use Rattle.engine_state.specs.Tally.{lengthOk, statusOk, packetOk, weighed, tallyFrom, tallyOf}
-use Rattle.engine_add.specs.Add.{lowestEmpty, addVerdict, addOf}
-use Rattle.engine_unconfirm.specs.Unconfirm.{unconfirmedAs, unconfirmedState, unconfirmOf}
-use Rattle.engine_resend.specs.Resend.{resendVerdict, resentState, resendOf}
-use Rattle.engine_send.specs.Send.{totalsOk, sendVerdict, sentTx, toldRx, sentState, sendOf, sendStore}
-use Rattle.engine_ack.specs.Ack.{placeOk, ackVerdict, ackedRow, ackedTx, ackedState, ackOf}
-use Rattle.engine_ack.specs.Settle.{settledRowAs, receivedTx, settledTxAs}
-use Rattle.engine_ack.specs.Sweep.{sweepFrom, sweepOf, sweptTx}
-use Rattle.engine_cells.specs.Cells.{cellOf, nearOldest, isRepeat, canAdvance, passedOver, advanced}
-use Rattle.engine_receive.specs.Receive.{receiveVerdict, effectTx, storedRx, repeatedState, receivedState, receiveOf, receiveStore}
-use Rattle.engine_acks.specs.Acks.{ackAnswer, takenAckState, takeAckOf}
-use Rattle.engine_handout.specs.Ready.{readyOf, handOutBy}
-use Rattle.engine_handout.specs.Show.{showVerdict, showingOf, shownOf, partAs}
-use Rattle.engine_handout.specs.Take.{takeVerdict, canSkip, passedBy, skipped, takenRx, takenState, takeOf}
+use Rattle.engine.specs.CellTally.{cellOk, cellWeighed, cellTallyFrom, cellTallyOf}
+use Rattle.engine.specs.Decide.{firstOk, rowOk, rowsFrom, distinctBelow, sendingb, receivingb, linksb, soundb}
+use Rattle.engine.specs.Starting.{freshTx, freshRx, freshState, freshVerdict, freshOf}
+use Rattle.engine.specs.Gates.{slotVerdict, timedVerdict}
+use Rattle.engine.specs.Queue.{putIn, gatherFrom, gatherOf, requeued}
+use Rattle.engine.specs.Ring.{window, nextCell}
+use Rattle.engine.specs.Roster.{rosterOf, livesIn, livesBefore}
+use Rattle.engine.specs.Rows.{rowOf, slotOk, timeOk}
+use Rattle.engine.specs.Table.{inTable, packetOf, withPacket}
+use Rattle.engine.specs.Tally.{lengthOk, statusOk, packetOk, weighed, tallyFrom, tallyOf}
+use Rattle.engine.specs.Links.{lowestEmpty, addVerdict, addOf}
+use Rattle.engine.specs.Unconfirming.{unconfirmedAs, unconfirmedState, unconfirmOf}
+use Rattle.engine.specs.Resending.{resendVerdict, resentState, resendOf}
+use Rattle.engine.specs.Sending.{totalsOk, sendVerdict, sentTx, toldRx, sentState, sendOf, sendStore}
+use Rattle.engine.specs.Acking.{placeOk, ackVerdict, ackedRow, ackedTx, ackedState, ackOf, settledRowAs, receivedTx, settledTxAs, sweepFrom, sweepOf, sweptTx}
+use Rattle.engine.specs.Cells.{cellOf, nearOldest, isRepeat, canAdvance, passedOver, advanced}
+use Rattle.engine.specs.Receiving.{receiveVerdict, effectTx, storedRx, repeatedState, receivedState, receiveOf, receiveStore}
+use Rattle.engine.specs.HandingOut.{ackAnswer, takenAckState, takeAckOf, readyOf, handOutBy, showVerdict, showingOf, shownOf, partAs, takeVerdict, canSkip, passedBy, skipped, takenRx, takenState, takeOf}
+use Rattle.engine.specs.Sizes.{CELLS, PACKETS}
 use Rattle.ends.specs.World.{Msg, Packet, Ack, World, swap, after, moved, addAt, sendBy, sendAt, resendAt, receiveBy, receiveAt, takeBy, takeAt, takeAckAt, freshWorld, freshEnd, Call, Add, Unconfirm, Send, Resend, Receive, Acked, Take, TakeAck, at-a, at-b, Run, here, _then_, Fresh, fresh}
 use Rattle.ends.specs.Demand.{Emptied, SentOver, statusOf, Returned, now, earlier, Open}
 use Rattle.ends.specs.Theorem.{demand3}
@@ -57,7 +52,7 @@ sendWith : ℕ → World → ℕ → ℕ → Msg → World
 sendWith n W slot time m =
     let r = sendOf (W .a .state) n slot time (m .kind) (length (m .bytes)) in
     sendBy (r .answer) W m (r .state)
-    (storeBy (sendVerdict (W .a .state) n slot time (m .kind) (length (m .bytes))) (W .a .sent) (placed (W .a .sent) (cellStart (W .a .state .tx .«tx_seq» .0)) (m .bytes)))
+    (storeBy (sendVerdict (W .a .state) n slot time (m .kind) (length (m .bytes))) (W .a .sent) (copied (W .a .sent) (cellStart PACKETS (W .a .state .tx .«tx_seq» .0)) (m .bytes)))
 
 receiveWith : ℕ → World → ℕ → Packet → World
 receiveWith n W slot p =
@@ -65,7 +60,7 @@ receiveWith n W slot p =
     moved W
     (receiveBy (r .outcome) (W .a) slot p (r .state)
     (storeBy (receiveVerdict (W .a .state) n slot (p .msg .kind) (p .number) (length (p .msg .bytes))) (W .a .received)
-    (cond (isRepeat 64 (W .a .state .rx) (p .number)) (W .a .received) (placed (W .a .received) (cellStart (p .number)) (p .msg .bytes)))))
+    (cond (isRepeat 64 (W .a .state .rx) (p .number)) (W .a .received) (copied (W .a .received) (cellStart CELLS (p .number)) (p .msg .bytes)))))
 
 takeWith : ℕ → World → World
 takeWith n W = let r = takeOf (W .a .state) in moved W (takeBy (r .answer) (W .a) (partAs (showingOf (W .a .state) n) (W .a .received)) (r .state))
@@ -85,7 +80,7 @@ take-step W h = subst (λ (n : ℕ). Call W (takeWith n W)) h Take
 
 -- a packet that is Sent isn't Received
 sent-unreceived : (st : SentReliableStatus) (slot : ℕ) → SentOver st slot → st ≡ statuses.Received → ⊥
-sent-unreceived (statuses.Sent time flushed on link) slot h e = let z : _≡_ {A = ℕ} 0 1 = cc in omega arith
+sent-unreceived (statuses.Sent flight) slot h e = let z : _≡_ {A = ℕ} 0 1 = cc in omega arith
 sent-unreceived statuses.Received slot h e = h
 sent-unreceived (statuses.ResendQueued link) slot h e = h
 
@@ -130,7 +125,7 @@ pub record Met (sent-a received-a sent-b received-b : List ℕ) : Type 0 where
   pub accepted : ended .b .accepted ≡ p0 ∷ p0 ∷ p1 ∷ []
   -- the table is empty, nothing is left to take, and all that was given was handed out
   pub emptied : Emptied ended
-  pub nothing : takeOf (ended .b .state) .answer ≡ handouts.No (refuse 19)
+  pub nothing : takeOf (ended .b .state) .answer ≡ handouts.No (refuse 19 tt)
   pub given : ended .a .given ≡ data-7 ∷ finish ∷ []
   pub out : ended .b .out ≡ data-7 ∷ finish ∷ []
 
@@ -237,13 +232,13 @@ module _ (sa ra sb rb : List ℕ) where
     accepted-16 : ackOf (w16 .a .state) 1 0 4294967295 .outcome ≡ outcomes.Done
     table-9 : w9 .a .state .tx .«txed_count» ≡ 2
     table-17 : w17 .a .state .tx .«txed_count» ≡ 0
-    none-17 : takeOf (w17 .b .state) .answer ≡ handouts.No (refuse 19)
+    none-17 : takeOf (w17 .b .state) .answer ≡ handouts.No (refuse 19 tt)
     copies-17 : length (w17 .ab .msgs) ≡ 4
     all-17 : w17 .b .accepted ≡ p0 ∷ p0 ∷ p1 ∷ []
     out-17 : w17 .b .out ≡ record { kind = msgs.Data; bytes = received-cell } ∷ finish ∷ []
 
   computed : Computed
-  unfolding plus minus signed before ackQueued oldestAck shifted ackTaken markedRow markAckedAs markResentAs tripAfter tripMoved freshRow emptyRow unconfirmedRow withUnacked rowWithin cellOk cellWeighed cellTallyFrom cellTallyOf nextCell cellsFrom firstOk rowOk rowsFrom distinctBelow sendingb receivingb linksb soundb freshTx freshRx freshState freshVerdict freshOf slotVerdict timedVerdict putIn gatherFrom gatherOf requeued window rosterOf livesIn livesBefore rowOf slotOk timeOk inTable packetOf withPacket lengthOk statusOk packetOk weighed tallyFrom tallyOf lowestEmpty addVerdict addOf unconfirmedAs unconfirmedState unconfirmOf resendVerdict resentState resendOf totalsOk sendVerdict sentTx toldRx sentState sendOf sendStore placeOk ackVerdict ackedRow ackedTx ackedState ackOf settledRowAs receivedTx settledTxAs sweepFrom sweepOf sweptTx cellOf nearOldest isRepeat canAdvance passedOver advanced receiveVerdict effectTx storedRx repeatedState receivedState receiveOf receiveStore ackAnswer takenAckState takeAckOf readyOf handOutBy showVerdict showingOf shownOf takeVerdict canSkip passedBy skipped takenRx takenState takeOf addAt resendAt takeAckAt sendWith receiveWith takeWith w0 w1 w2 w3 w4 w5 w6 w7 w8 w9 w10 w11 w12 w13 w14 w15 w16 w17
+  unfolding plus minus signed before ackQueued oldestAck shifted ackTaken markedRow markAckedAs markResentAs tripAfter tripMoved freshRow emptyRow unconfirmedRow withUnacked rowWithin cellOk cellWeighed cellTallyFrom cellTallyOf nextCell window firstOk rowOk rowsFrom distinctBelow sendingb receivingb linksb soundb freshTx freshRx freshState freshVerdict freshOf slotVerdict timedVerdict putIn gatherFrom gatherOf requeued rosterOf livesIn livesBefore rowOf slotOk timeOk inTable packetOf withPacket lengthOk statusOk packetOk weighed tallyFrom tallyOf lowestEmpty addVerdict addOf unconfirmedAs unconfirmedState unconfirmOf resendVerdict resentState resendOf totalsOk sendVerdict sentTx toldRx sentState sendOf sendStore placeOk ackVerdict ackedRow ackedTx ackedState ackOf settledRowAs receivedTx settledTxAs sweepFrom sweepOf sweptTx cellOf nearOldest isRepeat canAdvance passedOver advanced receiveVerdict effectTx storedRx repeatedState receivedState receiveOf receiveStore ackAnswer takenAckState takeAckOf readyOf handOutBy showVerdict showingOf shownOf takeVerdict canSkip passedBy skipped takenRx takenState takeOf addAt resendAt takeAckAt sendWith receiveWith takeWith w0 w1 w2 w3 w4 w5 w6 w7 w8 w9 w10 w11 w12 w13 w14 w15 w16 w17
   computed = record {
     sent-3 = refl;
     sent-4 = refl;

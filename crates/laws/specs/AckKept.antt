@@ -3,53 +3,56 @@
 use mathlib.Core.Path.{_≡_, refl, sym, ap, _∙_}
 use mathlib.Core.Bool.{true, cond}
 use mathlib.Core.List.{List}
-use Prim.Native.Nat.{ℕ, _+_, _-_, _%_, _^_, _≤_, _<_}
+use Prim.Native.Nat.{ℕ, _+_, _-_, _^_, _≤_, _<_}
 use native.Mathlib.Decide.{ℕ-discrete}
 use native.Mathlib.Omega.{arith}
 use lib.Dec.{eqb}
-use lib.ListN.{length, set, take, length-set}
+use lib.ListN.{length, set, take}
 use borrow.Author.Tests.{eq-eqb, ne-eqb}
+use borrow.Table.Steps.{cases}
 use Rattle.seq.specs.declared.Seq.{Seq}
-use Rattle.refusal.specs.Verdicts.{by-test}
 use Rattle.link.specs.declared.row.LinkRow.{LinkRow}
 use Rattle.link.specs.Row.{withUnacked}
 use Rattle.link.specs.Limit.{markAcked}
 use Rattle.link.specs.Roundtrip.{tripMoved}
-use Rattle.engine_state.specs.declared.state.Flushed.{Flushed}
-use Rattle.engine_state.specs.declared.state.SentReliableStatus.{SentReliableStatus}
-use Rattle.engine_state.specs.declared.state.SentReliableStatus.the-variants.{Sent, Received, ResendQueued}
-use Rattle.engine_state.specs.declared.state.SentReliable.{SentReliable}
-use Rattle.engine_state.specs.declared.state.Sending.{Sending}
-use Rattle.engine_state.specs.declared.state.State.{State}
-use Rattle.engine_state.specs.Packets.{packets, isQueued, queuedOf, Pick, SentOn, Outstanding, Settled, weightAs, sumOf}
-use Rattle.engine_state.specs.Queue.{requeued, gatherOf}
-use Rattle.engine_state.specs.Table.{inTable, packetOf, withStatus}
-use Rattle.engine_state.specs.InTable.{packet-short, sum-small}
-use Rattle.engine_state.specs.Rows.{rowOf, row-of}
-use Rattle.engine_state.specs.Sound.{Sound, Shaped, rowAt}
-use Rattle.engine_state.specs.DecidedTables.{RowFine}
-use Rattle.engine_ack.specs.Settle.{settledRowAs, receivedTx, settledTxAs}
-use Rattle.engine_ack.specs.Sweep.{sweptTx}
-use Rattle.engine_ack.specs.Ack.{ackVerdict, ackedRow, ackedTx, ackedState, ackOf}
+use Rattle.link.specs.Sizes.{MAX_TIME}
+use Rattle.engine.specs.declared.state.SentReliableStatus.{SentReliableStatus}
+use Rattle.engine.specs.declared.state.SentReliableStatus.the-variants.{Sent, Received, ResendQueued}
+use Rattle.engine.specs.declared.state.SentReliable.{SentReliable}
+use Rattle.engine.specs.declared.state.Sending.{Sending}
+use Rattle.engine.specs.declared.state.State.{State}
+use Rattle.engine.specs.Packets.{packets, isQueued, queuedOf, Pick, SentOn, Outstanding, Settled, weightAs, sumOf}
+use Rattle.engine.specs.Queue.{requeued, gatherOf}
+use Rattle.engine.specs.Table.{inTable, packetOf}
+use Rattle.engine.specs.InTable.{packet-short, sum-small}
+use Rattle.engine.specs.Rows.{rowOf, row-of}
+use Rattle.engine.specs.Sound.{Sound, Shaped, rowAt}
+use Rattle.engine.specs.DecidedTables.{RowFine}
+use Rattle.engine.specs.Acking.{settledRowAs, receivedTx, settledTxAs, sweptTx, ackVerdict, ackedRow, ackedTx, ackedState, ackOf}
+use Rattle.engine.specs.Fields.{withStatus}
+use Rattle.engine.specs.declared.state.InFlight.{InFlight}
+use Rattle.engine.specs.Sizes.{SLOTS, PACKETS}
 use Rattle.laws.specs.Passed.{changed-keeps, timed-passed}
-use Rattle.laws.specs.RowsKept.{rows-of, row-later, rows-set, apart-kept, here-same, row-sound, row-shaped}
+use Rattle.laws.specs.RowsKept.{rows-of, row-later, links-set, rows-set, apart-kept, here-same, row-sound, row-shaped}
 use Rattle.laws.specs.PacketsKept.{requeued-queue, requeued-count, requeued-long}
 use Rattle.laws.specs.PacketReplaced.{replaced, replaced-sum, replaced-queued}
-use Rattle.laws.specs.NearlySound.{Nearly, sound-nearly, withSent, nearly-sound, sent-shaped, restated, restated-nearly}
+use Rattle.laws.specs.NearlySound.{Nearly, sound-nearly, withSent, nearly-sound, restated, restated-shaped, restated-nearly}
+use Rattle.laws.specs.RowAcks.{SameAcks, acked-acks, same-full}
 use Rattle.laws.specs.RowChanged.{like-fine, mark-acked, bytes-fine, bytes-live, bytes-id, trip-fine, trip-live, trip-id}
 use Rattle.laws.specs.SweepKept.{swept-nearly, swept-first, swept-shaped}
 
 module _ (s : State) (slot time a : ℕ) (shaped : Shaped s) (sound : Sound s) (number : a < 2 ^ 32)
-    (later : s .time ≤ time) (top : time ≤ 2 ^ 56) (small : slot < 8) where
-  -- the state before the sweep is shaped and nearly sound
+    (later : s .time ≤ time) (top : time ≤ MAX_TIME) (small : slot < SLOTS) where
+  -- the state before the sweep is shaped, since the row keeps its waiting acks, and nearly sound
   abbrev Fits : LinkRow → Sending → Type 0
-  Fits row tx = Shaped (withSent s (set (s .links) slot row) tx time) × Nearly (withSent s (set (s .links) slot row) tx time)
+  Fits row tx =
+      (SameAcks row (rowOf s slot) → Shaped (withSent s (set (s .links) slot row) tx time)) × Nearly (withSent s (set (s .links) slot row) tx time)
 
   abbrev sums : ℕ → ℕ
   sums j = sumOf (SentOn j) (packets (s .tx))
 
   inside : slot < length (s .links)
-  inside = omega (arith, shaped .links-eight, small)
+  inside = omega (arith, shaped .links-full, small)
 
   -- ---- the mark alone
 
@@ -70,7 +73,7 @@ module _ (s : State) (slot time a : ℕ) (shaped : Shaped s) (sound : Sound s) (
   only-marked : Fits marked (s .tx)
   only-marked =
       let fine : RowFine marked (rowAt s slot .«txed_unacked_data») time = rw (sound .link-unacked slot small) marked-fine in
-      (row-shaped s slot marked time shaped, sound-nearly _ (row-sound s slot marked time shaped sound small later top marked-live marked-id fine))
+      (λ same. row-shaped s slot marked time shaped (same-full s slot shaped marked same) (omega arith), sound-nearly _ (row-sound s slot marked time shaped sound small later top marked-live marked-id fine))
 
   -- ---- the packet becomes Received
 
@@ -82,23 +85,22 @@ module _ (s : State) (slot time a : ℕ) (shaped : Shaped s) (sound : Sound s) (
     after = replaced (s .tx) a (withStatus old Received)
 
     sum-after : (k : Pick) → sumOf k after + weightAs k (old .status) (old .len) ≡ sumOf k (packets (s .tx)) + weightAs k Received (old .len)
-    sum-after k = replaced-sum (s .tx) a (shaped .next-u32) number (sound .packet-count) (shaped .packets-64) held (withStatus old Received) k
+    sum-after k = replaced-sum (s .tx) a (shaped .next-u32) number (sound .packet-count) (shaped .packets-full) held (withStatus old Received) k
 
     -- whatever row and queue: the row is as Sound asks, and the queue lists what is queued
     received-fits : (row : LinkRow) (q : List Seq) (c : ℕ) → row .live ≡ rowAt s slot .live → row .«link_id» ≡ rowAt s slot .«link_id»
-        → RowFine row (sumOf (SentOn slot) after) time → ((j : ℕ) → j < 8 → (j ≡ slot → ⊥) → weightAs (SentOn j) (old .status) (old .len) ≡ 0)
+        → RowFine row (sumOf (SentOn slot) after) time → ((j : ℕ) → j < SLOTS → (j ≡ slot → ⊥) → weightAs (SentOn j) (old .status) (old .len) ≡ 0)
         → weightAs Outstanding (old .status) (old .len) ≡ old .len → weightAs Settled (old .status) (old .len) ≡ 0
-        → take c q ≡ queuedOf after → c ≤ 64 → length q ≡ 64
+        → take c q ≡ queuedOf after → c ≤ PACKETS → length q ≡ PACKETS
         → Fits row (restated (s .tx) a Received q c (s .tx .«txed_unacked» - old .len) (s .tx .«txed_unconsumable» + old .len))
     received-fits row q c live id fine others counted settled lists room places =
         let tx = restated (s .tx) a Received q c (s .tx .«txed_unacked» - old .len) (s .tx .«txed_unconsumable» + old .len) in
         let links = set (s .links) slot row in (
-          sent-shaped s links tx time shaped
-              (length-set (s .links) slot row ∙ shaped .links-eight)
-              (length-set (s .tx .«txed_packets») (a % 64) (withStatus old Received) ∙ shaped .packets-64)
+          λ same. restated-shaped s a shaped sound number held Received links time q c
+              (s .tx .«txed_unacked» - old .len) (s .tx .«txed_unconsumable» + old .len)
+              (links-set s slot row shaped (same-full s slot shaped row same))
+              top
               places
-              (shaped .next-u32)
-              (sound .packet-count)
               room
               (omega (arith, shaped .unacked-u32))
               (omega (arith, packet-short s shaped sound a number held, sum-small s shaped sound Settled, sound .unconsumable)),
@@ -114,26 +116,26 @@ module _ (s : State) (slot time a : ℕ) (shaped : Shaped s) (sound : Sound s) (
         )
 
     -- "Sent on this slot, .. its size leaves the link's unacked bytes"
-    sent-fits : (since : ℕ) (flushed : Flushed) (on link : ℕ) → on ≡ slot → old .status ≡ Sent since flushed on link
-        → Fits (tripMoved (withUnacked marked (marked .«txed_unacked_data» - old .len)) since time) (receivedTx (s .tx) a old)
+    sent-fits : (flight : InFlight) → flight .slot ≡ slot → old .status ≡ Sent flight
+        → Fits (tripMoved (withUnacked marked (marked .«txed_unacked_data» - old .len)) (flight .sent) time) (receivedTx (s .tx) a old)
     unfolding receivedTx
-    sent-fits since flushed on link q e =
-        let weighs : (k : Pick) → weightAs k (old .status) (old .len) ≡ weightAs k (Sent since flushed on link) (old .len) =
+    sent-fits flight q e =
+        let weighs : (k : Pick) → weightAs k (old .status) (old .len) ≡ weightAs k (Sent flight) (old .len) =
         λ k. ap (λ st. weightAs k st (old .len)) e in
-        let here : cond (eqb on slot) (old .len) 0 ≡ old .len = simp (eq-eqb on slot q) in
+        let here : cond (eqb (flight .slot) slot) (old .len) 0 ≡ old .len = simp (eq-eqb (flight .slot) slot q) in
         let bytes : marked .«txed_unacked_data» - old .len ≡ sumOf (SentOn slot) after =
         omega (arith, marked-fine .sums, sum-after (SentOn slot), weighs (SentOn slot), here) in
         let less = withUnacked marked (marked .«txed_unacked_data» - old .len) in
-        received-fits (tripMoved less since time) (s .tx .«resend_queue») (s .tx .«resend_count»)
-        (trip-live less since time ∙ bytes-live marked _ ∙ marked-live)
-        (trip-id less since time ∙ bytes-id marked _ ∙ marked-id)
-        (trip-fine less (sumOf (SentOn slot) after) since time top
+        received-fits (tripMoved less (flight .sent) time) (s .tx .«resend_queue») (s .tx .«resend_count»)
+        (trip-live less (flight .sent) time ∙ bytes-live marked _ ∙ marked-live)
+        (trip-id less (flight .sent) time ∙ bytes-id marked _ ∙ marked-id)
+        (trip-fine less (sumOf (SentOn slot) after) (flight .sent) time top
         (bytes-fine marked (sums slot) (marked .«txed_unacked_data» - old .len) (sumOf (SentOn slot) after) time bytes marked-fine))
-        (λ j l ne. weighs (SentOn j) ∙ simp (ne-eqb on j (λ f. ne (sym f ∙ q))))
+        (λ j l ne. weighs (SentOn j) ∙ simp (ne-eqb (flight .slot) j (λ f. ne (sym f ∙ q))))
         (weighs Outstanding) (weighs Settled)
-        (sound .queued ∙ sym (replaced-queued (s .tx) a (shaped .next-u32) number (sound .packet-count) (shaped .packets-64) held
+        (sound .queued ∙ sym (replaced-queued (s .tx) a (shaped .next-u32) number (sound .packet-count) (shaped .packets-full) held
         (withStatus old Received) refl (sym (ap isQueued e))))
-        (sound .queue-count) (shaped .queue-64)
+        (sound .queue-count) (shaped .queue-full)
 
     -- "ResendQueued, the same without the link, and it leaves the queue"
     queued-fits : (link : ℕ) → old .status ≡ ResendQueued link → Fits marked (requeued (receivedTx (s .tx) a old))
@@ -146,16 +148,16 @@ module _ (s : State) (slot time a : ℕ) (shaped : Shaped s) (sound : Sound s) (
         received-fits marked (gatherOf tx .numbers) (gatherOf tx .count) marked-live marked-id (rw same at marked-fine)
         (λ j l ne. weighs (SentOn j))
         (weighs Outstanding) (weighs Settled)
-        (requeued-queue tx (sound .packet-count) (shaped .queue-64))
-        (requeued-count tx (sound .packet-count) (shaped .queue-64))
-        (requeued-long tx (sound .packet-count) (shaped .queue-64))
+        (requeued-queue tx (sound .packet-count) (shaped .queue-full))
+        (requeued-count tx (sound .packet-count) (shaped .queue-full))
+        (requeued-long tx (sound .packet-count) (shaped .queue-full))
 
     settled-fits : (st : SentReliableStatus) → old .status ≡ st → Fits (settledRowAs st marked (old .len) slot time) (settledTxAs st (s .tx) slot a old)
     unfolding settledRowAs settledTxAs
-    settled-fits (Sent since flushed on link) e =
-        elim (ℕ-discrete on slot) [
-          | yes q ↦ simp (eq-eqb on slot q) (sent-fits since flushed on link q e)
-          | no ne ↦ simp (ne-eqb on slot ne) only-marked
+    settled-fits (Sent flight) e =
+        elim (ℕ-discrete (flight .slot) slot) [
+          | yes q ↦ simp (eq-eqb (flight .slot) slot q) (sent-fits flight q e)
+          | no ne ↦ simp (ne-eqb (flight .slot) slot ne) only-marked
         ]
     settled-fits Received e = only-marked
     settled-fits (ResendQueued link) e = queued-fits link e
@@ -165,7 +167,7 @@ module _ (s : State) (slot time a : ℕ) (shaped : Shaped s) (sound : Sound s) (
   acked-fits : Fits (ackedRow s slot time a) (ackedTx s slot a)
   unfolding ackedRow ackedTx
   acked-fits =
-      by-test (inTable (s .tx) a)
+      cases (inTable (s .tx) a)
       (λ t. simp t (settled-fits t (packetOf (s .tx) a .status) refl))
       (λ f. simp f only-marked)
 
@@ -180,7 +182,7 @@ module _ (s : State) (slot time a : ℕ) (shaped : Shaped s) (sound : Sound s) (
   unfolding ackedState
   acked-shaped =
       let before = withSent s (set (s .links) slot (ackedRow s slot time a)) (ackedTx s slot a) time in
-      swept-shaped before (acked-fits .1) (acked-fits .0)
+      swept-shaped before (acked-fits .1) (acked-fits .0 (acked-acks s slot time a))
 
 -- ---- the call
 

@@ -7,21 +7,16 @@ use lib.ListN.{length}
 use Rattle.seq.specs.declared.Seq.{Seq}
 use Rattle.msg.specs.declared.reliable.ReliableMsg.{ReliableMsg}
 use Rattle.link.specs.declared.row.MaxPing.{MaxPing}
-use Rattle.engine_state.specs.declared.state.State.{State}
-use Rattle.engine_state.specs.Answer.{outcomeNumber}
-use Rattle.engine_add.specs.Add.{addOf, addNumber}
-use Rattle.engine_links.specs.Changes.{confirmOf, blockOf, markOf, pingOf, pongOf}
-use Rattle.engine_unconfirm.specs.Unconfirm.{unconfirmOf, removeOf}
-use Rattle.engine_send.specs.Send.{sendOf, sendStore, sendNumber}
-use Rattle.engine_flush.specs.Flush.{flushOf}
-use Rattle.engine_resend.specs.Resend.{resendOf, resendNumber}
-use Rattle.engine_ack.specs.Ack.{ackOf}
-use Rattle.engine_receive.specs.Receive.{receiveOf, receiveStore}
-use Rattle.engine_handout.specs.Ready.{handOutNumber}
-use Rattle.engine_handout.specs.Show.{showingOf}
-use Rattle.engine_handout.specs.Take.{takeOf}
-use Rattle.engine_acks.specs.Acks.{takeAckOf, takeAckNumber}
-use Rattle.engine_acks.specs.Due.{dueOf, dueNumber}
+use Rattle.engine.specs.declared.state.State.{State}
+use Rattle.engine.specs.Answer.{outcomeNumber}
+use Rattle.engine.specs.Links.{addOf, addNumber, confirmOf, blockOf, markOf, pingOf, pongOf}
+use Rattle.engine.specs.Unconfirming.{unconfirmOf, removeOf}
+use Rattle.engine.specs.Sending.{sendOf, sendStore, sendNumber}
+use Rattle.engine.specs.Flushing.{flushOf}
+use Rattle.engine.specs.Resending.{resendOf, resendNumber}
+use Rattle.engine.specs.Acking.{ackOf}
+use Rattle.engine.specs.Receiving.{receiveOf, receiveStore}
+use Rattle.engine.specs.HandingOut.{handOutNumber, showingOf, takeOf, takeAckOf, takeAckNumber, dueOf, dueNumber}
 
 pub data Call : Type 0 where
   Add : (id roundtrip : ℕ) (max : MaxPing) (blocked unconfirmed : Bool) → Call

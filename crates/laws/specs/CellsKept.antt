@@ -7,24 +7,26 @@ use Prim.Native.Nat.{ℕ, zero, suc, _+_, _-_, _%_, _^_, _≤_, _<_, _∣_}
 use native.Mathlib.Decide.{ℕ-discrete}
 use native.Mathlib.Nat.{mod-lt}
 use native.Mathlib.Omega.{arith}
-use lib.Dec.{eqb, ltb, leb}
+use lib.Dec.{eqb, ltb}
 use borrow.Author.Tests.{ltb-true, ltb-false, lt-ltb, eqb-true, eq-eqb}
 use lib.ListN.{length, getD, set, length-set}
+use borrow.Table.Steps.{cases}
 use Rattle.seq.specs.Numbers.{seqOf, plus, minus, before}
 use Rattle.seq.specs.Laws.{plus-lt, before-high}
 use Rattle.msg.specs.declared.reliable.ReliableMsg.{ReliableMsg}
 use Rattle.msg.specs.declared.reliable.ReliableMsg.the-variants.{Data, Consumed, SendFinish, ReceiveClose, ReceiveFinish}
-use Rattle.refusal.specs.Verdicts.{false-true, split, by-test}
-use Rattle.engine_state.specs.declared.state.Held.{Held}
-use Rattle.engine_state.specs.declared.state.Held.the-variants.{Nothing, Message}
-use Rattle.engine_state.specs.declared.state.RxCell.{RxCell}
-use Rattle.engine_state.specs.declared.state.Receiving.{Receiving}
-use Rattle.engine_state.specs.Packets.{isData}
-use Rattle.engine_state.specs.Cells.{noCell, isFull, heldBytes, bytesIn}
-use Rattle.engine_state.specs.Tally.{lengthOk}
-use Rattle.engine_state.specs.Sound.{ReadyKind, LengthWithin}
-use Rattle.engine_cells.specs.Cells.{cellOf, nearOldest, canAdvance, keptOf, oldestAfter, passedOver, advanced}
+use Rattle.engine.specs.declared.state.Held.{Held}
+use Rattle.engine.specs.declared.state.Held.the-variants.{Nothing, Message}
+use Rattle.engine.specs.declared.state.RxCell.{RxCell}
+use Rattle.engine.specs.declared.state.Receiving.{Receiving}
+use Rattle.engine.specs.Received.{noCell, isFull, heldBytes, bytesIn}
+use Rattle.engine.specs.Tally.{lengthOk}
+use Rattle.engine.specs.Sound.{ReadyKind, LengthWithin}
+use Rattle.engine.specs.Cells.{cellOf, nearOldest, canAdvance, keptOf, oldestAfter, passedOver, advanced}
+use Rattle.engine.specs.DecidedTables.{length-none}
+use Rattle.engine.specs.Sizes.{MAX_RECV_BUFFER}
 use Rattle.laws.specs.CellsSeen.{seen, seen-same, seen-other, seen-round, seen-next, number-cell, bytes-set}
+use Rattle.refusal.specs.Tests.{false-true, split}
 
 -- the clauses of Sound and of Shaped that every step keeps; the table's own sum is the view's, wherever that starts
 pub record RxKept (N e o : ℕ) (cells : List RxCell) (size buffer : ℕ) : Type 0 where
@@ -37,7 +39,7 @@ pub record RxKept (N e o : ℕ) (cells : List RxCell) (size buffer : ℕ) : Type
   pub near : minus e o ≤ N
   pub cell-length : (k : ℕ) → k < N → LengthWithin (seen N cells o k)
   pub buffer-set : 1 ≤ buffer
-  pub buffer-within : buffer ≤ 65536
+  pub buffer-within : buffer ≤ MAX_RECV_BUFFER
 
 -- the oldest is there, if it is before the next expected; a message that is taken leaves this to the numbers that are passed by
 abbrev pub OldestThere : ℕ → ℕ → ℕ → List RxCell → Type 0
@@ -81,12 +83,6 @@ SkippingRx N left rx = Skipping N left (rx .«rx_seq» .0) (rx .«rx_oldest» .0
 pub not-full : (h : Held) → isFull h ≡ false → h ≡ Nothing
 not-full Nothing e = refl
 not-full (Message msg len) e = false-true (sym e)
-
--- a message without data has no bytes
-pub length-none : (msg : ReliableMsg) (len : ℕ) → isData msg ≡ false → lengthOk msg len ≡ true → len ≡ 0
-unfolding lengthOk
-length-none msg len n e =
-    by-test (eqb len 0) (λ t. eqb-true len 0 t) (λ t. false-true (sym n ∙ split (leb len 1024) (isData msg) (simp t at e) .1))
 
 -- what stays in a passed cell is ready, fits, and has the bytes that were there
 stays-ready : (h : Held) → ReadyKind (keptOf h)
@@ -140,7 +136,7 @@ before-past n e o he ho h l = omega arith
 
 pub new-past : (n e o : ℕ) → e < 2 ^ 32 → o < 2 ^ 32 → minus e o ≤ 2 ^ 31 → before n e ≡ false → minus e o ≤ minus n o
 new-past n e o he ho h b =
-    by-test (ltb (minus n o) (minus e o))
+    cases (ltb (minus n o) (minus e o))
     (λ t. false-true (sym b ∙ before-high n e (before-past n e o he ho h (ltb-true (minus n o) (minus e o) t))))
     (λ t. omega (arith, ltb-false (minus n o) (minus e o) t))
 
@@ -298,7 +294,7 @@ module _ (N : ℕ) (some : 0 < N) (half : N ≤ 2 ^ 31) (round : N ∣ 2 ^ 32) w
   -- the oldest number after a step, where a ready message stays and where none does
   oldest-kept : (o e : ℕ) (r : Bool) → (o ≡ e → r ≡ true) → oldestAfter (seqOf o) (seqOf e) (seqOf (plus e 1)) r ≡ seqOf o
   oldest-kept o e true f = refl
-  oldest-kept o e false f = by-test (eqb o e) (λ t. false-true (f (eqb-true o e t))) (λ t. simp t)
+  oldest-kept o e false f = cases (eqb o e) (λ t. false-true (f (eqb-true o e t))) (λ t. simp t)
 
   oldest-moves : (o e : ℕ) (r : Bool) → o ≡ e → r ≡ false → oldestAfter (seqOf o) (seqOf e) (seqOf (plus e 1)) r ≡ seqOf (plus o 1)
   oldest-moves o e r q n = simp (n, eq-eqb o e q) (ap (λ m. seqOf (plus m 1)) (sym q))
@@ -330,7 +326,7 @@ module _ (N : ℕ) (some : 0 < N) (half : N ≤ 2 ^ 31) (round : N ∣ 2 ^ 32) w
       let moved : minus e o ≡ 0 → isFull h ≡ false → goal ((o + minus e o) % N) =
       λ z n. rw (oldest-moves o e (isFull h) (expected-here e o eu ou z) n) (passed-along left e o cells size buffer was room z n) in
       subst goal (sym (number-cell N e o round ou))
-      (by-test (isFull h) (λ t. stay (λ z. t))
+      (cases (isFull h) (λ t. stay (λ z. t))
       (λ t. elim (ℕ-discrete (minus e o) 0) [
         | yes z ↦ moved z t
         | no ne ↦ stay (λ z. absurd (ne z))
@@ -344,7 +340,7 @@ module _ (N : ℕ) (some : 0 < N) (half : N ≤ 2 ^ 31) (round : N ∣ 2 ^ 32) w
       let e = rx .«rx_seq» .0 in
       let o = rx .«rx_oldest» .0 in
       let cell = expected-cell rx (was .kept .oldest-u32) in
-      by-test (canAdvance N rx)
+      cases (canAdvance N rx)
       (λ t. simp t (advanced-sound left (passedOver N rx) (passed-over left rx was (ltb-true (minus e o) N (split (ltb (minus e o) N) (isFull (cellOf N rx e)) t .0)))))
       (λ t. simp t (record {
         kept = was .kept;

@@ -16,6 +16,7 @@ pub mod ReceiveKept
 pub mod ReceivingKept
 pub mod Refused
 pub mod ResendKept
+pub mod RowAcks
 pub mod RowChanged
 pub mod RowsKept
 pub mod SendKept

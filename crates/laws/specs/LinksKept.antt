@@ -3,18 +3,19 @@
 use mathlib.Core.Path.{_≡_, refl, sym, ap, _∙_}
 use mathlib.Core.Bool.{Bool, true, false, not, _&&_}
 use mathlib.Core.List.{List, _∷_}
-use Prim.Native.Nat.{ℕ, zero, suc, _+_, _%_, _^_, _≤_, _<_}
-use native.Mathlib.Decide.{ℕ-discrete}
+use Prim.Native.Nat.{ℕ, zero, suc, _%_, _^_, _≤_, _<_}
 use native.Mathlib.Omega.{arith}
 use lib.Dec.{leb, ltb}
 use lib.ListN.{length, getD, set, replicate, length-replicate, getD-replicate}
 use borrow.Author.Tests.{leb-true, ltb-true, le-leb, not-true}
 use Rattle.seq.specs.declared.Seq.{Seq}
 use Rattle.seq.specs.Numbers.{seqOf, minus}
+use Rattle.seq.specs.Laws.{minus-lt}
 use Rattle.refusal.specs.declared.verdict.Verdict.{Verdict}
 use Rattle.refusal.specs.declared.verdict.Verdict.the-variants.{Pass, No}
 use Rattle.refusal.specs.Refusals.{refuse}
-use Rattle.refusal.specs.Verdicts.{gate, gate-pass, split, false-true, by-test}
+use Rattle.refusal.specs.Verdicts.{gate, gate-pass}
+use Rattle.refusal.specs.Tests.{split, false-true}
 use Rattle.link.specs.declared.row.LinkRow.{LinkRow}
 use Rattle.link.specs.declared.row.MaxPing.{MaxPing}
 use Rattle.link.specs.declared.row.Limit.{Limit}
@@ -22,28 +23,29 @@ use Rattle.link.specs.declared.row.Limit.the-variants.{At}
 use Rattle.link.specs.declared.row.Ping.{Ping}
 use Rattle.link.specs.declared.row.Ping.the-variants.{Idle, Since}
 use Rattle.link.specs.Fields.{withFlags}
-use Rattle.link.specs.Sizes.{maxPingWithin, pingWithin}
-use Rattle.link.specs.Row.{emptyRow, freshRow, confirmed, blockedRow}
+use Rattle.link.specs.Sizes.{maxPingWithin, pingWithin, MAX_TIME}
+use Rattle.link.specs.Row.{emptyRow, freshRow, confirmed, blockedRow, noRow}
 use Rattle.link.specs.Limit.{markedRow}
 use Rattle.link.specs.Roundtrip.{pinged, ponged, pongedAs}
-use Rattle.engine_state.specs.declared.state.Held.the-variants.{Nothing}
-use Rattle.engine_state.specs.declared.state.RxCell.{RxCell}
-use Rattle.engine_state.specs.declared.state.State.{State}
-use Rattle.engine_state.specs.declared.roster.Roster.{Roster}
-use Rattle.engine_state.specs.Ring.{window, window-length}
-use Rattle.engine_state.specs.Packets.{noPacket, firstOf, packets, SentOn, sumOf, queuedOf}
-use Rattle.engine_state.specs.Cells.{noCell, cellsFrom, nextCell, next-cell-lt, cellView, expectedAt, bytesIn}
-use Rattle.engine_state.specs.Roster.{noRow, rosterOf, livesIn, livesBefore}
-use Rattle.engine_state.specs.Decide.{soundb}
-use Rattle.engine_state.specs.DecidedTables.{RowFine, roster-at, here-lives}
-use Rattle.engine_state.specs.Rows.{rowOf, withRow, withTime}
-use Rattle.engine_state.specs.Answer.{changedBy}
-use Rattle.engine_state.specs.Gates.{slotVerdict, timedVerdict}
-use Rattle.engine_fresh.specs.Fresh.{freshTx, freshRx, freshState, freshVerdict, freshOf}
-use Rattle.engine_state.specs.Sound.{Sound, Shaped, rowAt, packetAt, cellAt}
-use Rattle.engine_links.specs.Changes.{confirmOf, blockOf, markOf, pingOf, pongOf}
-use Rattle.engine_add.specs.Add.{lowestEmpty, lowestIn, addVerdict, addedBy, addOf}
+use Rattle.engine.specs.declared.state.Held.the-variants.{Nothing}
+use Rattle.engine.specs.declared.state.RxCell.{RxCell}
+use Rattle.engine.specs.declared.state.State.{State}
+use Rattle.engine.specs.Ring.{window, window-length, nextCell, next-cell-lt}
+use Rattle.engine.specs.Packets.{noPacket, firstOf, packets, SentOn, sumOf, queuedOf}
+use Rattle.engine.specs.Received.{noCell, cellView, expectedAt, bytesIn}
+use Rattle.engine.specs.Roster.{rosterOf, livesBefore, lives-nowhere}
+use Rattle.engine.specs.Decide.{soundb}
+use Rattle.engine.specs.DecidedTables.{RowFine, roster-at, here-lives}
+use Rattle.engine.specs.Rows.{rowOf}
+use Rattle.engine.specs.Answer.{changedBy}
+use Rattle.engine.specs.Gates.{slotVerdict, timedVerdict}
+use Rattle.engine.specs.Starting.{freshTx, freshRx, freshState, freshVerdict, freshOf}
+use Rattle.engine.specs.Sound.{Sound, Shaped, rowAt, packetAt, cellAt}
+use Rattle.engine.specs.Links.{confirmOf, blockOf, markOf, pingOf, pongOf, lowestIn, addVerdict, addedBy, addOf, lowest-empty}
+use Rattle.engine.specs.Sizes.{PACKETS, SLOTS, CELLS, MAX_RECV_BUFFER}
+use Rattle.engine.specs.Fields.{withRow, withTime}
 use Rattle.laws.specs.RowsKept.{dead-elsewhere, sum-elsewhere, rows-of, rows-set, apart-set, here-added, links-sound, row-shaped, row-kept}
+use Rattle.laws.specs.RowAcks.{SameAcks, confirm-acks, block-acks, mark-acks, ping-acks, pong-acks, empty-full, fresh-full, same-full}
 use Rattle.laws.specs.Passed.{changed-keeps, slot-passed, timed-passed}
 
 -- ---- plain changes of a row
@@ -54,7 +56,7 @@ unfolding pongedAs
 ponged-who Idle r time = (refl, refl)
 ponged-who (Since since) r time = (refl, refl)
 
-ponged-fine : (p : Ping) (r : LinkRow) (sum time : ℕ) → time ≤ 2 ^ 56 → RowFine r sum time → RowFine (pongedAs p r time) sum time
+ponged-fine : (p : Ping) (r : LinkRow) (sum time : ℕ) → time ≤ MAX_TIME → RowFine r sum time → RowFine (pongedAs p r time) sum time
 unfolding pongedAs
 ponged-fine Idle r sum time top f = f
 ponged-fine (Since since) r sum time top f = record { sums = f .sums; trip = omega arith; limit = f .limit; pinged = refl; acks = f .acks }
@@ -76,12 +78,14 @@ module _ (s : State) (slot : ℕ) (shaped : Shaped s) where
       changed-keeps Sound (slotVerdict s slot) s (withRow s slot (f (rowOf s slot))) sound
       (λ e. row-kept s slot f (s .time) shaped sound (slot-passed s slot e .0) (omega arith) (sound .time-within) who (λ r sum. fine r sum (s .time)))
 
-  plain-shaped : (row : LinkRow) → Shaped (changedBy (slotVerdict s slot) s (withRow s slot row) .state)
-  plain-shaped row = changed-keeps Shaped (slotVerdict s slot) s (withRow s slot row) shaped (λ e. row-shaped s slot row (s .time) shaped)
+  plain-shaped : (row : LinkRow) → SameAcks row (rowOf s slot) → Shaped (changedBy (slotVerdict s slot) s (withRow s slot row) .state)
+  plain-shaped row same =
+      changed-keeps Shaped (slotVerdict s slot) s (withRow s slot row) shaped
+      (λ e. row-shaped s slot row (s .time) shaped (same-full s slot shaped row same) (shaped .time-u64))
 
   -- .. at a time
   timed-sound : (f : LinkRow → LinkRow) (time : ℕ) → Sound s → ((r : LinkRow) → (f r .live ≡ r .live) × (f r .«link_id» ≡ r .«link_id»))
-      → ((r : LinkRow) (sum : ℕ) → time ≤ 2 ^ 56 → RowFine r sum time → RowFine (f r) sum time)
+      → ((r : LinkRow) (sum : ℕ) → time ≤ MAX_TIME → RowFine r sum time → RowFine (f r) sum time)
       → Sound (changedBy (timedVerdict s slot time Pass) s (withTime (withRow s slot (f (rowOf s slot))) time) .state)
   timed-sound f time sound who fine =
       changed-keeps Sound (timedVerdict s slot time Pass) s (withTime (withRow s slot (f (rowOf s slot))) time) sound
@@ -89,9 +93,11 @@ module _ (s : State) (slot : ℕ) (shaped : Shaped s) where
       let passed = timed-passed s slot time Pass e in
       row-kept s slot f time shaped sound (passed .2) (passed .0) (passed .1) who (λ r sum. fine r sum (passed .1)))
 
-  timed-shaped : (row : LinkRow) (time : ℕ) → Shaped (changedBy (timedVerdict s slot time Pass) s (withTime (withRow s slot row) time) .state)
-  timed-shaped row time =
-      changed-keeps Shaped (timedVerdict s slot time Pass) s (withTime (withRow s slot row) time) shaped (λ e. row-shaped s slot row time shaped)
+  timed-shaped : (row : LinkRow) (time : ℕ) → SameAcks row (rowOf s slot)
+      → Shaped (changedBy (timedVerdict s slot time Pass) s (withTime (withRow s slot row) time) .state)
+  timed-shaped row time same =
+      changed-keeps Shaped (timedVerdict s slot time Pass) s (withTime (withRow s slot row) time) shaped
+      (λ e. row-shaped s slot row time shaped (same-full s slot shaped row same) (omega (arith, timed-passed s slot time Pass e .1)))
 
   pub confirm-sound : Sound s → Sound (confirmOf s slot .state)
   unfolding confirmOf confirmed
@@ -99,7 +105,7 @@ module _ (s : State) (slot : ℕ) (shaped : Shaped s) where
 
   pub confirm-shaped : Shaped (confirmOf s slot .state)
   unfolding confirmOf
-  confirm-shaped = plain-shaped (confirmed (rowOf s slot))
+  confirm-shaped = plain-shaped (confirmed (rowOf s slot)) (confirm-acks (rowOf s slot))
 
   pub block-sound : (blocked : Bool) → Sound s → Sound (blockOf s slot blocked .state)
   unfolding blockOf blockedRow
@@ -107,7 +113,7 @@ module _ (s : State) (slot : ℕ) (shaped : Shaped s) where
 
   pub block-shaped : (blocked : Bool) → Shaped (blockOf s slot blocked .state)
   unfolding blockOf
-  block-shaped blocked = plain-shaped (blockedRow (rowOf s slot) blocked)
+  block-shaped blocked = plain-shaped (blockedRow (rowOf s slot) blocked) (block-acks (rowOf s slot) blocked)
 
   pub mark-sound : (seq : Seq) → Sound s → Sound (markOf s slot seq .state)
   unfolding markOf markedRow
@@ -115,7 +121,7 @@ module _ (s : State) (slot : ℕ) (shaped : Shaped s) where
 
   pub mark-shaped : (seq : Seq) → Shaped (markOf s slot seq .state)
   unfolding markOf
-  mark-shaped seq = plain-shaped (markedRow (rowOf s slot) (At seq))
+  mark-shaped seq = plain-shaped (markedRow (rowOf s slot) (At seq)) (mark-acks (rowOf s slot) (At seq))
 
   pub ping-sound : (time : ℕ) → Sound s → Sound (pingOf s slot time .state)
   unfolding pingOf pinged
@@ -125,7 +131,7 @@ module _ (s : State) (slot : ℕ) (shaped : Shaped s) where
 
   pub ping-shaped : (time : ℕ) → Shaped (pingOf s slot time .state)
   unfolding pingOf
-  ping-shaped time = timed-shaped (pinged (rowOf s slot) time) time
+  ping-shaped time = timed-shaped (pinged (rowOf s slot) time) time (ping-acks (rowOf s slot) time)
 
   pub pong-sound : (time : ℕ) → Sound s → Sound (pongOf s slot time .state)
   unfolding pongOf
@@ -135,29 +141,9 @@ module _ (s : State) (slot : ℕ) (shaped : Shaped s) where
 
   pub pong-shaped : (time : ℕ) → Shaped (pongOf s slot time .state)
   unfolding pongOf
-  pong-shaped time = timed-shaped (ponged (rowOf s slot) time) time
+  pong-shaped time = timed-shaped (ponged (rowOf s slot) time) time (pong-acks (rowOf s slot) (rowOf s slot .«current_ping_sent») time)
 
 -- ---- add
-
--- the slot that is found among n from j on is empty
-lowest-empty : (r : Roster) (j n : ℕ) → lowestEmpty r j n < j + n → getD (r .live) (lowestEmpty r j n) false ≡ false
-unfolding lowestEmpty
-lowest-empty r j zero h = absurd (omega arith)
-lowest-empty r j (suc n) h =
-    by-test (getD (r .live) j false)
-    (λ t. simp t (lowest-empty r (j + 1) n (omega (arith, simp t at h))))
-    (λ t. simp t)
-
--- an identity that none of the first n slots holds
-lives-nowhere : (r : Roster) (id n i : ℕ) → livesBefore r n id ≡ false → i < n → livesIn r i id ≡ true → ⊥
-unfolding livesBefore
-lives-nowhere r id zero i e h l = omega arith
-lives-nowhere r id (suc n) i e h l =
-    by-test (livesIn r n id) (λ t. false-true (sym (simp t at e)))
-    (λ t. elim (ℕ-discrete i n) [
-      | yes q ↦ false-true (sym t ∙ ap (λ k. livesIn r k id) (sym q) ∙ l)
-      | no ne ↦ lives-nowhere r id n i (simp t at e) (omega arith) l
-    ])
 
 module _ (s : State) (id roundtrip : ℕ) (max : MaxPing) (blocked unconfirmed : Bool) (shaped : Shaped s) where
   new : LinkRow
@@ -165,25 +151,25 @@ module _ (s : State) (id roundtrip : ℕ) (max : MaxPing) (blocked unconfirmed :
 
   -- what adding has passed
   record Added : Type 0 where
-    trip : roundtrip ≤ 2 ^ 56
+    trip : roundtrip ≤ MAX_TIME
     limit : maxPingWithin max ≡ true
-    small : lowestIn s < 8
-    nowhere : livesBefore (rosterOf (s .links)) 8 id ≡ false
+    small : lowestIn s < SLOTS
+    nowhere : livesBefore (rosterOf (s .links)) SLOTS id ≡ false
 
   passed : addVerdict s (lowestIn s) id roundtrip max ≡ Pass → Added
   unfolding addVerdict
   passed e =
-      let alone = not (livesBefore (rosterOf (s .links)) 8 id) in
-      let one = gate-pass (soundb s) (refuse 1) _ e in
-      let three = gate-pass (leb roundtrip (2 ^ 56) && maxPingWithin max) (refuse 3) (gate (ltb (lowestIn s) 8) 5 (gate alone 6 Pass)) (one .1) in
-      let five = gate-pass (ltb (lowestIn s) 8) (refuse 5) (gate alone 6 Pass) (three .1) in
-      let six = gate-pass alone (refuse 6) Pass (five .1) in
-      let sizes = split (leb roundtrip (2 ^ 56)) (maxPingWithin max) (three .0) in
+      let alone = not (livesBefore (rosterOf (s .links)) SLOTS id) in
+      let one = gate-pass (soundb s) (refuse 1 tt) _ e in
+      let three = gate-pass (leb roundtrip MAX_TIME && maxPingWithin max) (refuse 3 tt) (gate (ltb (lowestIn s) SLOTS) 5 (gate alone 6 Pass)) (one .1) in
+      let five = gate-pass (ltb (lowestIn s) SLOTS) (refuse 5 tt) (gate alone 6 Pass) (three .1) in
+      let six = gate-pass alone (refuse 6 tt) Pass (five .1) in
+      let sizes = split (leb roundtrip MAX_TIME) (maxPingWithin max) (three .0) in
       record {
-        trip = leb-true roundtrip (2 ^ 56) (sizes .0);
+        trip = leb-true roundtrip MAX_TIME (sizes .0);
         limit = sizes .1;
         small = ltb-true (lowestIn s) 8 (five .0);
-        nowhere = not-true (livesBefore (rosterOf (s .links)) 8 id) (six .0);
+        nowhere = not-true (livesBefore (rosterOf (s .links)) SLOTS id) (six .0);
       }
 
   added-sound : Sound s → Added → Sound (withRow s (lowestIn s) new)
@@ -191,10 +177,10 @@ module _ (s : State) (id roundtrip : ℕ) (max : MaxPing) (blocked unconfirmed :
   added-sound sound p =
       let slot = lowestIn s in
       let small = p .small in
-      let inside : slot < length (s .links) = omega (arith, shaped .links-eight, small) in
+      let inside : slot < length (s .links) = omega (arith, shaped .links-full, small) in
       let sums : ℕ → ℕ = λ j. sumOf (SentOn j) (packets (s .tx)) in
-      let dead : rowAt s slot .live ≡ false = sym (roster-at (s .links) slot small .0) ∙ lowest-empty (rosterOf (s .links)) 0 8 (omega (arith, small)) in
-      let few = window-length noPacket (s .tx .«txed_packets») (firstOf (s .tx) % 64) (s .tx .«txed_count») in
+      let dead : rowAt s slot .live ≡ false = sym (roster-at (s .links) slot small .0) ∙ lowest-empty (rosterOf (s .links)) 0 SLOTS (omega (arith, small)) in
+      let few = window-length PACKETS noPacket (s .tx .«txed_packets») (firstOf (s .tx) % PACKETS) (s .tx .«txed_count») in
       let none : sums slot ≡ 0 =
       sum-elsewhere slot (packets (s .tx)) (λ i h. dead-elsewhere s slot dead (packetAt s i .status) (sound .sent i (omega (arith, few)))) in
       let fits : RowFine new (sums slot) (s .time) =
@@ -217,18 +203,18 @@ module _ (s : State) (id roundtrip : ℕ) (max : MaxPing) (blocked unconfirmed :
   unfolding addOf new
   add-shaped =
       added-keeps Shaped (addVerdict s (lowestIn s) id roundtrip max) (lowestIn s) (withRow s (lowestIn s) new) shaped
-      (λ e. row-shaped s (lowestIn s) new (s .time) shaped)
+      (λ e. row-shaped s (lowestIn s) new (s .time) shaped (fresh-full id roundtrip max blocked unconfirmed) (shaped .time-u64))
 
 -- ---- the fresh state
 
 -- a receive table without messages, however it is gone round
-empty-cells : (N at n : ℕ) → at < N → cellsFrom N (replicate N noCell) at n ≡ replicate n noCell
-unfolding cellsFrom
+empty-cells : (N at n : ℕ) → at < N → window N noCell (replicate N noCell) at n ≡ replicate n noCell
+unfolding window
 empty-cells N at zero h = refl
 empty-cells N at (suc n) h =
     let head : getD (replicate N noCell) at noCell ≡ noCell = getD-replicate N at noCell noCell h in
     let tail = empty-cells N (nextCell N at) n (next-cell-lt N at (omega arith)) in
-    ap (λ (c : RxCell). c ∷ cellsFrom N (replicate N noCell) (nextCell N at) n) head ∙ ap (λ (cs : List RxCell). noCell ∷ cs) tail
+    ap (λ (c : RxCell). c ∷ window N noCell (replicate N noCell) (nextCell N at) n) head ∙ ap (λ (cs : List RxCell). noCell ∷ cs) tail
 
 empty-bytes : (n : ℕ) → bytesIn (replicate n noCell) ≡ 0
 unfolding bytesIn
@@ -241,40 +227,47 @@ unfolding minus
 minus-self n h = omega arith
 
 module _ (start buffer : ℕ) (number : start < 2 ^ 32) where
-  fresh-state-shaped : Shaped (freshState start buffer)
+  -- every row is empty
+  fresh-row : (j : ℕ) → j < SLOTS → rowAt (freshState start buffer) j ≡ emptyRow
+  unfolding freshState
+  fresh-row j h = getD-replicate SLOTS j emptyRow noRow h
+
+  fresh-state-shaped : buffer ≤ MAX_RECV_BUFFER → Shaped (freshState start buffer)
   unfolding freshState freshTx freshRx
-  fresh-state-shaped = record {
-    links-eight = length-replicate 8 emptyRow;
-    packets-64 = length-replicate 64 noPacket;
-    queue-64 = length-replicate 64 (seqOf 0);
-    cells-64 = length-replicate 64 noCell;
+  fresh-state-shaped high = record {
+    links-full = length-replicate SLOTS emptyRow;
+    queues = λ j h. ap (λ (r : LinkRow). length (r .«tx_ack_queue»)) (fresh-row j h) ∙ empty-full;
+    packets-full = length-replicate PACKETS noPacket;
+    queue-full = length-replicate PACKETS (seqOf 0);
+    cells-full = length-replicate CELLS noCell;
     next-u32 = number;
     expected-u32 = number;
     oldest-u32 = number;
     count-usize = omega arith;
     queue-usize = omega arith;
     unacked-u32 = omega arith;
+    unconsumed-u32 = omega arith;
     unconsumable-u32 = omega arith;
+    last-u32 = minus-lt start 1;
     size-u32 = omega arith;
+    untold-u32 = omega arith;
+    buffer-u32 = omega arith;
+    time-u64 = omega arith;
   }
 
-  -- every row is empty, and every cell
-  fresh-row : (j : ℕ) → j < 8 → rowAt (freshState start buffer) j ≡ emptyRow
-  unfolding freshState
-  fresh-row j h = getD-replicate 8 j emptyRow noRow h
-
-  fresh-cells : cellView 64 (freshState start buffer .rx) ≡ replicate 64 noCell
+  -- every cell is empty
+  fresh-cells : cellView CELLS (freshState start buffer .rx) ≡ replicate CELLS noCell
   unfolding freshState freshRx
-  fresh-cells = empty-cells 64 (start % 64) 64 (omega arith)
+  fresh-cells = empty-cells PACKETS (start % PACKETS) PACKETS (omega arith)
 
-  fresh-cell : (k : ℕ) → k < 64 → cellAt (freshState start buffer) k ≡ Nothing
-  fresh-cell k h = ap (λ (cs : List RxCell). getD cs k noCell .held) fresh-cells ∙ ap (λ (c : RxCell). c .held) (getD-replicate 64 k noCell noCell h)
+  fresh-cell : (k : ℕ) → k < CELLS → cellAt (freshState start buffer) k ≡ Nothing
+  fresh-cell k h = ap (λ (cs : List RxCell). getD cs k noCell .held) fresh-cells ∙ ap (λ (c : RxCell). c .held) (getD-replicate CELLS k noCell noCell h)
 
   fresh-expected : expectedAt (freshState start buffer .rx) ≡ 0
   unfolding freshState freshRx
   fresh-expected = minus-self start number
 
-  fresh-state-sound : 1 ≤ buffer → buffer ≤ 65536 → Sound (freshState start buffer)
+  fresh-state-sound : 1 ≤ buffer → buffer ≤ MAX_RECV_BUFFER → Sound (freshState start buffer)
   unfolding freshState freshTx freshRx emptyRow window sumOf queuedOf
   fresh-state-sound low high = record {
     consecutive = λ i h. absurd (omega arith);
@@ -285,7 +278,7 @@ module _ (start buffer : ℕ) (number : start < 2 ^ 32) where
     unacked = refl;
     unconsumable = refl;
     untaken-within = omega arith;
-    untaken = sym (ap bytesIn fresh-cells ∙ empty-bytes 64);
+    untaken = sym (ap bytesIn fresh-cells ∙ empty-bytes PACKETS);
     identities = λ i j hi hj li. false-true (sym (ap (λ (r : LinkRow). r .live) (fresh-row i hi)) ∙ li);
     ready = λ k h. absurd (omega (arith, fresh-expected));
     oldest = λ h. absurd (omega (arith, fresh-expected));
@@ -306,14 +299,22 @@ module _ (start buffer : ℕ) (number : start < 2 ^ 32) where
   }
 
   -- the fresh state, where it is not refused
-  pub fresh-sound : freshVerdict buffer ≡ Pass → Sound (freshOf start buffer .state)
-  unfolding freshOf freshVerdict
-  fresh-sound e =
-      let passed = gate-pass (leb 1 buffer && leb buffer 65536) (refuse 21) Pass e in
-      let sizes = split (leb 1 buffer) (leb buffer 65536) (passed .0) in
-      let sound = fresh-state-sound (leb-true 1 buffer (sizes .0)) (leb-true buffer 65536 (sizes .1)) in
-      changed-keeps Sound (freshVerdict buffer) (freshState start buffer) (freshState start buffer) sound (λ v. sound)
+  module _ (e : freshVerdict buffer ≡ Pass) where
+    buffer-fits : (1 ≤ buffer) × (buffer ≤ MAX_RECV_BUFFER)
+    unfolding freshVerdict
+    buffer-fits =
+        let passed = gate-pass (leb 1 buffer && leb buffer MAX_RECV_BUFFER) (refuse 21 tt) Pass e in
+        let sizes = split (leb 1 buffer) (leb buffer MAX_RECV_BUFFER) (passed .0) in
+        (leb-true 1 buffer (sizes .0), leb-true buffer MAX_RECV_BUFFER (sizes .1))
 
-  pub fresh-shaped : Shaped (freshOf start buffer .state)
-  unfolding freshOf
-  fresh-shaped = changed-keeps Shaped (freshVerdict buffer) (freshState start buffer) (freshState start buffer) fresh-state-shaped (λ v. fresh-state-shaped)
+    pub fresh-sound : Sound (freshOf start buffer .state)
+    unfolding freshOf
+    fresh-sound =
+        let sound = fresh-state-sound (buffer-fits .0) (buffer-fits .1) in
+        changed-keeps Sound (freshVerdict buffer) (freshState start buffer) (freshState start buffer) sound (λ v. sound)
+
+    pub fresh-shaped : Shaped (freshOf start buffer .state)
+    unfolding freshOf
+    fresh-shaped =
+        let shaped = fresh-state-shaped (buffer-fits .1) in
+        changed-keeps Shaped (freshVerdict buffer) (freshState start buffer) (freshState start buffer) shaped (λ v. shaped)

@@ -14,6 +14,7 @@ use Rattle.msg.specs.declared.link_msg.LinkMsg.the-variants.{Welcome, Connect, 
 use Rattle.msg.specs.declared.reading.Reading.{Reading}
 use Rattle.msg.specs.declared.reading.Reading.the-variants.{Message}
 use Rattle.msg.specs.Reading.{readingNumber, bad, numberAt, opensWith, magic, reasons, blocks, exactly, readHandshake, readAlone, readRefused, readNumbered, readConsumed, readTestData, readSetBlock, readKind, readers, readNone, readOf}
+use Rattle.engine.specs.Sizes.{DATA_BYTES}
 
 -- an answer that refuses does so with 20
 abbrev OnlyBytes : Reading → Type 0
@@ -67,7 +68,7 @@ consumed body = let msg = Consumed (seqOf (numberAt body 0)) (numberAt body 4) i
 
 tested : (body : List ℕ) → OnlyBytes (readTestData body)
 unfolding readTestData
-tested body = either (leb (length body) 1024) (Message (TestData (length body))) bad (read (TestData (length body))) unread
+tested body = either (leb (length body) DATA_BYTES) (Message (TestData (length body))) bad (read (TestData (length body))) unread
 
 blocked : (body : List ℕ) → OnlyBytes (readSetBlock body)
 unfolding readSetBlock

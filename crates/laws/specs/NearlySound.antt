@@ -5,21 +5,24 @@ use mathlib.Core.Bool.{true, false}
 use mathlib.Core.List.{List}
 use Prim.Native.Nat.{ℕ, _%_, _^_, _≤_, _<_}
 use native.Mathlib.Omega.{arith}
-use lib.ListN.{length, getD, set, take}
+use lib.ListN.{length, getD, set, take, length-set}
 use Rattle.seq.specs.declared.Seq.{Seq}
 use Rattle.seq.specs.Numbers.{plus}
 use Rattle.link.specs.declared.row.LinkRow.{LinkRow}
-use Rattle.engine_state.specs.declared.state.SentReliableStatus.{SentReliableStatus}
-use Rattle.engine_state.specs.declared.state.SentReliable.{SentReliable}
-use Rattle.engine_state.specs.declared.state.Sending.{Sending}
-use Rattle.engine_state.specs.declared.state.State.{State}
-use Rattle.engine_state.specs.Packets.{noPacket, firstOf, packets, queue, isReceived, queuedOf, SentOn, Outstanding, Settled, sumOf}
-use Rattle.engine_state.specs.Tally.{lengthOk}
-use Rattle.engine_state.specs.Table.{inTable, packetOf, withStatus}
-use Rattle.engine_state.specs.InTable.{place}
-use Rattle.engine_state.specs.DecidedPackets.{Good}
-use Rattle.engine_state.specs.Sound.{Sound, Shaped, packetAt, SentHere, SentBy}
-use Rattle.laws.specs.RowsKept.{RowsFine, Apart, rows-of, sent-later}
+use Rattle.link.specs.Sizes.{MAX_TIME}
+use Rattle.engine.specs.declared.state.SentReliableStatus.{SentReliableStatus}
+use Rattle.engine.specs.declared.state.SentReliable.{SentReliable}
+use Rattle.engine.specs.declared.state.Sending.{Sending}
+use Rattle.engine.specs.declared.state.State.{State}
+use Rattle.engine.specs.Packets.{noPacket, firstOf, packets, queue, isReceived, queuedOf, SentOn, Outstanding, Settled, sumOf}
+use Rattle.engine.specs.Tally.{lengthOk}
+use Rattle.engine.specs.Table.{inTable, packetOf}
+use Rattle.engine.specs.InTable.{place}
+use Rattle.engine.specs.DecidedPackets.{Good}
+use Rattle.engine.specs.Sound.{Sound, Shaped, packetAt, SentHere, SentBy}
+use Rattle.engine.specs.Fields.{withStatus}
+use Rattle.engine.specs.Sizes.{PACKETS}
+use Rattle.laws.specs.RowsKept.{RowsFine, LinksShaped, Apart, rows-of, sent-later}
 use Rattle.laws.specs.Parts.{sending-of, receiving-of, whole}
 use Rattle.laws.specs.PacketReplaced.{replaced, replaced-each, place-in, place-packet}
 
@@ -28,11 +31,11 @@ pub record Nearly (s : State) : Type 0 where
   pub queued : queue (s .tx) ≡ queuedOf (packets (s .tx))
   pub unacked : s .tx .«txed_unacked» ≡ sumOf Outstanding (packets (s .tx))
   pub unconsumable : s .tx .«txed_unconsumable» ≡ sumOf Settled (packets (s .tx))
-  pub packet-count : s .tx .«txed_count» ≤ 64
-  pub queue-count : s .tx .«resend_count» ≤ 64
+  pub packet-count : s .tx .«txed_count» ≤ PACKETS
+  pub queue-count : s .tx .«resend_count» ≤ PACKETS
   pub rows : RowsFine (s .links) (λ j. sumOf (SentOn j) (packets (s .tx))) (s .time)
   pub apart : Apart (s .links)
-  pub time-within : s .time ≤ 2 ^ 56
+  pub time-within : s .time ≤ MAX_TIME
 
 pub sound-nearly : (s : State) → Sound s → Nearly s
 sound-nearly s sound =
@@ -69,32 +72,13 @@ nearly-sound s links tx time sound near first =
     })
     (near .rows) (near .apart) (receiving-of s sound) (near .time-within)
 
--- .. and has its arrays and ranges where they are kept
-pub sent-shaped : (s : State) (links : List LinkRow) (tx : Sending) (time : ℕ) → Shaped s → length links ≡ 8 → length (tx .«txed_packets») ≡ 64
-    → length (tx .«resend_queue») ≡ 64 → tx .«tx_seq» .0 < 2 ^ 32 → tx .«txed_count» ≤ 64 → tx .«resend_count» ≤ 64
-    → tx .«txed_unacked» < 2 ^ 32 → tx .«txed_unconsumable» < 2 ^ 32 → Shaped (withSent s links tx time)
-sent-shaped s links tx time shaped l p q n c k u h = record {
-  links-eight = l;
-  packets-64 = p;
-  queue-64 = q;
-  cells-64 = shaped .cells-64;
-  next-u32 = n;
-  expected-u32 = shaped .expected-u32;
-  oldest-u32 = shaped .oldest-u32;
-  count-usize = omega arith;
-  queue-usize = omega arith;
-  unacked-u32 = u;
-  unconsumable-u32 = h;
-  size-u32 = shaped .size-u32;
-}
-
 -- ---- one packet with another status
 
 -- .. and with another queue and other totals
 abbrev pub restated : Sending → ℕ → SentReliableStatus → (numbers : List Seq) (count unacked unconsumable : ℕ) → Sending
 restated tx n st q c u h = record {
   «tx_seq» = tx .«tx_seq»;
-  «txed_packets» = set (tx .«txed_packets») (n % 64) (withStatus (packetOf tx n) st);
+  «txed_packets» = set (tx .«txed_packets») (n % PACKETS) (withStatus (packetOf tx n) st);
   «txed_count» = tx .«txed_count»;
   «resend_queue» = q;
   «resend_count» = c;
@@ -113,19 +97,43 @@ module _ (s : State) (n : ℕ) (shaped : Shaped s) (sound : Sound s) (number : n
   -- a fact of every place, where it holds of the place's own packet with the new status
   restated-each : (P : ℕ → SentReliable → Type 0) → P (place (s .tx) n) new → ((i : ℕ) → i < s .tx .«txed_count» → P i (packetAt s i))
       → (i : ℕ) → i < s .tx .«txed_count» → P i (getD (replaced (s .tx) n new) i noPacket)
-  restated-each P h f i l = replaced-each (s .tx) n (shaped .next-u32) number (sound .packet-count) (shaped .packets-64) held new P h f i l
+  restated-each P h f i l = replaced-each (s .tx) n (shaped .next-u32) number (sound .packet-count) (shaped .packets-full) held new P h f i l
 
   here : packetOf (s .tx) n ≡ packetAt s (place (s .tx) n)
-  here = place-packet (s .tx) n (shaped .next-u32) number (sound .packet-count) (shaped .packets-64) held
+  here = place-packet (s .tx) n (shaped .next-u32) number (sound .packet-count) (shaped .packets-full) held
 
   inside : place (s .tx) n < s .tx .«txed_count»
-  inside = place-in (s .tx) n (shaped .next-u32) number (sound .packet-count) (shaped .packets-64) held
+  inside = place-in (s .tx) n (shaped .next-u32) number (sound .packet-count) (shaped .packets-full) held
+
+  pub restated-shaped : (links : List LinkRow) (time : ℕ) (q : List Seq) (c u h : ℕ)
+      → LinksShaped links → time ≤ MAX_TIME → length q ≡ PACKETS → c ≤ PACKETS → u < 2 ^ 32 → h < 2 ^ 32
+      → Shaped (withSent s links (restated (s .tx) n st q c u h) time)
+  restated-shaped links time q c u h rows top places room unacked unconsumable = record {
+    links-full = rows .full;
+    queues = rows .queues;
+    packets-full = length-set (s .tx .«txed_packets») (n % PACKETS) new ∙ shaped .packets-full;
+    queue-full = places;
+    cells-full = shaped .cells-full;
+    next-u32 = shaped .next-u32;
+    expected-u32 = shaped .expected-u32;
+    oldest-u32 = shaped .oldest-u32;
+    count-usize = shaped .count-usize;
+    queue-usize = omega arith;
+    unacked-u32 = unacked;
+    unconsumed-u32 = shaped .unconsumed-u32;
+    unconsumable-u32 = unconsumable;
+    last-u32 = shaped .last-u32;
+    size-u32 = shaped .size-u32;
+    untold-u32 = shaped .untold-u32;
+    buffer-u32 = shaped .buffer-u32;
+    time-u64 = omega arith;
+  }
 
   pub restated-nearly : (links : List LinkRow) (time : ℕ) (q : List Seq) (c u h : ℕ)
-      → s .time ≤ time → time ≤ 2 ^ 56
+      → s .time ≤ time → time ≤ MAX_TIME
       → ((any : SentReliableStatus) → SentHere s any → SentHere (withSent s links (restated (s .tx) n st q c u h) time) any)
       → SentHere (withSent s links (restated (s .tx) n st q c u h) time) st → SentBy time st
-      → take c q ≡ queuedOf (replaced (s .tx) n new) → c ≤ 64
+      → take c q ≡ queuedOf (replaced (s .tx) n new) → c ≤ PACKETS
       → u ≡ sumOf Outstanding (replaced (s .tx) n new) → h ≡ sumOf Settled (replaced (s .tx) n new)
       → RowsFine links (λ j. sumOf (SentOn j) (replaced (s .tx) n new)) time → Apart links
       → Nearly (withSent s links (restated (s .tx) n st q c u h) time)

@@ -11,12 +11,13 @@ use lib.ListN.{length, getD, set}
 use lib.Seq.{getD-set-same, getD-set-other}
 use Rattle.seq.specs.Numbers.{plus, minus}
 use Rattle.seq.specs.Laws.{cell-counted}
-use Rattle.engine_state.specs.declared.state.SentReliable.{SentReliable}
-use Rattle.engine_state.specs.declared.state.Sending.{Sending}
-use Rattle.engine_state.specs.Ring.{window, window-set-in}
-use Rattle.engine_state.specs.Packets.{noPacket, firstOf, packets, isQueued, queuedOf, Pick, weight, sumOf}
-use Rattle.engine_state.specs.Table.{inTable, packetOf}
-use Rattle.engine_state.specs.InTable.{cells-divide, place, placed}
+use Rattle.engine.specs.declared.state.SentReliable.{SentReliable}
+use Rattle.engine.specs.declared.state.Sending.{Sending}
+use Rattle.engine.specs.Ring.{window, window-set-in}
+use Rattle.engine.specs.Packets.{noPacket, firstOf, packets, isQueued, queuedOf, Pick, weight, sumOf}
+use Rattle.engine.specs.Table.{inTable, packetOf}
+use Rattle.engine.specs.InTable.{cells-divide, place, placed, back-number}
+use Rattle.engine.specs.Sizes.{PACKETS}
 use Rattle.laws.specs.PacketsKept.{packets-count}
 
 -- ---- a list with one element replaced
@@ -50,21 +51,17 @@ queued-set (q ∷ ps) (suc i) p e u = simp (queued-set ps i p e u)
 
 -- the packets, oldest first, where the number n has another
 abbrev pub replaced : Sending → ℕ → SentReliable → List SentReliable
-replaced tx n p = window noPacket (set (tx .«txed_packets») (n % 64) p) (firstOf tx % 64) (tx .«txed_count»)
+replaced tx n p = window PACKETS noPacket (set (tx .«txed_packets») (n % PACKETS) p) (firstOf tx % PACKETS) (tx .«txed_count»)
 
 -- over bare numbers: the number `back` before the next is `count − back` past the first
-pub number-past : (t count back : ℕ) → count ≤ 64 → back ≤ count → minus t back ≡ plus (minus t count) (count - back)
+pub number-past : (t count back : ℕ) → count ≤ PACKETS → back ≤ count → minus t back ≡ plus (minus t count) (count - back)
 unfolding plus minus
 number-past t count back c h =
     let e : t + (2 ^ 32 - back) ≡ t + (2 ^ 32 - count) + (count - back) = omega arith in
     ap (λ k. k % 2 ^ 32) e ∙ sym (mod-add-mod (t + (2 ^ 32 - count)) (2 ^ 32) (count - back))
 
-back-number : (t n : ℕ) → t < 2 ^ 32 → n < 2 ^ 32 → n ≡ minus t (minus t n)
-unfolding minus
-back-number t n ht hn = omega arith
-
-module _ (tx : Sending) (n : ℕ) (next : tx .«tx_seq» .0 < 2 ^ 32) (number : n < 2 ^ 32) (count : tx .«txed_count» ≤ 64)
-    (cells : length (tx .«txed_packets») ≡ 64) (held : inTable tx n ≡ true) where
+module _ (tx : Sending) (n : ℕ) (next : tx .«tx_seq» .0 < 2 ^ 32) (number : n < 2 ^ 32) (count : tx .«txed_count» ≤ PACKETS)
+    (cells : length (tx .«txed_packets») ≡ PACKETS) (held : inTable tx n ≡ true) where
   pub place-in : place tx n < tx .«txed_count»
   unfolding place
   place-in = let at = placed tx n next number count held in omega (arith, at .back-low, at .back-high)
@@ -84,18 +81,18 @@ module _ (tx : Sending) (n : ℕ) (next : tx .«tx_seq» .0 < 2 ^ 32) (number : 
   pub place-packet : packetOf tx n ≡ getD (packets tx) (place tx n) noPacket
   place-packet = placed tx n next number count held .here
 
-  place-cell : n % 64 ≡ (firstOf tx % 64 + place tx n) % 64
+  place-cell : n % PACKETS ≡ (firstOf tx % PACKETS + place tx n) % PACKETS
   place-cell =
-      ap (λ k. k % 64) place-number
-      ∙ cell-counted 64 (firstOf tx) (place tx n) cells-divide
-      ∙ sym (mod-add-mod (firstOf tx) 64 (place tx n))
+      ap (λ k. k % PACKETS) place-number
+      ∙ cell-counted PACKETS (firstOf tx) (place tx n) cells-divide
+      ∙ sym (mod-add-mod (firstOf tx) PACKETS (place tx n))
 
   module _ (p : SentReliable) where
     -- the packet at the number's place is replaced, and no other
     pub replaced-set : replaced tx n p ≡ set (packets tx) (place tx n) p
     replaced-set =
-        ap (λ k. window noPacket (set (tx .«txed_packets») k p) (firstOf tx % 64) (tx .«txed_count»)) place-cell
-        ∙ window-set-in noPacket (tx .«txed_packets») (firstOf tx % 64) (tx .«txed_count») (place tx n) p (omega arith) cells place-in count
+        ap (λ k. window PACKETS noPacket (set (tx .«txed_packets») k p) (firstOf tx % PACKETS) (tx .«txed_count»)) place-cell
+        ∙ window-set-in PACKETS noPacket (tx .«txed_packets») (firstOf tx % PACKETS) (tx .«txed_count») (place tx n) p (omega arith) cells place-in count
 
     pub replaced-each : (P : ℕ → SentReliable → Type 0) → P (place tx n) p → ((i : ℕ) → i < tx .«txed_count» → P i (getD (packets tx) i noPacket))
         → (i : ℕ) → i < tx .«txed_count» → P i (getD (replaced tx n p) i noPacket)

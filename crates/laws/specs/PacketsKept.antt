@@ -11,27 +11,29 @@ use native.Mathlib.Omega.{arith}
 use borrow.Author.Tests.{lt-ltb}
 use lib.ListN.{length, getD, set, take, length-set, List·getD-append}
 use lib.Seq.{take-suc-set, append-snoc, getD-at}
+use borrow.Table.Steps.{cases}
 use Rattle.seq.specs.declared.Seq.{Seq}
 use Rattle.seq.specs.Numbers.{plus, minus}
 use Rattle.seq.specs.Laws.{plus-minus, cell-counted}
-use Rattle.refusal.specs.Verdicts.{by-test}
 use Rattle.link.specs.declared.row.LinkRow.{LinkRow}
-use Rattle.engine_state.specs.declared.state.SentReliableStatus.{SentReliableStatus}
-use Rattle.engine_state.specs.declared.state.SentReliable.{SentReliable}
-use Rattle.engine_state.specs.declared.state.Sending.{Sending}
-use Rattle.engine_state.specs.declared.state.State.{State}
-use Rattle.engine_state.specs.Ring.{window, window-length, window-snoc}
-use Rattle.engine_state.specs.Packets.{noPacket, firstOf, packets, queue, isReceived, isQueued, queuedOf, Pick, Outstanding, Settled, weightAs, weight, sumOf}
-use Rattle.engine_state.specs.Queue.{putIn, gatherFrom, gatherOf, withTable, requeued}
-use Rattle.engine_state.specs.Table.{withStatus, withPackets}
-use Rattle.engine_state.specs.InTable.{cells-divide}
-use Rattle.engine_state.specs.Sound.{Shaped, SentHere, SentBy}
-use Rattle.engine_state.specs.DecidedPackets.{Good}
+use Rattle.engine.specs.declared.state.SentReliableStatus.{SentReliableStatus}
+use Rattle.engine.specs.declared.state.SentReliable.{SentReliable}
+use Rattle.engine.specs.declared.state.Sending.{Sending}
+use Rattle.engine.specs.declared.state.State.{State}
+use Rattle.engine.specs.Ring.{window, window-length, window-snoc, nextCell, next-cell-lt}
+use Rattle.engine.specs.Packets.{noPacket, firstOf, packets, queue, isReceived, isQueued, queuedOf, Pick, Outstanding, Settled, weightAs, weight, sumOf}
+use Rattle.engine.specs.Queue.{putIn, gatherFrom, gatherOf, requeued}
+use Rattle.engine.specs.InTable.{cells-divide}
+use Rattle.engine.specs.Sound.{Shaped, SentHere, SentBy}
+use Rattle.engine.specs.DecidedPackets.{Good}
+use Rattle.engine.specs.Sizes.{PACKETS}
+use Rattle.engine.specs.Fields.{withStatus, withPackets, withQueue}
+use Rattle.laws.specs.RowsKept.{LinksShaped}
 use Rattle.laws.specs.Parts.{SendingSound}
 
 -- the table has as many packets as it counts
 pub packets-count : (tx : Sending) → length (packets tx) ≡ tx .«txed_count»
-packets-count tx = window-length noPacket (tx .«txed_packets») (firstOf tx % 64) (tx .«txed_count»)
+packets-count tx = window-length PACKETS noPacket (tx .«txed_packets») (firstOf tx % PACKETS) (tx .«txed_count»)
 
 -- ---- every packet is changed in its place
 
@@ -46,15 +48,15 @@ module _ {A : Type 0} (f : A → A) (d : A) where
   map-at (x ∷ xs) (suc i) h = map-at xs i (omega arith)
 
   -- the ring's cells are changed, and with them the view
-  pub window-map : (cells : List A) (at n : ℕ) → at < 64 → length cells ≡ 64 → window d (map f cells) at n ≡ map f (window d cells at n)
+  pub window-map : (N : ℕ) (cells : List A) (at n : ℕ) → at < N → length cells ≡ N → window N d (map f cells) at n ≡ map f (window N d cells at n)
   unfolding window
-  window-map cells at zero h c = refl
-  window-map cells at (suc n) h c =
-      ap₂ (λ (y : A) (l : List A). y ∷ l) (map-at cells at (omega arith)) (window-map cells ((at + 1) % 64) n (omega arith) c)
+  window-map N cells at zero h c = refl
+  window-map N cells at (suc n) h c =
+      ap₂ (λ (y : A) (l : List A). y ∷ l) (map-at cells at (omega arith)) (window-map N cells (nextCell N at) n (next-cell-lt N at (omega arith)) c)
 
 module _ (f : SentReliable → SentReliable) where
-  pub packets-mapped : (tx : Sending) → length (tx .«txed_packets») ≡ 64 → packets (withPackets tx (map f (tx .«txed_packets»))) ≡ map f (packets tx)
-  packets-mapped tx c = window-map f noPacket (tx .«txed_packets») (firstOf tx % 64) (tx .«txed_count») (omega arith) c
+  pub packets-mapped : (tx : Sending) → length (tx .«txed_packets») ≡ PACKETS → packets (withPackets tx (map f (tx .«txed_packets»))) ≡ map f (packets tx)
+  packets-mapped tx c = window-map f noPacket PACKETS (tx .«txed_packets») (firstOf tx % PACKETS) (tx .«txed_count») (omega arith) c
 
   -- a sum stays where every packet keeps its weight ..
   pub sum-mapped : (k : Pick) → ((p : SentReliable) → weight k (f p) ≡ weight k p) → (ps : List SentReliable) → sumOf k (map f ps) ≡ sumOf k ps
@@ -106,24 +108,24 @@ module _ (p : SentReliable) where
       ]
 
 -- the next number's cell is the one after the last packet's
-next-cell : (t count : ℕ) → t < 2 ^ 32 → count < 64 → t % 64 ≡ (minus t count % 64 + count) % 64
+next-cell : (t count : ℕ) → t < 2 ^ 32 → count < PACKETS → t % PACKETS ≡ (minus t count % PACKETS + count) % PACKETS
 next-cell t count ht hc =
-    ap (λ n. n % 64) (sym (plus-minus t count ht (omega arith)))
-    ∙ cell-counted 64 (minus t count) count cells-divide
-    ∙ sym (mod-add-mod (minus t count) 64 count)
+    ap (λ n. n % PACKETS) (sym (plus-minus t count ht (omega arith)))
+    ∙ cell-counted PACKETS (minus t count) count cells-divide
+    ∙ sym (mod-add-mod (minus t count) PACKETS count)
 
 -- the first number stays
-pub first-same : (t count : ℕ) → t < 2 ^ 32 → count < 64 → minus (plus t 1) (count + 1) ≡ minus t count
+pub first-same : (t count : ℕ) → t < 2 ^ 32 → count < PACKETS → minus (plus t 1) (count + 1) ≡ minus t count
 unfolding plus minus
 first-same t count ht hc = omega arith
 
-pub packets-added : (cells : List SentReliable) (t count : ℕ) (p : SentReliable) → t < 2 ^ 32 → count < 64 → length cells ≡ 64
-    → window noPacket (set cells (t % 64) p) (minus (plus t 1) (count + 1) % 64) (count + 1) ≡ window noPacket cells (minus t count % 64) count ++ (p ∷ [])
+pub packets-added : (cells : List SentReliable) (t count : ℕ) (p : SentReliable) → t < 2 ^ 32 → count < PACKETS → length cells ≡ PACKETS
+    → window PACKETS noPacket (set cells (t % PACKETS) p) (minus (plus t 1) (count + 1) % PACKETS) (count + 1) ≡ window PACKETS noPacket cells (minus t count % PACKETS) count ++ (p ∷ [])
 packets-added cells t count p ht hc l =
-    ap (λ n. window noPacket (set cells (t % 64) p) (n % 64) (count + 1)) (first-same t count ht hc)
-    ∙ ap (λ i. window noPacket (set cells i p) (minus t count % 64) (count + 1)) (next-cell t count ht hc)
-    ∙ ap (window noPacket (set cells ((minus t count % 64 + count) % 64) p) (minus t count % 64)) (add-one count)
-    ∙ window-snoc noPacket cells (minus t count % 64) count p (omega arith) l hc
+    ap (λ n. window PACKETS noPacket (set cells (t % PACKETS) p) (n % PACKETS) (count + 1)) (first-same t count ht hc)
+    ∙ ap (λ i. window PACKETS noPacket (set cells i p) (minus t count % PACKETS) (count + 1)) (next-cell t count ht hc)
+    ∙ ap (window PACKETS noPacket (set cells ((minus t count % PACKETS + count) % PACKETS) p) (minus t count % PACKETS)) (add-one count)
+    ∙ window-snoc PACKETS noPacket cells (minus t count % PACKETS) count p (omega arith) l hc
 
 -- ---- the resend queue is made anew
 
@@ -133,17 +135,17 @@ record Gathers (ps : List SentReliable) (before : List Seq) (count : ℕ) (after
   counts : total ≡ count + length (queuedOf ps)
   long : length after ≡ length before
 
-gathers : (ps : List SentReliable) (numbers : List Seq) (count : ℕ) → length numbers ≡ 64 → count + length ps ≤ 64
+gathers : (ps : List SentReliable) (numbers : List Seq) (count : ℕ) → length numbers ≡ PACKETS → count + length ps ≤ PACKETS
     → Gathers ps numbers count (gatherFrom ps (record { numbers = numbers; count = count }) .numbers) (gatherFrom ps (record { numbers = numbers; count = count }) .count)
 unfolding gatherFrom putIn queuedOf
 gathers [] numbers count l h = record { lists = sym (append-nil (take count numbers)); counts = omega arith; long = refl }
 gathers (p ∷ ps) numbers count l h =
-    by-test (isQueued (p .status))
+    cases (isQueued (p .status))
     (λ q.
-    let room : count < 64 = omega arith in
+    let room : count < PACKETS = omega arith in
     let r = gathers ps (set numbers count (p .seq)) (count + 1) (length-set numbers count (p .seq) ∙ l) (omega arith) in
     let here : take (count + 1) (set numbers count (p .seq)) ≡ take count numbers ++ (p .seq ∷ []) = rw add-one (take-suc-set numbers count (p .seq) (omega arith)) in
-    simp (q, lt-ltb count 64 room) (record {
+    simp (q, lt-ltb count PACKETS room) (record {
       lists = simp q (r .lists ∙ ap (λ (l : List Seq). l ++ queuedOf ps) here ∙ append-snoc (take count numbers) (p .seq) (queuedOf ps));
       counts = simp q (omega (arith, r .counts));
       long = r .long ∙ length-set numbers count (p .seq);
@@ -157,12 +159,12 @@ queued-le : (ps : List SentReliable) → length (queuedOf ps) ≤ length ps
 unfolding queuedOf
 queued-le [] = omega arith
 queued-le (p ∷ ps) =
-    by-test (isQueued (p .status))
+    cases (isQueued (p .status))
     (λ q. simp q (omega (arith, queued-le ps)))
     (λ q. simp q (omega (arith, queued-le ps)))
 
 -- a queue made anew is that of the packets
-module _ (tx : Sending) (few : tx .«txed_count» ≤ 64) (long : length (tx .«resend_queue») ≡ 64) where
+module _ (tx : Sending) (few : tx .«txed_count» ≤ PACKETS) (long : length (tx .«resend_queue») ≡ PACKETS) where
   made : Gathers (packets tx) (tx .«resend_queue») 0 (requeued tx .«resend_queue») (requeued tx .«resend_count»)
   unfolding requeued gatherOf
   made =
@@ -172,10 +174,10 @@ module _ (tx : Sending) (few : tx .«txed_count» ≤ 64) (long : length (tx .«
   pub requeued-queue : queue (requeued tx) ≡ queuedOf (packets tx)
   requeued-queue = made .lists
 
-  pub requeued-count : requeued tx .«resend_count» ≤ 64
+  pub requeued-count : requeued tx .«resend_count» ≤ PACKETS
   requeued-count = omega (arith, made .counts, queued-le (packets tx), packets-count tx)
 
-  pub requeued-long : length (requeued tx .«resend_queue») ≡ 64
+  pub requeued-long : length (requeued tx .«resend_queue») ≡ PACKETS
   requeued-long = made .long ∙ long
 
 -- ---- the sending half
@@ -186,23 +188,29 @@ Restatused f g = (p : SentReliable) → f p ≡ withStatus p (g (p .status))
 
 -- the state with the packets changed, and other rows, another queue and another time
 abbrev pub withStatuses : State → (SentReliable → SentReliable) → List LinkRow → List Seq → ℕ → ℕ → State
-withStatuses s f links q n time = record { links = links; tx = withTable (s .tx) (map f (s .tx .«txed_packets»)) q n; rx = s .rx; time = time }
+withStatuses s f links q n time = record { links = links; tx = withQueue (withPackets (s .tx) (map f (s .tx .«txed_packets»))) q n; rx = s .rx; time = time }
 
 pub shaped-restatused : (s : State) (f : SentReliable → SentReliable) (links : List LinkRow) (q : List Seq) (n time : ℕ) → Shaped s
-    → length links ≡ 8 → length q ≡ 64 → n < 2 ^ 64 → Shaped (withStatuses s f links q n time)
-shaped-restatused s f links q n time shaped eight long small = record {
-  links-eight = eight;
-  packets-64 = map-length f (s .tx .«txed_packets») ∙ shaped .packets-64;
-  queue-64 = long;
-  cells-64 = shaped .cells-64;
+    → LinksShaped links → length q ≡ PACKETS → n < 2 ^ 64 → time < 2 ^ 64 → Shaped (withStatuses s f links q n time)
+shaped-restatused s f links q n time shaped rows long small timed = record {
+  links-full = rows .full;
+  queues = rows .queues;
+  packets-full = map-length f (s .tx .«txed_packets») ∙ shaped .packets-full;
+  queue-full = long;
+  cells-full = shaped .cells-full;
   next-u32 = shaped .next-u32;
   expected-u32 = shaped .expected-u32;
   oldest-u32 = shaped .oldest-u32;
   count-usize = shaped .count-usize;
   queue-usize = small;
   unacked-u32 = shaped .unacked-u32;
+  unconsumed-u32 = shaped .unconsumed-u32;
   unconsumable-u32 = shaped .unconsumable-u32;
+  last-u32 = shaped .last-u32;
   size-u32 = shaped .size-u32;
+  untold-u32 = shaped .untold-u32;
+  buffer-u32 = shaped .buffer-u32;
+  time-u64 = timed;
 }
 
 module _ (f : SentReliable → SentReliable) (g : SentReliableStatus → SentReliableStatus) (same : Restatused f g) where
@@ -215,7 +223,7 @@ module _ (f : SentReliable → SentReliable) (g : SentReliableStatus → SentRel
   good-restatused s t n p here timed good =
       rw (same p) (record { number = good .number; fits = good .fits; here = here (p .status) (good .here); timed = timed (p .status) (good .timed) })
 
-  module _ (s : State) (links : List LinkRow) (q : List Seq) (n time : ℕ) (cells : length (s .tx .«txed_packets») ≡ 64) where
+  module _ (s : State) (links : List LinkRow) (q : List Seq) (n time : ℕ) (cells : length (s .tx .«txed_packets») ≡ PACKETS) where
     -- the packets afterwards
     pub packets-restatused : packets (withStatuses s f links q n time .tx) ≡ map f (packets (s .tx))
     packets-restatused = packets-mapped f (s .tx) cells
@@ -226,7 +234,7 @@ module _ (f : SentReliable → SentReliable) (g : SentReliableStatus → SentRel
         → ((st : SentReliableStatus) → isReceived (g st) ≡ isReceived st)
         → ((st : SentReliableStatus) (len : ℕ) → weightAs Outstanding (g st) len ≡ weightAs Outstanding st len)
         → ((st : SentReliableStatus) (len : ℕ) → weightAs Settled (g st) len ≡ weightAs Settled st len)
-        → take n q ≡ queuedOf (map f (packets (s .tx))) → n ≤ 64
+        → take n q ≡ queuedOf (map f (packets (s .tx))) → n ≤ PACKETS
         → SendingSound (withStatuses s f links q n time)
     sending-restatused sending here timed received outstanding settled queued few =
         let t = withStatuses s f links q n time in

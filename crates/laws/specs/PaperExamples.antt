@@ -12,15 +12,15 @@ use Rattle.link.specs.declared.row.MaxPing.the-variants.{Unlimited, UpTo}
 use Rattle.link.specs.Row.{emptyRow, freshRow}
 use Rattle.link.specs.Roundtrip.{tripAfter}
 use Rattle.link.specs.Slow.{confirmedLink, aboveMaxPing, slowRow}
-use Rattle.engine_state.specs.declared.state.State.{State}
-use Rattle.engine_state.specs.Decide.{soundb}
-use Rattle.engine_state.specs.Sound.{Shaped, packetAt}
-use Rattle.engine_state.specs.Table.{inTable, packetOf}
-use Rattle.engine_state.specs.InTable.{place, placed}
-use Rattle.engine_ack.specs.Ack.{ackedTx}
-use Rattle.engine_acks.specs.declared.due.Due.the-variants.{Is}
-use Rattle.engine_acks.specs.Due.{dueOf}
-use Rattle.engine_slow_rows.specs.Slow.{allSlow, overSlots, slowSlots}
+use Rattle.engine.specs.declared.state.State.{State}
+use Rattle.engine.specs.Decide.{soundb}
+use Rattle.engine.specs.Sound.{Shaped, packetAt}
+use Rattle.engine.specs.Table.{inTable, packetOf}
+use Rattle.engine.specs.InTable.{place, placed}
+use Rattle.engine.specs.Acking.{ackedTx}
+use Rattle.engine.specs.declared.handing_out.Due.the-variants.{Is}
+use Rattle.engine.specs.HandingOut.{dueOf}
+use Rattle.engine.specs.Slowness.{allSlow, overSlots, slowSlots}
 
 -- L1's links: 50 over 40 in one slot, in another any round trip without `max_ping`, and no more
 abbrev pub rowsOfL1 : ℕ → ℕ → ℕ → List LinkRow

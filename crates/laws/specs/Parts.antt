@@ -1,17 +1,19 @@
 -- Sound in its parts: what it asks of the sending half, of the rows and of the receiving half. Assumes nothing.
 use mathlib.Core.Path.{_≡_}
 use mathlib.Core.Bool.{true, false}
-use Prim.Native.Nat.{ℕ, _^_, _≤_, _<_}
+use Prim.Native.Nat.{ℕ, _≤_, _<_}
 use lib.ListN.{getD}
 use Rattle.seq.specs.Numbers.{plus}
-use Rattle.engine_state.specs.declared.state.Held.the-variants.{Nothing}
-use Rattle.engine_state.specs.declared.state.Receiving.{Receiving}
-use Rattle.engine_state.specs.declared.state.State.{State}
-use Rattle.engine_state.specs.Packets.{firstOf, packets, queue, isReceived, queuedOf, SentOn, Outstanding, Settled, sumOf}
-use Rattle.engine_state.specs.Cells.{noCell, cellView, expectedAt, isFull, bytesIn}
-use Rattle.engine_state.specs.DecidedPackets.{Good}
-use Rattle.engine_state.specs.Sound.{Sound, packetAt, ReadyKind, LengthWithin}
+use Rattle.engine.specs.declared.state.Held.the-variants.{Nothing}
+use Rattle.engine.specs.declared.state.Receiving.{Receiving}
+use Rattle.engine.specs.declared.state.State.{State}
+use Rattle.engine.specs.Packets.{firstOf, packets, queue, isReceived, queuedOf, SentOn, Outstanding, Settled, sumOf}
+use Rattle.engine.specs.Received.{noCell, cellView, expectedAt, isFull, bytesIn}
+use Rattle.engine.specs.DecidedPackets.{Good}
+use Rattle.engine.specs.Sound.{Sound, packetAt, ReadyKind, LengthWithin}
+use Rattle.engine.specs.Sizes.{PACKETS, CELLS, MAX_RECV_BUFFER}
 use Rattle.laws.specs.RowsKept.{RowsFine, Apart}
+use Rattle.link.specs.Sizes.{MAX_TIME}
 
 -- the sending half: each packet's number, length, slot and times; the queue; the totals
 pub record SendingSound (s : State) : Type 0 where
@@ -20,20 +22,20 @@ pub record SendingSound (s : State) : Type 0 where
   pub queued : queue (s .tx) ≡ queuedOf (packets (s .tx))
   pub unacked : s .tx .«txed_unacked» ≡ sumOf Outstanding (packets (s .tx))
   pub unconsumable : s .tx .«txed_unconsumable» ≡ sumOf Settled (packets (s .tx))
-  pub packet-count : s .tx .«txed_count» ≤ 64
-  pub queue-count : s .tx .«resend_count» ≤ 64
+  pub packet-count : s .tx .«txed_count» ≤ PACKETS
+  pub queue-count : s .tx .«resend_count» ≤ PACKETS
 
 -- the receiving half
 pub record ReceivingSound (rx : Receiving) : Type 0 where
   pub untaken-within : rx .«rxed_reliable_size» ≤ rx .«recv_buffer»
-  pub untaken : rx .«rxed_reliable_size» ≡ bytesIn (cellView 64 rx)
-  pub ready : (k : ℕ) → k < expectedAt rx → ReadyKind (getD (cellView 64 rx) k noCell .held)
-  pub oldest : 0 < expectedAt rx → isFull (getD (cellView 64 rx) 0 noCell .held) ≡ true
-  pub held : expectedAt rx < 64 → getD (cellView 64 rx) (expectedAt rx) noCell .held ≡ Nothing
-  pub near : expectedAt rx ≤ 64
-  pub cell-length : (k : ℕ) → k < 64 → LengthWithin (getD (cellView 64 rx) k noCell .held)
+  pub untaken : rx .«rxed_reliable_size» ≡ bytesIn (cellView CELLS rx)
+  pub ready : (k : ℕ) → k < expectedAt rx → ReadyKind (getD (cellView CELLS rx) k noCell .held)
+  pub oldest : 0 < expectedAt rx → isFull (getD (cellView CELLS rx) 0 noCell .held) ≡ true
+  pub held : expectedAt rx < CELLS → getD (cellView CELLS rx) (expectedAt rx) noCell .held ≡ Nothing
+  pub near : expectedAt rx ≤ CELLS
+  pub cell-length : (k : ℕ) → k < CELLS → LengthWithin (getD (cellView CELLS rx) k noCell .held)
   pub buffer-set : 1 ≤ rx .«recv_buffer»
-  pub buffer-within : rx .«recv_buffer» ≤ 65536
+  pub buffer-within : rx .«recv_buffer» ≤ MAX_RECV_BUFFER
 
 module _ (s : State) where
   pub sending-of : Sound s → SendingSound s
@@ -61,7 +63,7 @@ module _ (s : State) where
   }
 
   -- the parts make the whole
-  pub whole : SendingSound s → RowsFine (s .links) (λ j. sumOf (SentOn j) (packets (s .tx))) (s .time) → Apart (s .links) → ReceivingSound (s .rx) → s .time ≤ 2 ^ 56
+  pub whole : SendingSound s → RowsFine (s .links) (λ j. sumOf (SentOn j) (packets (s .tx))) (s .time) → Apart (s .links) → ReceivingSound (s .rx) → s .time ≤ MAX_TIME
       → Sound s
   whole sending rows apart receiving time = record {
     consecutive = λ i h. sending .each i h .number;

@@ -2,43 +2,41 @@
 -- answer's number is not 0, state and stores are those that came in. Assumes nothing.
 use mathlib.Core.Path.{_≡_, refl, ap}
 use mathlib.Core.Logic.{_≢_}
-use mathlib.Core.Bool.{cond, _&&_}
+use mathlib.Core.Bool.{cond}
 use mathlib.Core.List.{List, map}
 use Prim.Native.Nat.{ℕ}
 use lib.ListN.{length}
 use lib.Dec.{leb}
-use Rattle.refusal.specs.Verdicts.{by-test}
+use borrow.Table.Steps.{cases}
 use Rattle.refusal.specs.declared.verdict.Verdict.{Verdict}
 use Rattle.refusal.specs.declared.verdict.Verdict.the-variants as verdicts
 use Rattle.msg.specs.declared.link_msg.LinkMsg.{LinkMsg}
 use Rattle.msg.specs.Messages.{bytesOf}
 use Rattle.msg.specs.Writing.{writable, writtenNumber, writeOf, bufferOf}
-use Rattle.engine_state.specs.declared.state.State.{State}
-use Rattle.engine_state.specs.Answer.{outcomeNumber, changedBy}
-use Rattle.engine_state.specs.Gates.{slotVerdict, timedVerdict}
+use Rattle.engine.specs.declared.state.State.{State}
+use Rattle.engine.specs.Answer.{outcomeNumber, changedBy}
+use Rattle.engine.specs.Gates.{slotVerdict, timedVerdict}
 use Rattle.link.specs.declared.row.Limit.the-variants.{At}
 use Rattle.link.specs.Row.{emptyRow, freshRow, confirmed, blockedRow}
 use Rattle.link.specs.Limit.{markedRow}
 use Rattle.link.specs.Roundtrip.{pinged, ponged}
-use Rattle.engine_state.specs.Rows.{rowOf, withRow, withTx, withTime}
-use Rattle.engine_state.specs.Table.{withPackets}
-use Rattle.engine_state.specs.Stores.{cellStart, placed, storeBy}
-use Rattle.engine_add.specs.Add.{addOf, addNumber, addedBy, addVerdict, lowestIn}
-use Rattle.engine_links.specs.Changes.{confirmOf, blockOf, markOf, pingOf, pongOf}
-use Rattle.engine_unconfirm.specs.Unconfirm.{unconfirmedState, unconfirmOf, removeOf}
-use Rattle.engine_send.specs.Send.{sendOf, sendStore, sendNumber, sentBy, sendVerdict, sentState}
-use Rattle.engine_flush.specs.Flush.{flushOf, flushedPacket}
-use Rattle.engine_resend.specs.Resend.{resendOf, resendNumber, resentBy, resendVerdict, resentState}
-use Rattle.engine_ack.specs.Ack.{ackOf, ackVerdict, ackedState}
-use Rattle.engine_receive.specs.Receive.{receiveOf, receiveStore, receiveVerdict, repeatedState, receivedState}
-use Rattle.engine_cells.specs.Cells.{isRepeat}
-use Rattle.engine_handout.specs.declared.ready.HandOut.{HandOut}
-use Rattle.engine_handout.specs.declared.ready.HandOut.the-variants as handouts
-use Rattle.engine_acks.specs.declared.acks.TakeAck.the-variants as acks
-use Rattle.engine_acks.specs.declared.acks.TakeAck.{TakeAck as AckAnswer}
-use Rattle.engine_handout.specs.Ready.{handOutNumber}
-use Rattle.engine_handout.specs.Take.{takeOf, takenBy}
-use Rattle.engine_acks.specs.Acks.{takeAckOf, takeAckNumber, takenAckBy}
+use Rattle.engine.specs.Rows.{rowOf}
+use Rattle.engine.specs.Stores.{cellStart, copied, storeBy}
+use Rattle.engine.specs.Links.{addOf, addNumber, addedBy, addVerdict, lowestIn, confirmOf, blockOf, markOf, pingOf, pongOf}
+use Rattle.engine.specs.Unconfirming.{unconfirmedState, unconfirmOf, removeOf}
+use Rattle.engine.specs.Sending.{sendOf, sendStore, sendNumber, sentBy, sendVerdict, sentState}
+use Rattle.engine.specs.Flushing.{flushOf, flushedPacket}
+use Rattle.engine.specs.Resending.{resendOf, resendNumber, resentBy, resendVerdict, resentState}
+use Rattle.engine.specs.Acking.{ackOf, ackVerdict, ackedState}
+use Rattle.engine.specs.Receiving.{receiveOf, receiveStore, receiveVerdict, repeatedState, receivedState}
+use Rattle.engine.specs.Cells.{isRepeat}
+use Rattle.engine.specs.declared.handing_out.HandOut.{HandOut}
+use Rattle.engine.specs.declared.handing_out.HandOut.the-variants as handouts
+use Rattle.engine.specs.declared.handing_out.TakeAck.the-variants as acks
+use Rattle.engine.specs.declared.handing_out.TakeAck.{TakeAck as AckAnswer}
+use Rattle.engine.specs.HandingOut.{handOutNumber, takeOf, takenBy, takeAckOf, takeAckNumber, takenAckBy}
+use Rattle.engine.specs.Sizes.{CELLS, PACKETS}
+use Rattle.engine.specs.Fields.{withPackets, withRow, withTx, withTime}
 use Rattle.laws.specs.Calls.{Call, Add, Remove, Confirm, Unconfirm, Block, Mark, Ping, Pong, Flush, Send, Resend, Ack, Receive, Show, Take, Due, TakeAck, Holding, withState, number, next}
 
 -- ---- by the shape of an answer
@@ -81,9 +79,9 @@ ack-taken-same (acks.No e) s slot h = refl
 pub refused-writing : (msg : LinkMsg) (buffer : List ℕ) → writtenNumber (writeOf msg buffer) ≢ 0 → bufferOf msg buffer ≡ buffer
 unfolding writeOf bufferOf
 refused-writing msg buffer told =
-    by-test (writable msg)
+    cases (writable msg)
     (λ may.
-    by-test (leb (length (bytesOf msg)) (length buffer))
+    cases (leb (length (bytesOf msg)) (length buffer))
     (λ room. absurd (told (simp (may, room))))
     (λ none. simp (may, none)))
     (λ not. simp not)
@@ -114,19 +112,19 @@ refused (Send slot time msg bytes) h told =
     let after = sentState (h .state) slot time msg (length bytes) in
     λ d. record {
       state = sent-same v (h .state) after told d;
-      sent = sent-store-same v (h .state) after (h .sent) (placed (h .sent) (cellStart (h .state .tx .«tx_seq» .0)) bytes) told d;
+      sent = sent-store-same v (h .state) after (h .sent) (copied (h .sent) (cellStart PACKETS (h .state .tx .«tx_seq» .0)) bytes) told d;
       received = h .received;
     }
 refused (Resend slot time n) h told = let s = h .state in ap (withState h) (resent-same (resendVerdict s slot time n) s n (resentState s slot time n) told)
 refused (Ack slot time n) h told = let s = h .state in ap (withState h) (changed-same (ackVerdict s slot time n) s (ackedState s slot time n) told)
 refused (Receive slot msg n bytes) h told =
     let v = receiveVerdict (h .state) (length (h .received)) slot msg n (length bytes) in
-    let again = isRepeat 64 (h .state .rx) n in
+    let again = isRepeat CELLS (h .state .rx) n in
     let after = cond again (repeatedState (h .state) slot n) (receivedState (h .state) slot msg n (length bytes)) in
     λ d. record {
       state = changed-same v (h .state) after told d;
       sent = h .sent;
-      received = changed-store-same v (h .state) after (h .received) (cond again (h .received) (placed (h .received) (cellStart n) bytes)) told d;
+      received = changed-store-same v (h .state) after (h .received) (cond again (h .received) (copied (h .received) (cellStart CELLS n) bytes)) told d;
     }
 refused Show h told = refl
 refused Take h told = ap (withState h) (taken-same (takeOf (h .state) .answer) (h .state) told)

@@ -5,40 +5,44 @@ use mathlib.Core.List.{List}
 use Prim.Native.Nat.{ℕ, _+_, _^_, _≤_, _<_}
 use native.Mathlib.Omega.{arith}
 use lib.Dec.{eqb}
-use lib.ListN.{length, getD, set, length-set}
+use lib.ListN.{length, getD, set}
 use borrow.Author.Tests.{eq-eqb, ne-eqb}
 use Rattle.refusal.specs.declared.verdict.Verdict.{Verdict}
 use Rattle.refusal.specs.declared.verdict.Verdict.the-variants as verdicts
-use Rattle.refusal.specs.Verdicts.{gate-pass, split, false-true}
+use Rattle.refusal.specs.Verdicts.{gate-pass}
+use Rattle.refusal.specs.Tests.{split, false-true}
 use Rattle.link.specs.declared.row.LinkRow.{LinkRow}
 use Rattle.link.specs.Row.{withUnacked}
 use Rattle.link.specs.Limit.{markResent}
-use Rattle.engine_state.specs.declared.state.Flushed.the-variants.{Unflushed}
-use Rattle.engine_state.specs.declared.state.SentReliableStatus.{SentReliableStatus}
-use Rattle.engine_state.specs.declared.state.SentReliableStatus.the-variants.{Sent, Received, ResendQueued}
-use Rattle.engine_state.specs.declared.state.SentReliable.{SentReliable}
-use Rattle.engine_state.specs.declared.state.Sending.{Sending}
-use Rattle.engine_state.specs.declared.state.State.{State}
-use Rattle.engine_state.specs.Packets.{noPacket, packets, isQueued, isReceived, Pick, SentOn, Outstanding, Settled, weightAs, sumOf}
-use Rattle.engine_state.specs.Queue.{requeued, gatherOf}
-use Rattle.engine_state.specs.Table.{inTable, packetOf, withStatus, withPacket}
-use Rattle.engine_state.specs.Rows.{rowOf, row-of}
-use Rattle.engine_state.specs.Sound.{Sound, Shaped, rowAt}
-use Rattle.engine_state.specs.DecidedTables.{RowFine}
-use Rattle.engine_resend.specs.Resend.{resendVerdict, resentState, resentBy, resendOf}
+use Rattle.link.specs.Sizes.{MAX_TIME}
+use Rattle.engine.specs.declared.state.SentReliableStatus.{SentReliableStatus}
+use Rattle.engine.specs.declared.state.SentReliableStatus.the-variants.{Sent, Received, ResendQueued}
+use Rattle.engine.specs.declared.state.SentReliable.{SentReliable}
+use Rattle.engine.specs.declared.state.Sending.{Sending}
+use Rattle.engine.specs.declared.state.State.{State}
+use Rattle.engine.specs.Packets.{noPacket, packets, isQueued, isReceived, Pick, SentOn, Outstanding, Settled, weightAs, sumOf}
+use Rattle.engine.specs.Queue.{requeued, gatherOf}
+use Rattle.engine.specs.Table.{inTable, packetOf, withPacket}
+use Rattle.engine.specs.Rows.{rowOf, row-of}
+use Rattle.engine.specs.Sound.{Sound, Shaped, rowAt}
+use Rattle.engine.specs.DecidedTables.{RowFine}
+use Rattle.engine.specs.Resending.{resendVerdict, resentState, resentBy, resendOf}
+use Rattle.engine.specs.Fields.{withStatus, newFlight}
+use Rattle.engine.specs.Sizes.{SLOTS}
 use Rattle.laws.specs.Passed.{timed-passed}
-use Rattle.laws.specs.RowsKept.{RowsFine, rows-of, row-later, rows-set, apart-kept, row-here, here-same}
+use Rattle.laws.specs.RowsKept.{RowsFine, rows-of, row-later, links-set, rows-set, apart-kept, row-here, here-same}
+use Rattle.laws.specs.RowAcks.{resent-acks, same-full}
 use Rattle.laws.specs.PacketsKept.{requeued-queue, requeued-count, requeued-long}
 use Rattle.laws.specs.PacketReplaced.{replaced, replaced-each, replaced-sum}
-use Rattle.laws.specs.NearlySound.{Nearly, nearly-sound, sent-shaped, restated-nearly}
+use Rattle.laws.specs.NearlySound.{Nearly, nearly-sound, restated-shaped, restated-nearly}
 use Rattle.laws.specs.RowChanged.{like-fine, mark-resent, bytes-fine, bytes-live, bytes-id}
 
 -- ---- what passing the gates says
 
 record Resends (s : State) (slot time n : ℕ) : Type 0 where
   later : s .time ≤ time
-  top : time ≤ 2 ^ 56
-  small : slot < 8
+  top : time ≤ MAX_TIME
+  small : slot < SLOTS
   live : rowAt s slot .live ≡ true
   held : inTable (s .tx) n ≡ true
   waits : isQueued (packetOf (s .tx) n .status) ≡ true
@@ -53,7 +57,7 @@ resends s slot time n e =
 
 -- a queued packet weighs as such
 queued-weight : (k : Pick) (st : SentReliableStatus) (len : ℕ) → isQueued st ≡ true → weightAs k st len ≡ weightAs k (ResendQueued 0) len
-queued-weight k (Sent sent flushed slot link) len u = false-true u
+queued-weight k (Sent flight) len u = false-true u
 queued-weight k Received len u = false-true u
 queued-weight (SentOn j) (ResendQueued link) len u = refl
 queued-weight Outstanding (ResendQueued link) len u = refl
@@ -67,7 +71,7 @@ module _ (s : State) (slot time n : ℕ) (shaped : Shaped s) (sound : Sound s) (
   old = packetOf (s .tx) n
 
   abbrev status : SentReliableStatus
-  status = Sent time Unflushed slot (rowOf s slot .«link_id»)
+  status = Sent (newFlight time slot (rowOf s slot .«link_id»))
 
   abbrev after : List SentReliable
   after = replaced (s .tx) n (withStatus old status)
@@ -85,12 +89,12 @@ module _ (s : State) (slot time n : ℕ) (shaped : Shaped s) (sound : Sound s) (
   is-row = row-of s slot (ok .small)
 
   inside : slot < length (s .links)
-  inside = omega (arith, shaped .links-eight, ok .small)
+  inside = omega (arith, shaped .links-full, ok .small)
 
   sum-after : (k : Pick) → sumOf k after + weightAs k (ResendQueued 0) (old .len) ≡ sumOf k (packets (s .tx)) + weightAs k status (old .len)
   sum-after k =
       rw (← (queued-weight k (old .status) (old .len) (ok .waits)))
-      (replaced-sum (s .tx) n (shaped .next-u32) number (sound .packet-count) (shaped .packets-64) (ok .held) (withStatus old status) k)
+      (replaced-sum (s .tx) n (shaped .next-u32) number (sound .packet-count) (shaped .packets-full) (ok .held) (withStatus old status) k)
 
   row-live : row .live ≡ rowAt s slot .live
   row-live = bytes-live _ _ ∙ mark-resent _ (rowOf s slot) n .live ∙ ap (λ r. r .live) is-row
@@ -124,8 +128,8 @@ module _ (s : State) (slot time n : ℕ) (shaped : Shaped s) (sound : Sound s) (
         ap (λ r. r .«link_id») (row-here (s .links) slot row inside) ∙ row-id ∙ ap (λ r. r .«link_id») (sym is-row),
       )
       (omega arith, tt)
-      (requeued-queue changed (sound .packet-count) (shaped .queue-64))
-      (requeued-count changed (sound .packet-count) (shaped .queue-64))
+      (requeued-queue changed (sound .packet-count) (shaped .queue-full))
+      (requeued-count changed (sound .packet-count) (shaped .queue-full))
       (omega (arith, sound .unacked, sum-after Outstanding))
       (omega (arith, sound .unconsumable, sum-after Settled))
       rows-after
@@ -133,7 +137,7 @@ module _ (s : State) (slot time n : ℕ) (shaped : Shaped s) (sound : Sound s) (
 
   resent-first : 0 < s .tx .«txed_count» → isReceived (getD after 0 noPacket .status) ≡ false
   resent-first h =
-      replaced-each (s .tx) n (shaped .next-u32) number (sound .packet-count) (shaped .packets-64) (ok .held) (withStatus old status)
+      replaced-each (s .tx) n (shaped .next-u32) number (sound .packet-count) (shaped .packets-full) (ok .held) (withStatus old status)
       (λ i p. i ≡ 0 → isReceived (p .status) ≡ false)
       (λ e. refl) (λ i l e. rw e (sound .first h)) 0 h refl
 
@@ -144,13 +148,12 @@ module _ (s : State) (slot time n : ℕ) (shaped : Shaped s) (sound : Sound s) (
   resent-shaped : Shaped (resentState s slot time n)
   unfolding resentState requeued withPacket
   resent-shaped =
-      sent-shaped s links (resentState s slot time n .tx) time shaped
-      (length-set (s .links) slot row ∙ shaped .links-eight)
-      (length-set (s .tx .«txed_packets») _ (withStatus old status) ∙ shaped .packets-64)
-      (requeued-long changed (sound .packet-count) (shaped .queue-64))
-      (shaped .next-u32)
-      (sound .packet-count)
-      (requeued-count changed (sound .packet-count) (shaped .queue-64))
+      restated-shaped s n shaped sound number (ok .held) status links time (gatherOf changed .numbers) (gatherOf changed .count)
+      (s .tx .«txed_unacked») (s .tx .«txed_unconsumable»)
+      (links-set s slot row shaped (same-full s slot shaped row (resent-acks (rowOf s slot) n _)))
+      (ok .top)
+      (requeued-long changed (sound .packet-count) (shaped .queue-full))
+      (requeued-count changed (sound .packet-count) (shaped .queue-full))
       (shaped .unacked-u32)
       (shaped .unconsumable-u32)
 

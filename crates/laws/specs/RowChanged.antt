@@ -1,18 +1,18 @@
 -- What the mark, the unacked bytes and the round trip change in a row: the rest of it stays as Sound asks. Assumes nothing.
 use mathlib.Core.Path.{_≡_, refl, ap, _∙_}
 use mathlib.Core.Bool.{Bool, true, false, cond}
-use Prim.Native.Nat.{ℕ, _+_, _-_, _*_, _/_, _^_, _≤_}
+use Prim.Native.Nat.{ℕ, _+_, _-_, _*_, _/_, _≤_}
 use native.Mathlib.Omega.{arith}
 use lib.Dec.{ltb}
 use Rattle.seq.specs.Numbers.{before}
 use Rattle.link.specs.declared.row.LinkRow.{LinkRow}
 use Rattle.link.specs.declared.row.Limit.{Limit}
 use Rattle.link.specs.declared.row.Limit.the-variants.{Clear, At}
-use Rattle.link.specs.Sizes.{maxPingWithin, pingWithin}
+use Rattle.link.specs.Sizes.{maxPingWithin, pingWithin, MAX_TIME}
 use Rattle.link.specs.Row.{withUnacked}
 use Rattle.link.specs.Limit.{atOrBefore, markedRow, markAckedAs, markResentAs}
 use Rattle.link.specs.Roundtrip.{tripAfter, tripMoved}
-use Rattle.engine_state.specs.DecidedTables.{RowFine}
+use Rattle.engine.specs.DecidedTables.{RowFine}
 
 -- one row is like another in all that Sound reads
 pub record Like (new old : LinkRow) : Type 0 where
@@ -33,7 +33,7 @@ like-fine new old sum time same fine = record {
   acks = rw (same .acks) (fine .acks);
 }
 
-either : (P : LinkRow → Type 0) (b : Bool) (x y : LinkRow) → P x → P y → P (cond b x y)
+pub either : (P : LinkRow → Type 0) (b : Bool) (x y : LinkRow) → P x → P y → P (cond b x y)
 either P true x y h g = h
 either P false x y h g = g
 
@@ -68,16 +68,16 @@ unfolding withUnacked
 bytes-id r n = refl
 
 -- the round trip
-trip-small : (flag : Bool) (r e : ℕ) → r ≤ 2 ^ 56 → e ≤ 2 ^ 56 → tripAfter flag r e ≤ 2 ^ 56
+trip-small : (flag : Bool) (r e : ℕ) → r ≤ MAX_TIME → e ≤ MAX_TIME → tripAfter flag r e ≤ MAX_TIME
 unfolding tripAfter
 trip-small true r e hr he = he
 trip-small false r e hr he = among (ltb r e)
   where
-    among : (b : Bool) → cond b ((r + 3 * e) / 4) ((99 * r + e) / 100) ≤ 2 ^ 56
+    among : (b : Bool) → cond b ((r + 3 * e) / 4) ((99 * r + e) / 100) ≤ MAX_TIME
     among true = omega arith
     among false = omega arith
 
-pub trip-fine : (r : LinkRow) (sum since time : ℕ) → time ≤ 2 ^ 56 → RowFine r sum time → RowFine (tripMoved r since time) sum time
+pub trip-fine : (r : LinkRow) (sum since time : ℕ) → time ≤ MAX_TIME → RowFine r sum time → RowFine (tripMoved r since time) sum time
 unfolding tripMoved
 trip-fine r sum since time top fine = record {
   sums = fine .sums;

@@ -8,36 +8,43 @@ use native.Mathlib.Omega.{arith}
 use lib.ListN.{length, getD, set, length-set}
 use lib.Seq.{getD-set-same, getD-set-other}
 use borrow.Author.Tests.{leb-true, le-leb, ne-eqb}
-use Rattle.refusal.specs.Verdicts.{false-true}
 use Rattle.link.specs.declared.row.LinkRow.{LinkRow}
 use Rattle.link.specs.declared.row.Ping.{Ping}
 use Rattle.link.specs.declared.row.Ping.the-variants.{Idle, Since}
-use Rattle.link.specs.Sizes.{pingWithin}
-use Rattle.engine_state.specs.declared.state.Flushed.{Flushed}
-use Rattle.engine_state.specs.declared.state.Flushed.the-variants.{Unflushed, FlushedAt}
-use Rattle.engine_state.specs.declared.state.SentReliableStatus.{SentReliableStatus}
-use Rattle.engine_state.specs.declared.state.SentReliableStatus.the-variants.{Sent, Received, ResendQueued}
-use Rattle.engine_state.specs.declared.state.SentReliable.{SentReliable}
-use Rattle.engine_state.specs.declared.state.State.{State}
-use Rattle.engine_state.specs.Packets.{noPacket, packets, SentOn, weightAs, sumOf}
-use Rattle.engine_state.specs.Roster.{noRow}
-use Rattle.engine_state.specs.DecidedTables.{RowFine}
-use Rattle.engine_state.specs.Rows.{rowOf, row-of, withRow, withTime}
-use Rattle.engine_state.specs.Sound.{Sound, Shaped, rowAt, packetAt, SentHere, SentBy, FlushedBy}
+use Rattle.link.specs.Sizes.{pingWithin, MAX_TIME, ACKS}
+use Rattle.link.specs.Row.{noRow}
+use Rattle.engine.specs.declared.state.Flushed.{Flushed}
+use Rattle.engine.specs.declared.state.Flushed.the-variants.{Unflushed, FlushedAt}
+use Rattle.engine.specs.declared.state.SentReliableStatus.{SentReliableStatus}
+use Rattle.engine.specs.declared.state.SentReliableStatus.the-variants.{Sent, Received, ResendQueued}
+use Rattle.engine.specs.declared.state.SentReliable.{SentReliable}
+use Rattle.engine.specs.declared.state.State.{State}
+use Rattle.engine.specs.Packets.{noPacket, packets, SentOn, weightAs, sumOf}
+use Rattle.engine.specs.DecidedTables.{RowFine}
+use Rattle.engine.specs.Rows.{rowOf, row-of}
+use Rattle.engine.specs.Sound.{Sound, Shaped, rowAt, packetAt, SentHere, SentBy, FlushedBy}
+use Rattle.engine.specs.Fields.{withRow, withTime}
+use Rattle.engine.specs.Sizes.{SLOTS}
+use Rattle.refusal.specs.Tests.{false-true}
 
 -- every row is as Sound asks of it by itself, where `sums j` is the Sent data of slot j
 abbrev pub RowsFine : List LinkRow → (ℕ → ℕ) → ℕ → Type 0
-RowsFine links sums time = (j : ℕ) → j < 8 → RowFine (getD links j noRow) (sums j) time
+RowsFine links sums time = (j : ℕ) → j < SLOTS → RowFine (getD links j noRow) (sums j) time
+
+-- what the types say of the rows: there are 8, and each has 64 places for waiting acks
+pub record LinksShaped (links : List LinkRow) : Type 0 where
+  pub full : length links ≡ SLOTS
+  pub queues : (j : ℕ) → j < SLOTS → length (getD links j noRow .«tx_ack_queue») ≡ ACKS
 
 -- "no identity lives twice"
 abbrev pub Apart : List LinkRow → Type 0
 Apart links =
-    (i j : ℕ) → i < 8 → j < 8 → getD links i noRow .live ≡ true → getD links j noRow .live ≡ true
+    (i j : ℕ) → i < SLOTS → j < SLOTS → getD links i noRow .live ≡ true → getD links j noRow .live ≡ true
     → getD links i noRow .«link_id» ≡ getD links j noRow .«link_id» → i ≡ j
 
 -- a packet that is not Sent on a slot
 abbrev pub Elsewhere : ℕ → SentReliableStatus → Type 0
-Elsewhere slot (Sent sent flushed on link) = on ≡ slot → ⊥
+Elsewhere slot (Sent flight) = flight .slot ≡ slot → ⊥
 Elsewhere slot Received = Unit
 Elsewhere slot (ResendQueued link) = Unit
 
@@ -52,18 +59,18 @@ rows-of s sound j h = record {
   acks = sound .ack-count j h;
 }
 
-pub own-row : (s : State) → Sound s → (j : ℕ) → j < 8 → RowFine (rowAt s j) (rowAt s j .«txed_unacked_data») (s .time)
+pub own-row : (s : State) → Sound s → (j : ℕ) → j < SLOTS → RowFine (rowAt s j) (rowAt s j .«txed_unacked_data») (s .time)
 own-row s sound j h = let f = rows-of s sound j h in record { sums = refl; trip = f .trip; limit = f .limit; pinged = f .pinged; acks = f .acks }
 
 -- no packet is Sent on a slot without a link ..
 pub dead-elsewhere : (s : State) (slot : ℕ) → rowAt s slot .live ≡ false → (st : SentReliableStatus) → SentHere s st → Elsewhere slot st
-dead-elsewhere s slot dead (Sent sent flushed on link) h = λ e. false-true (sym dead ∙ ap (λ k. rowAt s k .live) (sym e) ∙ h .1)
+dead-elsewhere s slot dead (Sent flight) h = λ e. false-true (sym dead ∙ ap (λ k. rowAt s k .live) (sym e) ∙ h .1)
 dead-elsewhere s slot dead Received h = tt
 dead-elsewhere s slot dead (ResendQueued link) h = tt
 
 -- .. and where none is, no byte is unacked
 weight-elsewhere : (slot len : ℕ) (st : SentReliableStatus) → Elsewhere slot st → weightAs (SentOn slot) st len ≡ 0
-weight-elsewhere slot len (Sent sent flushed on link) h = simp (ne-eqb on slot h)
+weight-elsewhere slot len (Sent flight) h = simp (ne-eqb (flight .slot) slot h)
 weight-elsewhere slot len Received h = refl
 weight-elsewhere slot len (ResendQueued link) h = refl
 
@@ -93,7 +100,7 @@ flushed-later Unflushed time later h e = tt
 flushed-later (FlushedAt at) time later h e = omega arith
 
 pub sent-later : (st : SentReliableStatus) (time later : ℕ) → time ≤ later → SentBy time st → SentBy later st
-sent-later (Sent sent flushed slot link) time later h e = (omega (arith, e .0), flushed-later flushed time later h (e .1))
+sent-later (Sent flight) time later h e = (omega (arith, e .0), flushed-later (flight .flushed) time later h (e .1))
 sent-later Received time later h e = tt
 sent-later (ResendQueued link) time later h e = tt
 
@@ -108,8 +115,8 @@ module _ (links : List LinkRow) (slot : ℕ) (row : LinkRow) where
   row-there j ne = getD-set-other links slot j row noRow ne
 
   -- what holds of the new row and of every other, holds of each
-  pub each-row : (P : ℕ → LinkRow → Type 0) → slot < length links → P slot row → ((j : ℕ) → j < 8 → (j ≡ slot → ⊥) → P j (getD links j noRow))
-      → (j : ℕ) → j < 8 → P j (getD (set links slot row) j noRow)
+  pub each-row : (P : ℕ → LinkRow → Type 0) → slot < length links → P slot row → ((j : ℕ) → j < SLOTS → (j ≡ slot → ⊥) → P j (getD links j noRow))
+      → (j : ℕ) → j < SLOTS → P j (getD (set links slot row) j noRow)
   each-row P h new old j l =
       elim (ℕ-discrete j slot) [
         | yes e ↦ rw e (rw (row-here h) new)
@@ -118,14 +125,14 @@ module _ (links : List LinkRow) (slot : ℕ) (row : LinkRow) where
 
   -- the new row is as Sound asks, and the Sent data of every other slot is as it was
   pub rows-set : (sums after : ℕ → ℕ) (time later : ℕ) → slot < length links → time ≤ later → RowsFine links sums time → RowFine row (after slot) later
-      → ((j : ℕ) → j < 8 → (j ≡ slot → ⊥) → after j ≡ sums j) → RowsFine (set links slot row) after later
+      → ((j : ℕ) → j < SLOTS → (j ≡ slot → ⊥) → after j ≡ sums j) → RowsFine (set links slot row) after later
   rows-set sums after time later h later-on fine new same =
       each-row (λ j r. RowFine r (after j) later) h new
       (λ j l ne. rw (same j l ne) (row-later (getD links j noRow) (sums j) time later later-on (fine j l)))
 
   -- a row that is live has an identity that lives in no other slot
   pub apart-set : slot < length links → Apart links
-      → ((j : ℕ) → j < 8 → (j ≡ slot → ⊥) → row .live ≡ true → getD links j noRow .live ≡ true → getD links j noRow .«link_id» ≡ row .«link_id» → ⊥)
+      → ((j : ℕ) → j < SLOTS → (j ≡ slot → ⊥) → row .live ≡ true → getD links j noRow .live ≡ true → getD links j noRow .«link_id» ≡ row .«link_id» → ⊥)
       → Apart (set links slot row)
   apart-set h apart alone i j hi hj li lj same =
       elim (ℕ-discrete i slot) [
@@ -152,7 +159,7 @@ module _ (links : List LinkRow) (slot : ℕ) (row : LinkRow) where
       ]
 
   -- .. as it has where the row keeps who lives there ..
-  pub apart-kept : slot < length links → slot < 8 → row .live ≡ getD links slot noRow .live → row .«link_id» ≡ getD links slot noRow .«link_id»
+  pub apart-kept : slot < length links → slot < SLOTS → row .live ≡ getD links slot noRow .live → row .«link_id» ≡ getD links slot noRow .«link_id»
       → Apart links → Apart (set links slot row)
   apart-kept h small live id apart =
       apart-set h apart (λ j l ne lives lj same. ne (apart j slot l small lj (sym live ∙ lives) (same ∙ id)))
@@ -165,9 +172,9 @@ module _ (links : List LinkRow) (slot : ℕ) (row : LinkRow) where
 
 -- who lives where a packet was Sent, still lives there
 pub here-kept : (s t : State) (st : SentReliableStatus)
-    → ((j : ℕ) → j < 8 → rowAt s j .live ≡ true → (rowAt t j .live ≡ true) × (rowAt t j .«link_id» ≡ rowAt s j .«link_id»))
+    → ((j : ℕ) → j < SLOTS → rowAt s j .live ≡ true → (rowAt t j .live ≡ true) × (rowAt t j .«link_id» ≡ rowAt s j .«link_id»))
     → SentHere s st → SentHere t st
-here-kept s t (Sent sent flushed slot link) f h = (h .0, f slot (h .0) (h .1) .0, f slot (h .0) (h .1) .1 ∙ h .2)
+here-kept s t (Sent flight) f h = (h .0, f (flight .slot) (h .0) (h .1) .0, f (flight .slot) (h .0) (h .1) .1 ∙ h .2)
 here-kept s t Received f h = tt
 here-kept s t (ResendQueued link) f h = tt
 
@@ -190,7 +197,7 @@ module _ (s t : State) (slot : ℕ) (row : LinkRow) (at : t .links ≡ set (s .l
 
   -- the packet is not Sent there
   pub here-elsewhere : (st : SentReliableStatus) → Elsewhere slot st → SentHere s st → SentHere t st
-  here-elsewhere (Sent sent flushed on link) ne h = (h .0, rw at (rw (row-there (s .links) slot row on ne) (h .1)), rw at (rw (row-there (s .links) slot row on ne) (h .2)))
+  here-elsewhere (Sent flight) ne h = (h .0, rw at (rw (row-there (s .links) slot row (flight .slot) ne) (h .1)), rw at (rw (row-there (s .links) slot row (flight .slot) ne) (h .2)))
   here-elsewhere Received ne h = tt
   here-elsewhere (ResendQueued link) ne h = tt
 
@@ -200,24 +207,40 @@ module _ (s t : State) (slot : ℕ) (row : LinkRow) (at : t .links ≡ set (s .l
 abbrev pub withLinks : State → List LinkRow → ℕ → State
 withLinks s links time = record { links = links; tx = s .tx; rx = s .rx; time = time }
 
+-- one row is replaced by another with as many places for acks
+pub links-set : (s : State) (slot : ℕ) (row : LinkRow) → Shaped s → length (row .«tx_ack_queue») ≡ ACKS → LinksShaped (set (s .links) slot row)
+links-set s slot row shaped full = record {
+  full = length-set (s .links) slot row ∙ shaped .links-full;
+  queues = λ j l. elim (ℕ-discrete j slot) [
+    | yes e ↦ rw e (rw (row-here (s .links) slot row (omega (arith, shaped .links-full))) full)
+    | no ne ↦ rw (row-there (s .links) slot row j ne) (shaped .queues j l)
+  ];
+}
+
 module _ (s : State) (links : List LinkRow) (time : ℕ) where
-  pub links-shaped : length links ≡ 8 → Shaped s → Shaped (withLinks s links time)
-  links-shaped eight shaped = record {
-    links-eight = eight;
-    packets-64 = shaped .packets-64;
-    queue-64 = shaped .queue-64;
-    cells-64 = shaped .cells-64;
+  links-shaped : LinksShaped links → time < 2 ^ 64 → Shaped s → Shaped (withLinks s links time)
+  links-shaped rows timed shaped = record {
+    links-full = rows .full;
+    queues = rows .queues;
+    packets-full = shaped .packets-full;
+    queue-full = shaped .queue-full;
+    cells-full = shaped .cells-full;
     next-u32 = shaped .next-u32;
     expected-u32 = shaped .expected-u32;
     oldest-u32 = shaped .oldest-u32;
     count-usize = shaped .count-usize;
     queue-usize = shaped .queue-usize;
     unacked-u32 = shaped .unacked-u32;
+    unconsumed-u32 = shaped .unconsumed-u32;
     unconsumable-u32 = shaped .unconsumable-u32;
+    last-u32 = shaped .last-u32;
     size-u32 = shaped .size-u32;
+    untold-u32 = shaped .untold-u32;
+    buffer-u32 = shaped .buffer-u32;
+    time-u64 = timed;
   }
 
-  pub links-sound : Sound s → s .time ≤ time → time ≤ 2 ^ 56 → RowsFine links (λ j. sumOf (SentOn j) (packets (s .tx))) time → Apart links
+  pub links-sound : Sound s → s .time ≤ time → time ≤ MAX_TIME → RowsFine links (λ j. sumOf (SentOn j) (packets (s .tx))) time → Apart links
       → ((st : SentReliableStatus) → SentHere s st → SentHere (withLinks s links time) st) → Sound (withLinks s links time)
   links-sound sound later top fine apart here = record {
     consecutive = sound .consecutive;
@@ -250,13 +273,13 @@ module _ (s : State) (links : List LinkRow) (time : ℕ) where
 
 -- one row changes, and perhaps the time: the row is as Sound asks, and keeps who lives there and the link's unacked bytes
 module _ (s : State) (slot : ℕ) (row : LinkRow) (time : ℕ) (shaped : Shaped s) where
-  pub row-shaped : Shaped (withTime (withRow s slot row) time)
-  row-shaped = links-shaped s (set (s .links) slot row) time (length-set (s .links) slot row ∙ shaped .links-eight) shaped
+  pub row-shaped : length (row .«tx_ack_queue») ≡ ACKS → time < 2 ^ 64 → Shaped (withTime (withRow s slot row) time)
+  row-shaped full timed = links-shaped s (set (s .links) slot row) time (links-set s slot row shaped full) timed shaped
 
-  pub row-sound : Sound s → slot < 8 → s .time ≤ time → time ≤ 2 ^ 56 → row .live ≡ rowAt s slot .live → row .«link_id» ≡ rowAt s slot .«link_id»
+  pub row-sound : Sound s → slot < SLOTS → s .time ≤ time → time ≤ MAX_TIME → row .live ≡ rowAt s slot .live → row .«link_id» ≡ rowAt s slot .«link_id»
       → RowFine row (rowAt s slot .«txed_unacked_data») time → Sound (withTime (withRow s slot row) time)
   row-sound sound small later top live id new =
-      let inside : slot < length (s .links) = omega (arith, shaped .links-eight) in
+      let inside : slot < length (s .links) = omega (arith, shaped .links-full) in
       let sums : ℕ → ℕ = λ j. sumOf (SentOn j) (packets (s .tx)) in
       let fits : RowFine row (sums slot) time = rw (sound .link-unacked slot small) at new in
       links-sound s (set (s .links) slot row) time sound later top
@@ -265,7 +288,7 @@ module _ (s : State) (slot : ℕ) (row : LinkRow) (time : ℕ) (shaped : Shaped 
       (here-same s (withTime (withRow s slot row) time) slot row refl inside live id)
 
 -- .. a change of the row that the slot has
-pub row-kept : (s : State) (slot : ℕ) (f : LinkRow → LinkRow) (time : ℕ) → Shaped s → Sound s → slot < 8 → s .time ≤ time → time ≤ 2 ^ 56
+pub row-kept : (s : State) (slot : ℕ) (f : LinkRow → LinkRow) (time : ℕ) → Shaped s → Sound s → slot < SLOTS → s .time ≤ time → time ≤ MAX_TIME
     → ((r : LinkRow) → (f r .live ≡ r .live) × (f r .«link_id» ≡ r .«link_id»))
     → ((r : LinkRow) (sum : ℕ) → RowFine r sum time → RowFine (f r) sum time)
     → Sound (withTime (withRow s slot (f (rowOf s slot))) time)

@@ -2,7 +2,7 @@
 use mathlib.Core.Path.{_≡_, refl, sym, ap, _∙_}
 use mathlib.Core.Bool.{true, false, cond}
 use mathlib.Core.List.{List, [], _∷_, _++_}
-use Prim.Native.Nat.{ℕ, _+_, _%_, _^_, _≤_, _<_}
+use Prim.Native.Nat.{ℕ, _+_, _%_, _≤_, _<_}
 use native.Mathlib.Omega.{arith}
 use borrow.Author.Tests.{eq-eqb, ne-eqb}
 use lib.Dec.{eqb}
@@ -15,20 +15,22 @@ use Rattle.refusal.specs.declared.verdict.Verdict.the-variants.{Pass, No}
 use Rattle.refusal.specs.Verdicts.{gate-pass}
 use Rattle.link.specs.declared.row.LinkRow.{LinkRow}
 use Rattle.link.specs.Row.{withUnacked}
-use Rattle.engine_state.specs.declared.state.Flushed.the-variants.{Unflushed}
-use Rattle.engine_state.specs.declared.state.SentReliableStatus.the-variants.{Sent}
-use Rattle.engine_state.specs.declared.state.SentReliable.{SentReliable}
-use Rattle.engine_state.specs.declared.state.Receiving.{Receiving}
-use Rattle.engine_state.specs.declared.state.State.{State}
-use Rattle.engine_state.specs.Packets.{noPacket, firstOf, packets, isReceived, queuedOf, SentOn, Outstanding, Settled, sumOf}
-use Rattle.engine_state.specs.Tally.{lengthOk}
-use Rattle.engine_state.specs.Decide.{soundb}
-use Rattle.engine_state.specs.DecidedTables.{RowFine}
-use Rattle.engine_state.specs.DecidedPackets.{Good}
-use Rattle.engine_state.specs.Rows.{rowOf, row-of, slotOk, timeOk}
-use Rattle.engine_state.specs.Sound.{Sound, Shaped, rowAt}
-use Rattle.engine_send.specs.Send.{sendVerdict, sentTx, toldRx, sentState, sentBy, sendOf, Room, passed}
-use Rattle.laws.specs.RowsKept.{rows-of, own-row, rows-set, ping-later, row-here, apart-kept, here-same, sent-later}
+use Rattle.link.specs.Sizes.{MAX_TIME}
+use Rattle.engine.specs.declared.state.SentReliableStatus.the-variants.{Sent}
+use Rattle.engine.specs.declared.state.SentReliable.{SentReliable}
+use Rattle.engine.specs.declared.state.Receiving.{Receiving}
+use Rattle.engine.specs.declared.state.State.{State}
+use Rattle.engine.specs.Packets.{noPacket, firstOf, packets, isReceived, queuedOf, SentOn, Outstanding, Settled, sumOf}
+use Rattle.engine.specs.Tally.{lengthOk}
+use Rattle.engine.specs.Decide.{soundb}
+use Rattle.engine.specs.DecidedTables.{RowFine}
+use Rattle.engine.specs.DecidedPackets.{Good}
+use Rattle.engine.specs.Rows.{rowOf, row-of, slotOk, timeOk}
+use Rattle.engine.specs.Sound.{Sound, Shaped, rowAt}
+use Rattle.engine.specs.Sending.{sendVerdict, sentTx, toldRx, sentState, sentBy, sendOf, Room, send-passed}
+use Rattle.engine.specs.Fields.{newPacket, newFlight}
+use Rattle.engine.specs.Sizes.{SLOTS, PACKETS, SENT_BYTES}
+use Rattle.laws.specs.RowsKept.{rows-of, own-row, links-set, rows-set, ping-later, row-here, apart-kept, here-same, sent-later}
 use Rattle.laws.specs.Passed.{slot-ok, time-ok}
 use Rattle.laws.specs.Parts.{SendingSound, ReceivingSound, sending-of, receiving-of, whole}
 use Rattle.laws.specs.PacketsKept.{packets-count, sum-added, queued-added, each-added, first-same, packets-added}
@@ -36,8 +38,8 @@ use Rattle.laws.specs.PacketsKept.{packets-count, sum-added, queued-adde
 -- what an accepted message says of its state
 record Accepted (s : State) (slot time : ℕ) (msg : ReliableMsg) (len : ℕ) : Type 0 where
   later : s .time ≤ time
-  top : time ≤ 2 ^ 56
-  small : slot < 8
+  top : time ≤ MAX_TIME
+  small : slot < SLOTS
   live : rowAt s slot .live ≡ true
   fits : lengthOk msg len ≡ true
   room : Room s slot msg len
@@ -46,13 +48,13 @@ accepted : (s : State) (store slot time : ℕ) (msg : ReliableMsg) (len : ℕ) �
 unfolding sendVerdict
 accepted s store slot time msg len e =
     let e1 = gate-pass (soundb s) _ _ e in
-    let e2 = gate-pass (eqb store 65536) _ _ (e1 .1) in
+    let e2 = gate-pass (eqb store SENT_BYTES) _ _ (e1 .1) in
     let e3 = gate-pass (timeOk s time) _ _ (e2 .1) in
     let e4 = gate-pass (slotOk s slot) _ _ (e3 .1) in
     let e7 = gate-pass (lengthOk msg len) _ _ (e4 .1) in
     let timed = time-ok s slot time (e3 .0) in
     let here = slot-ok s slot (e4 .0) in
-    record { later = timed .0; top = timed .1; small = here .0; live = here .1; fits = e7 .0; room = passed s store slot time msg len e .room }
+    record { later = timed .0; top = timed .1; small = here .0; live = here .1; fits = e7 .0; room = send-passed s store slot time msg len e .room }
 
 -- the receiving half but for the taken-and-untold count
 told-receiving : (rx : Receiving) (msg : ReliableMsg) → ReceivingSound rx → ReceivingSound (toldRx rx msg)
@@ -74,7 +76,7 @@ abbrev sentRow : LinkRow → ℕ → LinkRow
 sentRow row len = withUnacked row (row .«txed_unacked_data» + len)
 
 abbrev sentPacket : State → LinkRow → ℕ → ℕ → ReliableMsg → ℕ → SentReliable
-sentPacket s row slot time msg len = record { seq = s .tx .«tx_seq»; msg = msg; len = len; status = Sent time Unflushed slot (row .«link_id») }
+sentPacket s row slot time msg len = newPacket (s .tx .«tx_seq») msg len (Sent (newFlight time slot (row .«link_id»)))
 
 abbrev sentWith : State → LinkRow → ℕ → ℕ → ReliableMsg → ℕ → State
 sentWith s row slot time msg len = record {
@@ -99,12 +101,12 @@ module _ (s : State) (slot time : ℕ) (msg : ReliableMsg) (len : ℕ) (shaped :
   row = sentRow (rowAt s slot) len
 
   inside : slot < length (s .links)
-  inside = omega (arith, shaped .links-eight, ok .small)
+  inside = omega (arith, shaped .links-full, ok .small)
 
   -- the packet is added at the end, and the first number stays
   now : packets (after .tx) ≡ packets (s .tx) ++ (new ∷ [])
   unfolding sentTx
-  now = packets-added (s .tx .«txed_packets») (s .tx .«tx_seq» .0) (s .tx .«txed_count») new (shaped .next-u32) (ok .room .places) (shaped .packets-64)
+  now = packets-added (s .tx .«txed_packets») (s .tx .«tx_seq» .0) (s .tx .«txed_count») new (shaped .next-u32) (ok .room .places) (shaped .packets-full)
 
   first-kept : firstOf (after .tx) ≡ firstOf (s .tx)
   unfolding sentTx
@@ -177,21 +179,29 @@ module _ (s : State) (slot time : ℕ) (msg : ReliableMsg) (len : ℕ) (shaped :
       (told-receiving (s .rx) msg (receiving-of s sound)) (ok .top)
 
   sent-shaped : Shaped after
-  unfolding sentTx toldRx
-  sent-shaped = record {
-    links-eight = length-set (s .links) slot row ∙ shaped .links-eight;
-    packets-64 = length-set (s .tx .«txed_packets») (s .tx .«tx_seq» .0 % 64) new ∙ shaped .packets-64;
-    queue-64 = shaped .queue-64;
-    cells-64 = shaped .cells-64;
-    next-u32 = plus-lt (s .tx .«tx_seq» .0) 1;
-    expected-u32 = shaped .expected-u32;
-    oldest-u32 = shaped .oldest-u32;
-    count-usize = omega (arith, ok .room .places);
-    queue-usize = shaped .queue-usize;
-    unacked-u32 = ok .room .unacked-fits;
-    unconsumable-u32 = shaped .unconsumable-u32;
-    size-u32 = shaped .size-u32;
-  }
+  unfolding sentTx toldRx withUnacked
+  sent-shaped =
+      let rows = links-set s slot row shaped (shaped .queues slot (ok .small)) in
+      record {
+        links-full = rows .full;
+        queues = rows .queues;
+        packets-full = length-set (s .tx .«txed_packets») (s .tx .«tx_seq» .0 % PACKETS) new ∙ shaped .packets-full;
+        queue-full = shaped .queue-full;
+        cells-full = shaped .cells-full;
+        next-u32 = plus-lt (s .tx .«tx_seq» .0) 1;
+        expected-u32 = shaped .expected-u32;
+        oldest-u32 = shaped .oldest-u32;
+        count-usize = omega (arith, ok .room .places);
+        queue-usize = shaped .queue-usize;
+        unacked-u32 = ok .room .unacked-fits;
+        unconsumed-u32 = ok .room .unconsumed-fits;
+        unconsumable-u32 = shaped .unconsumable-u32;
+        last-u32 = shaped .last-u32;
+        size-u32 = shaped .size-u32;
+        untold-u32 = omega (arith, shaped .untold-u32);
+        buffer-u32 = shaped .buffer-u32;
+        time-u64 = omega (arith, ok .top);
+      }
 
 -- a refused message leaves the state as it came
 sent-keeps : (P : State → Type 0) (v : Verdict) (s next : State) → P s → (v ≡ Pass → P next) → P (sentBy v s next .state)

@@ -5,9 +5,9 @@ use Prim.Native.Nat.{ℕ, _^_, _<_}
 use mathlib.Core.Path.{_≡_}
 use lib.ListN.{length}
 use Rattle.refusal.specs.declared.verdict.Verdict.the-variants.{Pass}
-use Rattle.engine_state.specs.declared.state.State.{State}
-use Rattle.engine_state.specs.Sound.{Sound, Shaped}
-use Rattle.engine_fresh.specs.Fresh.{freshVerdict, freshOf}
+use Rattle.engine.specs.declared.state.State.{State}
+use Rattle.engine.specs.Sound.{Sound, Shaped}
+use Rattle.engine.specs.Starting.{freshVerdict, freshOf}
 use Rattle.laws.specs.Calls.{Call, Add, Remove, Confirm, Unconfirm, Block, Mark, Ping, Pong, Flush, Send, Resend, Ack, Receive, Show, Take, Due, TakeAck, Holding, next, Typed}
 use Rattle.laws.specs.LinksKept.{confirm-sound, confirm-shaped, block-sound, block-shaped, mark-sound, mark-shaped, ping-sound, ping-shaped, pong-sound, pong-shaped, add-sound, add-shaped, fresh-sound, fresh-shaped}
 use Rattle.laws.specs.UnconfirmKept.{unconfirm-sound, unconfirm-shaped, remove-sound, remove-shaped}
@@ -50,7 +50,7 @@ kept (TakeAck slot) h t g = record { shaped = take-ack-shaped (h .state) slot (g
 
 -- a fresh state is sound, and so is every state that calls make of it, in any order and with any arguments
 pub fresh-good : (start buffer : ℕ) → start < 2 ^ 32 → freshVerdict buffer ≡ Pass → Good (freshOf start buffer .state)
-fresh-good start buffer h e = record { shaped = fresh-shaped start buffer h; sound = fresh-sound start buffer h e }
+fresh-good start buffer h e = record { shaped = fresh-shaped start buffer h e; sound = fresh-sound start buffer h e }
 
 unfoldable pub after : List Call → Holding → Holding
 after [] h = h

@@ -7,24 +7,26 @@ use native.Mathlib.Nat.{mod-add-mod}
 use native.Mathlib.Omega.{arith}
 use lib.ListN.{length, getD, drop}
 use lib.Seq.{getD-drop}
+use borrow.Table.Steps.{cases}
 use Rattle.seq.specs.declared.Seq.{Seq}
 use Rattle.seq.specs.Numbers.{seqOf, plus}
-use Rattle.seq.specs.Laws.{plus-plus, cell-counted}
-use Rattle.refusal.specs.Verdicts.{by-test, false-true}
-use Rattle.engine_state.specs.declared.state.SentReliableStatus.{SentReliableStatus}
-use Rattle.engine_state.specs.declared.state.SentReliableStatus.the-variants.{Sent, Received, ResendQueued}
-use Rattle.engine_state.specs.declared.state.SentReliable.{SentReliable}
-use Rattle.engine_state.specs.declared.state.State.{State}
-use Rattle.engine_state.specs.Ring.{window, window-drop}
-use Rattle.engine_state.specs.Packets.{noPacket, firstOf, packets, isReceived, isQueued, queuedOf, Pick, SentOn, Outstanding, Settled, weight, weightAs, sumOf}
-use Rattle.engine_state.specs.InTable.{cells-divide}
-use Rattle.engine_state.specs.Rows.{withTx}
-use Rattle.engine_state.specs.Sound.{Shaped, packetAt}
-use Rattle.engine_ack.specs.Sweep.{sweepFrom, sweepOf, sweptTx}
+use Rattle.seq.specs.Laws.{plus-lt, plus-plus, cell-counted}
+use Rattle.engine.specs.declared.state.SentReliableStatus.{SentReliableStatus}
+use Rattle.engine.specs.declared.state.SentReliableStatus.the-variants.{Sent, Received, ResendQueued}
+use Rattle.engine.specs.declared.state.SentReliable.{SentReliable}
+use Rattle.engine.specs.declared.state.State.{State}
+use Rattle.engine.specs.Ring.{window, window-drop}
+use Rattle.engine.specs.Packets.{noPacket, firstOf, packets, isReceived, isQueued, queuedOf, Pick, SentOn, Outstanding, Settled, weight, weightAs, sumOf}
+use Rattle.engine.specs.InTable.{cells-divide}
+use Rattle.engine.specs.Sound.{Shaped, packetAt}
+use Rattle.engine.specs.Acking.{sweepFrom, sweepOf, sweptTx}
+use Rattle.engine.specs.Sizes.{PACKETS}
+use Rattle.engine.specs.Fields.{withTx}
 use Rattle.laws.specs.RowsKept.{here-kept}
 use Rattle.laws.specs.PacketsKept.{packets-count}
 use Rattle.laws.specs.PacketReplaced.{number-past}
 use Rattle.laws.specs.NearlySound.{Nearly}
+use Rattle.refusal.specs.Tests.{false-true}
 
 -- ---- over a list of packets
 
@@ -39,7 +41,7 @@ record Swept (ps : List SentReliable) (held left rest : ℕ) : Type 0 where
   less : rest ≤ held
 
 received-is : (st : SentReliableStatus) → isReceived st ≡ true → st ≡ Received
-received-is (Sent sent flushed slot link) e = false-true e
+received-is (Sent flight) e = false-true e
 received-is Received e = refl
 received-is (ResendQueued link) e = false-true e
 
@@ -64,7 +66,7 @@ sweeps : (ps : List SentReliable) (last : Seq) (held : ℕ) → Swept ps held (s
 unfolding sweepFrom sumOf
 sweeps [] last held = record { gone = 0; long = refl; first = λ h. absurd (omega arith); queued = refl; sums = λ k z. refl; settled = λ e. e; less = omega arith }
 sweeps (p ∷ ps) last held =
-    by-test (isReceived (p .status))
+    cases (isReceived (p .status))
     (λ u.
     let r = sweeps ps (p .seq) (held - p .len) in
     rw (sweep-yes p ps last held u) (record {
@@ -87,14 +89,25 @@ sweeps (p ∷ ps) last held =
       less = omega arith;
     }))
 
+-- the number that the sweep ends at is a packet's, or the one before
+sweep-last : (P : Seq → Type 0) (ps : List SentReliable) (last : Seq) (held : ℕ) → P last → ((i : ℕ) → i < length ps → P (getD ps i noPacket .seq))
+    → P (sweepFrom ps last held .last)
+unfolding sweepFrom
+sweep-last P [] last held h each = h
+sweep-last P (p ∷ ps) last held h each =
+    cases (isReceived (p .status))
+    (λ u. rw (sweep-yes p ps last held u) (sweep-last P ps (p .seq) (held - p .len) (each 0 (omega arith)) (λ i l. each (suc i) (omega arith))))
+    (λ u. rw (sweep-no p ps last held u) (each 0 (omega arith)))
+
 -- ---- the swept state
 
 module _ (s : State) (near : Nearly s) where
+  whole : s .tx .«txed_count» % 2 ^ 32 ≡ s .tx .«txed_count»
+  whole = omega (arith, near .packet-count)
+
   swept : Swept (packets (s .tx)) (s .tx .«txed_unconsumable») (sweptTx (s .tx) .«txed_count») (sweptTx (s .tx) .«txed_unconsumable»)
   unfolding sweptTx sweepOf
-  swept =
-      let whole : s .tx .«txed_count» % 2 ^ 32 ≡ s .tx .«txed_count» = omega (arith, near .packet-count) in
-      rw whole (sweeps (packets (s .tx)) (s .tx .«txed_last_consumed») (s .tx .«txed_unconsumable»))
+  swept = rw whole (sweeps (packets (s .tx)) (s .tx .«txed_last_consumed») (s .tx .«txed_unconsumable»))
 
   -- how many are dropped, and how many are left
   abbrev off : ℕ
@@ -117,15 +130,15 @@ module _ (s : State) (near : Nearly s) where
   unfolding sweptTx
   packets-left =
       let cells = s .tx .«txed_packets» in
-      let at : firstOf (sweptTx (s .tx)) % 64 ≡ (firstOf (s .tx) % 64 + off) % 64 =
-      ap (λ n. n % 64) first-left
-      ∙ cell-counted 64 (firstOf (s .tx)) off cells-divide
-      ∙ sym (mod-add-mod (firstOf (s .tx)) 64 off)
+      let at : firstOf (sweptTx (s .tx)) % PACKETS ≡ (firstOf (s .tx) % PACKETS + off) % PACKETS =
+      ap (λ n. n % PACKETS) first-left
+      ∙ cell-counted PACKETS (firstOf (s .tx)) off cells-divide
+      ∙ sym (mod-add-mod (firstOf (s .tx)) PACKETS off)
       in
       let n : left ≡ s .tx .«txed_count» - off = omega (arith, counts) in
-      ap (λ k. window noPacket cells k left) at
-      ∙ ap (window noPacket cells ((firstOf (s .tx) % 64 + off) % 64)) n
-      ∙ sym (window-drop noPacket cells (firstOf (s .tx) % 64) (s .tx .«txed_count») off (omega arith) (omega (arith, counts)))
+      ap (λ k. window PACKETS noPacket cells k left) at
+      ∙ ap (window PACKETS noPacket cells ((firstOf (s .tx) % PACKETS + off) % PACKETS)) n
+      ∙ sym (window-drop PACKETS noPacket cells (firstOf (s .tx) % PACKETS) (s .tx .«txed_count») off (omega arith) (omega (arith, counts)))
 
   -- a place afterwards, and the place that it was
   at-left : (i : ℕ) → getD (packets (sweptTx (s .tx))) i noPacket ≡ packetAt s (off + i)
@@ -160,19 +173,31 @@ module _ (s : State) (near : Nearly s) where
   pub swept-first : 0 < left → isReceived (getD (packets (sweptTx (s .tx))) 0 noPacket .status) ≡ false
   swept-first h = ap (λ (ps : List SentReliable). isReceived (getD ps 0 noPacket .status)) packets-left ∙ swept .first h
 
+  last-small : s .tx .«txed_last_consumed» .0 < 2 ^ 32 → sweptTx (s .tx) .«txed_last_consumed» .0 < 2 ^ 32
+  unfolding sweptTx sweepOf
+  last-small h =
+      rw whole (sweep-last (λ n. n .0 < 2 ^ 32) (packets (s .tx)) (s .tx .«txed_last_consumed») (s .tx .«txed_unconsumable») h
+      (λ i l. rw (near .each i (omega (arith, packets-count (s .tx))) .number) (plus-lt (firstOf (s .tx)) i)))
+
   pub swept-shaped : Shaped s → Shaped (withTx s (sweptTx (s .tx)))
   unfolding sweptTx
   swept-shaped shaped = record {
-    links-eight = shaped .links-eight;
-    packets-64 = shaped .packets-64;
-    queue-64 = shaped .queue-64;
-    cells-64 = shaped .cells-64;
+    links-full = shaped .links-full;
+    queues = shaped .queues;
+    packets-full = shaped .packets-full;
+    queue-full = shaped .queue-full;
+    cells-full = shaped .cells-full;
     next-u32 = shaped .next-u32;
     expected-u32 = shaped .expected-u32;
     oldest-u32 = shaped .oldest-u32;
     count-usize = omega (arith, counts, shaped .count-usize);
     queue-usize = shaped .queue-usize;
     unacked-u32 = shaped .unacked-u32;
+    unconsumed-u32 = shaped .unconsumed-u32;
     unconsumable-u32 = omega (arith, swept .less, shaped .unconsumable-u32);
+    last-u32 = last-small (shaped .last-u32);
     size-u32 = shaped .size-u32;
+    untold-u32 = shaped .untold-u32;
+    buffer-u32 = shaped .buffer-u32;
+    time-u64 = shaped .time-u64;
   }

@@ -1,41 +1,39 @@
 -- Taking keeps a sound state sound: the oldest ready message leaves its cell and the sum, and the oldest number moves on to the
 -- next ready message or to the next expected number; or a link's oldest ack is taken. Assumes nothing.
-use mathlib.Core.Path.{_≡_, refl, ap, _∙_}
-use mathlib.Core.Bool.{true, false, not}
+use mathlib.Core.Path.{_≡_, refl, ap, _∙_, sym}
+use mathlib.Core.Bool.{false, not}
 use Prim.Native.Nat.{ℕ, zero, suc, _+_, _%_, _^_, _≤_, _<_, _∣_}
 use native.Mathlib.Decide.{ℕ-discrete}
 use native.Mathlib.Omega.{arith}
 use lib.Dec.{eqb}
 use borrow.Author.Tests.{ne-eqb, eqb-false, not-true, not-false}
 use lib.ListN.{getD}
+use borrow.Table.Steps.{cases}
 use Rattle.seq.specs.declared.Seq.{Seq}
 use Rattle.seq.specs.Numbers.{minus}
 use Rattle.msg.specs.declared.reliable.ReliableMsg.{ReliableMsg}
-use Rattle.msg.specs.declared.reliable.ReliableMsg.the-variants.{Data, Consumed, SendFinish, ReceiveClose, ReceiveFinish}
 use Rattle.refusal.specs.declared.verdict.Verdict.{Verdict}
+use Rattle.refusal.specs.Tests.{false-true, split}
 use Rattle.refusal.specs.declared.verdict.Verdict.the-variants as verdicts
-use Rattle.refusal.specs.Verdicts.{false-true, split, by-test}
 use Rattle.link.specs.declared.acks.OldestAck.{OldestAck}
 use Rattle.link.specs.declared.acks.OldestAck.the-variants as oldest
 use Rattle.link.specs.Acks.{oldestAck}
-use Rattle.engine_state.specs.declared.state.Held.the-variants as helds
-use Rattle.engine_state.specs.declared.state.Receiving.{Receiving}
-use Rattle.engine_state.specs.declared.state.State.{State}
-use Rattle.engine_state.specs.Cells.{noCell, isFull, isReadyKind, heldBytes}
-use Rattle.engine_state.specs.Gates.{slotVerdict}
-use Rattle.engine_state.specs.Rows.{rowOf}
-use Rattle.engine_state.specs.Tally.{lengthOk}
-use Rattle.engine_state.specs.Sound.{Sound, Shaped, ReadyKind, LengthWithin}
-use Rattle.engine_cells.specs.Cells.{cellOf}
-use Rattle.engine_handout.specs.declared.ready.HandOut.{HandOut}
-use Rattle.engine_handout.specs.declared.ready.HandOut.the-variants.{Message, No}
-use Rattle.engine_handout.specs.Ready.{readyOf, handOutBy, dataLength, handed, ready-cell}
-use Rattle.engine_handout.specs.Take.{takeVerdict, canSkip, passedBy, skipped, takenRx, takenState, takenBy, takeOf}
-use Rattle.engine_acks.specs.Acks.{ackAs, ackAnswer, takenAckState, takenAckBy, takeAckOf}
+use Rattle.engine.specs.declared.state.Held.the-variants as helds
+use Rattle.engine.specs.declared.state.Receiving.{Receiving}
+use Rattle.engine.specs.declared.state.State.{State}
+use Rattle.engine.specs.Received.{noCell, isFull, heldBytes}
+use Rattle.engine.specs.Gates.{slotVerdict}
+use Rattle.engine.specs.Rows.{rowOf}
+use Rattle.engine.specs.Sound.{Sound, Shaped, ReadyKind, LengthWithin}
+use Rattle.engine.specs.Cells.{cellOf}
+use Rattle.engine.specs.declared.handing_out.HandOut.{HandOut}
+use Rattle.engine.specs.declared.handing_out.HandOut.the-variants.{Message, No}
+use Rattle.engine.specs.HandingOut.{readyOf, handOutBy, dataLength, handed, ready-cell, takeVerdict, canSkip, passedBy, skipped, takenRx, takenState, takenBy, takeOf, ackAs, ackAnswer, takenAckState, takenAckBy, takeAckOf, taken-fits, data-all}
+use Rattle.engine.specs.Sizes.{CELLS}
 use Rattle.laws.specs.Passed.{slot-passed}
 use Rattle.laws.specs.AcksKept.{taken-sound, taken-shaped}
 use Rattle.laws.specs.CellsSeen.{seen}
-use Rattle.laws.specs.CellsKept.{SoundRx, SkippingRx, not-full, length-none, expected-here, here-expected, passed-by, taken}
+use Rattle.laws.specs.CellsKept.{SoundRx, SkippingRx, not-full, expected-here, here-expected, passed-by, taken}
 use Rattle.laws.specs.ReceivingKept.{cells-some, cells-half, cells-round, table-of, rx-sound, rx-shaped}
 
 -- ---- the oldest number and its message
@@ -58,14 +56,6 @@ expected-past e o he ho f =
 past-expected : (e o : ℕ) → e < 2 ^ 32 → 0 < minus e o → eqb o e ≡ false
 past-expected e o he l = ne-eqb o e (λ q. let z = here-expected e o he q in omega (arith, z))
 
--- a ready message's data bytes are all that its cell counts
-data-all : (msg : ReliableMsg) (len : ℕ) → isReadyKind msg ≡ true → lengthOk msg len ≡ true → len ≡ dataLength msg len
-data-all Data len r w = refl
-data-all (Consumed n) len r w = false-true r
-data-all SendFinish len r w = length-none SendFinish len refl w
-data-all ReceiveClose len r w = false-true r
-data-all ReceiveFinish len r w = false-true r
-
 module _ (N : ℕ) (some : 0 < N) (half : N ≤ 2 ^ 31) (round : N ∣ 2 ^ 32) where
   -- the numbers that are passed by
   skipped-sound : (left : ℕ) (rx : Receiving) → SkippingRx N left rx → SoundRx N (skipped N left rx)
@@ -77,7 +67,7 @@ module _ (N : ℕ) (some : 0 < N) (half : N ≤ 2 ^ 31) (round : N ∣ 2 ^ 32) w
       let cell = cellOf N rx o in
       let eu = was .kept .expected-u32 in
       let ou = was .kept .oldest-u32 in
-      by-test (canSkip N rx)
+      cases (canSkip N rx)
       (λ t.
       let both = split (not (eqb o e)) (not (isFull cell)) t in
       let past : 0 < minus e o = expected-past e o eu ou (not-true (eqb o e) (both .0)) in
@@ -94,7 +84,7 @@ module _ (N : ℕ) (some : 0 < N) (half : N ≤ 2 ^ 31) (round : N ∣ 2 ^ 32) w
   ready-ahead : (rx : Receiving) (msg : ReliableMsg) (len : ℕ) → readyOf N rx ≡ helds.Message msg len → eqb (rx .«rx_oldest» .0) (rx .«rx_seq» .0) ≡ false
   unfolding readyOf
   ready-ahead rx msg len q =
-      by-test (eqb (rx .«rx_oldest» .0) (rx .«rx_seq» .0)) (λ t. false-true (ap isFull (simp t at q))) (λ t. t)
+      cases (eqb (rx .«rx_oldest» .0) (rx .«rx_seq» .0)) (λ t. false-true (ap isFull (simp t at q))) (λ t. t)
 
   -- the message that is taken
   taken-table : (rx : Receiving) (msg : ReliableMsg) (len : ℕ) → SoundRx N rx → readyOf N rx ≡ helds.Message msg len → SoundRx N (takenRx N rx (dataLength msg len))
@@ -109,9 +99,19 @@ module _ (N : ℕ) (some : 0 < N) (half : N ≤ 2 ^ 31) (round : N ∣ 2 ^ 32) w
       let ready : ReadyKind (helds.Message msg len) = rw here at (kept .ready 0 past) in
       let fits : LengthWithin (helds.Message msg len) = rw here at (kept .cell-length 0 some) in
       skipped-sound N _
-      (taken N some half round e o cells (rx .«rxed_reliable_size») (rx .«recv_buffer») (dataLength msg len) was past (ap heldBytes here ∙ data-all msg len ready fits))
+      (taken N some half round e o cells (rx .«rxed_reliable_size») (rx .«recv_buffer») (dataLength msg len) was past (ap heldBytes here ∙ sym (data-all msg len ready fits)))
 
 -- ---- taking a message
+
+-- to pass a number by takes nothing
+skipped-untold : (N k : ℕ) (rx : Receiving) → skipped N k rx .«rxed_reliable_consumed» ≡ rx .«rxed_reliable_consumed»
+unfolding skipped passedBy
+skipped-untold N zero rx = refl
+skipped-untold N (suc k) rx = cases (canSkip N rx) (λ t. simp t (skipped-untold N k (passedBy rx))) (λ t. simp t)
+
+taken-untold : (rx : Receiving) (bytes : ℕ) → takenRx CELLS rx bytes .«rxed_reliable_consumed» ≡ rx .«rxed_reliable_consumed» + bytes
+unfolding takenRx
+taken-untold rx bytes = skipped-untold CELLS CELLS _
 
 -- a refusal leaves the state as it came
 taken-keeps : (P : State → Type 0) (s : State) (h : HandOut) → P s
@@ -120,23 +120,25 @@ taken-keeps P s (Message msg seq len) old new = new msg seq len refl
 taken-keeps P s (No e) old new = old
 
 module _ (s : State) (shaped : Shaped s) (sound : Sound s) where
-  table-then : (msg : ReliableMsg) (seq : Seq) (len : ℕ) → handOutBy (takeVerdict s) (s .rx) ≡ Message msg seq len → SoundRx 64 (takenRx 64 (s .rx) (dataLength msg len))
+  table-then : (msg : ReliableMsg) (seq : Seq) (len : ℕ) → handOutBy (takeVerdict s) (s .rx) ≡ Message msg seq len → SoundRx CELLS (takenRx CELLS (s .rx) (dataLength msg len))
   unfolding handOutBy
   table-then msg seq len h =
-      taken-table 64 cells-some cells-half cells-round (s .rx) msg len (table-of s shaped sound)
-      (handed (takeVerdict s) (readyOf 64 (s .rx)) (s .rx .«rx_oldest») msg seq len h .ready)
+      taken-table CELLS cells-some cells-half cells-round (s .rx) msg len (table-of s shaped sound)
+      (handed (takeVerdict s) (readyOf CELLS (s .rx)) (s .rx .«rx_oldest») msg seq len h .ready)
 
   pub take-sound : Sound (takeOf s .state)
   unfolding takeOf takenState
   take-sound =
       taken-keeps Sound s (handOutBy (takeVerdict s) (s .rx)) sound
-      (λ msg seq len h. rx-sound s (takenRx 64 (s .rx) (dataLength msg len)) (table-then msg seq len h) sound)
+      (λ msg seq len h. rx-sound s (takenRx CELLS (s .rx) (dataLength msg len)) (table-then msg seq len h) sound)
 
   pub take-shaped : Shaped (takeOf s .state)
   unfolding takeOf takenState
   take-shaped =
       taken-keeps Shaped s (handOutBy (takeVerdict s) (s .rx)) shaped
-      (λ msg seq len h. rx-shaped s (takenRx 64 (s .rx) (dataLength msg len)) (table-then msg seq len h) shaped)
+      (λ msg seq len h.
+      rx-shaped s (takenRx CELLS (s .rx) (dataLength msg len)) (table-then msg seq len h)
+      (rw (taken-untold (s .rx) (dataLength msg len)) (taken-fits s msg seq len h)) shaped)
 
 -- ---- taking an ack
 

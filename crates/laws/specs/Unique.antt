@@ -16,33 +16,18 @@ use Rattle.msg.specs.declared.reading.Reading.{Reading}
 use Rattle.msg.specs.declared.reliable.ReliableMsg.{ReliableMsg}
 use Rattle.msg.specs.declared.writing.Written.{Written}
 use Rattle.link.specs.declared.row.LinkRow.{LinkRow}
-use Rattle.engine_state.specs.declared.state.State.{State}
-use Rattle.engine_state.specs.declared.answer.Changed.{Changed}
-use Rattle.engine_send.specs.declared.send.SendResult.{SendResult}
-use Rattle.engine_receive.specs.Receive.{receiveOf, receiveStore}
-use Rattle.engine_handout.specs.declared.ready.HandOut.{HandOut}
-use Rattle.engine_slow.specs.declared.slow.SlowAnswer.{SlowAnswer}
-use Rattle.engine_slow.specs.Slow.{slowLinksOf}
+use Rattle.engine.specs.declared.state.State.{State}
+use Rattle.engine.specs.declared.answer.Changed.{Changed}
+use Rattle.engine.specs.declared.sending.SendResult.{SendResult}
+use Rattle.engine.specs.Receiving.{receiveOf, receiveStore}
+use Rattle.engine.specs.declared.handing_out.HandOut.{HandOut}
+use Rattle.engine.specs.declared.slowness.SlowAnswer.{SlowAnswer}
+use Rattle.engine.specs.Slowness.{slowLinksOf}
 use Rattle.refusal.proofs as refusal
 use Rattle.seq.proofs as seq
 use Rattle.msg.proofs as msg
 use Rattle.link.proofs as link
-use Rattle.engine_state.proofs as engine_state
-use Rattle.engine_fresh.proofs as engine_fresh
-use Rattle.engine_sound.proofs as engine_sound
-use Rattle.engine_links.proofs as engine_links
-use Rattle.engine_unconfirm.proofs as engine_unconfirm
-use Rattle.engine_add.proofs as engine_add
-use Rattle.engine_send.proofs as engine_send
-use Rattle.engine_flush.proofs as engine_flush
-use Rattle.engine_resend.proofs as engine_resend
-use Rattle.engine_ack.proofs as engine_ack
-use Rattle.engine_receive.proofs as engine_receive
-use Rattle.engine_cells.proofs as engine_cells
-use Rattle.engine_handout.proofs as engine_handout
-use Rattle.engine_acks.proofs as engine_acks
-use Rattle.engine_slow.proofs as engine_slow
-use Rattle.engine_slow_rows.proofs as engine_slow_rows
+use Rattle.engine.proofs as engine
 
 -- ---- calls that are given values alone
 
@@ -62,7 +47,8 @@ refusal-lib = sole
 pub refusal-verdict :
     Unique refusal.verdict.gate.Reads.Learnt
     × Unique refusal.verdict.both.Reads.Learnt
-refusal-verdict = (sole, sole)
+    × Unique refusal.verdict.either.Reads.Learnt
+refusal-verdict = (sole, sole, sole)
 
 -- crates/seq/src/lib.rt
 pub seq-lib :
@@ -78,7 +64,9 @@ seq-lib = (sole, sole, sole, sole, sole, sole)
 pub msg-reliable :
     Unique msg.reliable.ReliableMsg.to_link_msg.Reads.Learnt
     × Unique msg.reliable.ReliableMsg.from_link_msg.Reads.Learnt
-msg-reliable = (sole, sole)
+    × Unique msg.reliable.ReliableMsg.kind.Reads.Learnt
+    × Unique msg.reliable.ReliableMsg.count.Reads.Learnt
+msg-reliable = (sole, sole, sole, sole)
 
 -- crates/link/src/acks.rt
 pub link-acks :
@@ -125,129 +113,60 @@ pub link-slow :
     × Unique link.row.LinkRow.is_slow.Reads.Learnt
 link-slow = (sole, sole, sole)
 
--- crates/engine_state/src/answer.rt
-pub engine-state-answer : Unique engine_state.answer.change.Reads.Learnt
-engine-state-answer = sole
+-- crates/engine/src/starting.rt
+pub engine-starting : Unique engine.starting.fresh.Reads.Learnt
+engine-starting = sole
 
--- crates/engine_fresh/src/fresh.rt
-pub engine-fresh-fresh : Unique engine_fresh.fresh.fresh.Reads.Learnt
-engine-fresh-fresh = sole
+-- crates/engine/src/sound.rt
+pub engine-sound : Unique engine.sound.is_sound.Reads.Learnt
+engine-sound = sole
 
--- crates/engine_sound/src/gates.rt
-pub engine-sound-gates :
-    Unique engine_sound.gates.slot_verdict.Reads.Learnt
-    × Unique engine_sound.gates.timed_verdict.Reads.Learnt
-engine-sound-gates = (sole, sole)
+-- crates/engine/src/rows.rt
+pub engine-rows : Unique engine.rows.row_of.Reads.Learnt
+engine-rows = sole
 
--- crates/engine_state/src/packets.rt
-pub engine-state-packets :
-    Unique engine_state.packets.is_data.Reads.Learnt
-    × Unique engine_state.packets.length_ok.Reads.Learnt
-    × Unique engine_state.packets.is_received.Reads.Learnt
-    × Unique engine_state.packets.is_queued.Reads.Learnt
-    × Unique engine_state.packets.tallied.Reads.Learnt
-engine-state-packets = (sole, sole, sole, sole, sole)
+-- crates/engine/src/table.rt
+pub engine-table : Unique engine.table.packet_of.Reads.Learnt
+engine-table = sole
 
--- crates/engine_state/src/queue.rt
-pub engine-state-queue : Unique engine_state.queue.requeue.Reads.Learnt
-engine-state-queue = sole
+-- crates/engine/src/links.rt
+pub engine-links :
+    Unique engine.links.add.Reads.Learnt
+    × Unique engine.links.confirm.Reads.Learnt
+    × Unique engine.links.block.Reads.Learnt
+    × Unique engine.links.mark.Reads.Learnt
+    × Unique engine.links.ping.Reads.Learnt
+    × Unique engine.links.pong.Reads.Learnt
+engine-links = (sole, sole, sole, sole, sole, sole)
 
--- crates/engine_state/src/received.rt
-pub engine-state-received :
-    Unique engine_state.received.is_ready_kind.Reads.Learnt
-    × Unique engine_state.received.next_cell.Reads.Learnt
-    × Unique engine_state.received.cells_tallied.Reads.Learnt
-engine-state-received = (sole, sole, sole)
+-- crates/engine/src/unconfirming.rt
+pub engine-unconfirming :
+    Unique engine.unconfirming.unconfirm.Reads.Learnt
+    × Unique engine.unconfirming.remove.Reads.Learnt
+engine-unconfirming = (sole, sole)
 
--- crates/engine_state/src/roster.rt
-pub engine-state-roster :
-    Unique engine_state.roster.Roster.of.Reads.Learnt
-    × Unique engine_state.roster.Roster.lives_in.Reads.Learnt
-    × Unique engine_state.roster.Roster.lives_before.Reads.Learnt
-engine-state-roster = (sole, sole, sole)
+-- crates/engine/src/flushing.rt
+pub engine-flushing : Unique engine.flushing.flush.Reads.Learnt
+engine-flushing = sole
 
--- crates/engine_state/src/rows.rt
-pub engine-state-rows :
-    Unique engine_state.rows.row_of.Reads.Learnt
-    × Unique engine_state.rows.slot_ok.Reads.Learnt
-    × Unique engine_state.rows.time_ok.Reads.Learnt
-    × Unique engine_state.rows.with_row.Reads.Learnt
-    × Unique engine_state.rows.with_time.Reads.Learnt
-engine-state-rows = (sole, sole, sole, sole, sole)
+-- crates/engine/src/resending.rt
+pub engine-resending : Unique engine.resending.resend.Reads.Learnt
+engine-resending = sole
 
--- crates/engine_sound/src/sound.rt
-pub engine-sound-sound : Unique engine_sound.sound.is_sound.Reads.Learnt
-engine-sound-sound = sole
+-- crates/engine/src/acking.rt
+pub engine-acking : Unique engine.acking.ack.Reads.Learnt
+engine-acking = sole
 
--- crates/engine_state/src/table.rt
-pub engine-state-table :
-    Unique engine_state.table.in_table.Reads.Learnt
-    × Unique engine_state.table.packet_of.Reads.Learnt
-    × Unique engine_state.table.with_packet.Reads.Learnt
-engine-state-table = (sole, sole, sole)
+-- crates/engine/src/handing_out.rt
+pub engine-handing-out :
+    Unique engine.handing_out.take.Reads.Learnt
+    × Unique engine.handing_out.take_ack.Reads.Learnt
+    × Unique engine.handing_out.is_consume_ack_required.Reads.Learnt
+engine-handing-out = (sole, sole, sole)
 
--- crates/engine_state/src/totals.rt
-pub engine-state-totals : Unique engine_state.totals.less.Reads.Learnt
-engine-state-totals = sole
-
--- crates/engine_add/src/add.rt
-pub engine-add-add : Unique engine_add.add.add.Reads.Learnt
-engine-add-add = sole
-
--- crates/engine_links/src/changes.rt
-pub engine-links-changes :
-    Unique engine_links.changes.confirm.Reads.Learnt
-    × Unique engine_links.changes.block.Reads.Learnt
-    × Unique engine_links.changes.mark.Reads.Learnt
-    × Unique engine_links.changes.ping.Reads.Learnt
-    × Unique engine_links.changes.pong.Reads.Learnt
-engine-links-changes = (sole, sole, sole, sole, sole)
-
--- crates/engine_unconfirm/src/unconfirm.rt
-pub engine-unconfirm-unconfirm :
-    Unique engine_unconfirm.unconfirm.unconfirm.Reads.Learnt
-    × Unique engine_unconfirm.unconfirm.remove.Reads.Learnt
-engine-unconfirm-unconfirm = (sole, sole)
-
--- crates/engine_flush/src/flush.rt
-pub engine-flush-flush : Unique engine_flush.flush.flush.Reads.Learnt
-engine-flush-flush = sole
-
--- crates/engine_resend/src/resend.rt
-pub engine-resend-resend : Unique engine_resend.resend.resend.Reads.Learnt
-engine-resend-resend = sole
-
--- crates/engine_ack/src/ack.rt
-pub engine-ack-ack : Unique engine_ack.ack.ack.Reads.Learnt
-engine-ack-ack = sole
-
--- crates/engine_cells/src/cells.rt
-pub engine-cells-cells :
-    Unique engine_cells.cells.is_full.Reads.Learnt
-    × Unique engine_cells.cells.cell_of.Reads.Learnt
-    × Unique engine_cells.cells.with_cell.Reads.Learnt
-    × Unique engine_cells.cells.near_oldest.Reads.Learnt
-    × Unique engine_cells.cells.is_repeat.Reads.Learnt
-    × Unique engine_cells.cells.advance.Reads.Learnt
-engine-cells-cells = (sole, sole, sole, sole, sole, sole)
-
--- crates/engine_acks/src/acks.rt
-pub engine-acks-acks : Unique engine_acks.acks.take_ack.Reads.Learnt
-engine-acks-acks = sole
-
--- crates/engine_acks/src/due.rt
-pub engine-acks-due : Unique engine_acks.due.is_consume_ack_required.Reads.Learnt
-engine-acks-due = sole
-
--- crates/engine_handout/src/take.rt
-pub engine-handout-take : Unique engine_handout.take.take.Reads.Learnt
-engine-handout-take = sole
-
--- crates/engine_slow_rows/src/slow.rt
-pub engine-slow-rows-slow :
-    Unique engine_slow_rows.slow.slow_rows.Reads.Learnt
-    × Unique engine_slow_rows.slow.slow_links.Reads.Learnt
-engine-slow-rows-slow = (sole, sole)
+-- crates/engine/src/slowness.rt
+pub engine-slowness : Unique engine.slowness.slow_links.Reads.Learnt
+engine-slowness = sole
 
 -- ---- calls that are lent bytes: the same bytes, wherever they lie, give the same answer and are left the same
 
@@ -272,43 +191,43 @@ pub msg-write : (κs κs′ : Lfts 1) (m : LinkMsg) (buffer : List ℕ) (i i′ 
     → (r ≡ r′) × (now (e .1 .0) ≡ now (e′ .1 .0))
 msg-write κs κs′ m buffer i i′ r r′ e e′ p q = (p .0 ∙ sym (q .0), p .1 ∙ sym (q .1))
 
--- crates/engine_send/src/send.rt
+-- crates/engine/src/sending.rt
 pub send : (κs κs′ : Lfts 2) (s : State) (store : List ℕ) (slot time : ℕ) (msg : ReliableMsg) (payload : List ℕ) (i i′ j j′ : Place) (r r′ : SendResult) (e : _) (e′ : _)
-    → engine_send.send.send.Reads.Learnt κs (s, (lent i store, (slot, (time, (msg, (lent j payload, tt)))))) r e
-    → engine_send.send.send.Reads.Learnt κs′ (s, (lent i′ store, (slot, (time, (msg, (lent j′ payload, tt)))))) r′ e′
+    → engine.sending.send.Reads.Learnt κs (s, (lent i store, (slot, (time, (msg, (lent j payload, tt)))))) r e
+    → engine.sending.send.Reads.Learnt κs′ (s, (lent i′ store, (slot, (time, (msg, (lent j′ payload, tt)))))) r′ e′
     → (r ≡ r′) × (now (e .1 .0) ≡ now (e′ .1 .0))
 send κs κs′ s store slot time msg payload i i′ j j′ r r′ e e′ p q = (p .0 ∙ sym (q .0), p .1 ∙ sym (q .1))
 
--- crates/engine_receive/src/receive.rt
+-- crates/engine/src/receiving.rt
 pub receive : (κs κs′ : Lfts 2) (s : State) (store : List ℕ) (slot : ℕ) (msg : ReliableMsg) (seq : Seq) (payload : List ℕ) (i i′ j j′ : Place) (r r′ : Changed) (e : _) (e′ : _)
-    → engine_receive.receive.receive.Reads.Learnt κs (s, (lent i store, (slot, (msg, (seq, (lent j payload, tt)))))) r e
-    → engine_receive.receive.receive.Reads.Learnt κs′ (s, (lent i′ store, (slot, (msg, (seq, (lent j′ payload, tt)))))) r′ e′
+    → engine.receiving.receive.Reads.Learnt κs (s, (lent i store, (slot, (msg, (seq, (lent j payload, tt)))))) r e
+    → engine.receiving.receive.Reads.Learnt κs′ (s, (lent i′ store, (slot, (msg, (seq, (lent j′ payload, tt)))))) r′ e′
     → (r ≡ r′) × (now (e .1 .0) ≡ now (e′ .1 .0))
 receive κs κs′ s store slot msg seq payload i i′ j j′ r r′ e e′ p q = (p .0 ∙ sym (q .0), p .1 ∙ sym (q .1))
 
 -- to see what is learnt, on this call: the two `ensures` of the source, word by word
 receive-learnt : (κs : Lfts 2) (s : State) (store : List ℕ) (slot : ℕ) (msg : ReliableMsg) (seq : Seq) (payload : List ℕ) (i j : Place) (r : Changed) (e : _)
-    → engine_receive.receive.receive.Reads.Learnt κs (s, (lent i store, (slot, (msg, (seq, (lent j payload, tt)))))) r e
+    → engine.receiving.receive.Reads.Learnt κs (s, (lent i store, (slot, (msg, (seq, (lent j payload, tt)))))) r e
     ≡ ((r ≡ receiveOf s (length store) slot msg (seq .0) (length payload)) × (now (e .1 .0) ≡ receiveStore s store slot msg (seq .0) payload))
 receive-learnt κs s store slot msg seq payload i j r e = refl
 
--- crates/engine_handout/src/show.rt
+-- crates/engine/src/handing_out.rt
 pub showing : (κs κs′ : Lfts 1) (s : State) (store : List ℕ) (i i′ : Place) (r r′ : HandOut) (e : _) (e′ : _)
-    → engine_handout.show.showing.Reads.Learnt κs (s, (lent i store, tt)) r e
-    → engine_handout.show.showing.Reads.Learnt κs′ (s, (lent i′ store, tt)) r′ e′
+    → engine.handing_out.showing.Reads.Learnt κs (s, (lent i store, tt)) r e
+    → engine.handing_out.showing.Reads.Learnt κs′ (s, (lent i′ store, tt)) r′ e′
     → r ≡ r′
 showing κs κs′ s store i i′ r r′ e e′ p q = p ∙ sym q
 
 pub show : (κs κs′ : Lfts 1) (s : State) (store : List ℕ) (i i′ : Place) (r r′ : RefT (List ℕ)) (e : _) (e′ : _)
-    → engine_handout.show.show.Reads.Learnt κs (s, (lent i store, tt)) r e
-    → engine_handout.show.show.Reads.Learnt κs′ (s, (lent i′ store, tt)) r′ e′
+    → engine.handing_out.show.Reads.Learnt κs (s, (lent i store, tt)) r e
+    → engine.handing_out.show.Reads.Learnt κs′ (s, (lent i′ store, tt)) r′ e′
     → now r ≡ now r′
 show κs κs′ s store i i′ r r′ e e′ p q = p ∙ sym q
 
--- crates/engine_slow/src/slow.rt. Of a call that is lent a run of records the checker makes no `Learnt`. Its promise is its clause
+-- crates/engine/src/slowness.rt. Of a call that is lent a run of records the checker makes no `Learnt`. Its promise is its clause
 -- of the source, `ensures-1`, and `slow-says` holds what is quoted of it in `slow` to that clause
 pub slow-says : {M : Type 1} (𝓤 : _) (H : _) (κs : _) (A : _) (mem : _) (run : _) (given rows : _) (r : SlowAnswer)
-    → engine_slow.slow.slow.ensures-1 {M = M} 𝓤 H κs A mem run given rows r ≡ fact 𝓤 (r ≡ slowLinksOf (now (rows .entry)))
+    → engine.slowness.slow.ensures-1 {M = M} 𝓤 H κs A mem run given rows r ≡ fact 𝓤 (r ≡ slowLinksOf (now (rows .entry)))
 slow-says 𝓤 H κs A mem run given rows r = refl
 
 pub slow : (rows : List LinkRow) (r r′ : SlowAnswer) → r ≡ slowLinksOf rows → r′ ≡ slowLinksOf rows → r ≡ r′

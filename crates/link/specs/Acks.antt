@@ -11,21 +11,22 @@ use Rattle.link.specs.declared.row.LinkRow.{LinkRow}
 use Rattle.link.specs.declared.acks.OldestAck.{OldestAck}
 use Rattle.link.specs.declared.acks.OldestAck.the-variants.{Nothing, Number}
 use Rattle.link.specs.Fields.{withAcks}
+use Rattle.link.specs.Sizes.{ACKS}
 
 -- the waiting acks, oldest first
 unfoldable pub waiting : LinkRow → List Seq
 waiting r = take (r .«ack_count») (r .«tx_ack_queue»)
 
--- one ack more behind the others; a link has at most 64 waiting
+-- one ack more behind the others; a link has at most ACKS waiting
 unfoldable pub ackQueued : LinkRow → Seq → LinkRow
-ackQueued r seq = cond (ltb (r .«ack_count») 64) (withAcks r (set (r .«tx_ack_queue») (r .«ack_count») seq) (r .«ack_count» + 1)) r
+ackQueued r seq = cond (ltb (r .«ack_count») ACKS) (withAcks r (set (r .«tx_ack_queue») (r .«ack_count») seq) (r .«ack_count» + 1)) r
 
 unfoldable pub oldestAck : LinkRow → OldestAck
 oldestAck r = cond (eqb (r .«ack_count») 0) Nothing (Number (getD (r .«tx_ack_queue») 0 (seqOf 0)))
 
--- 64 places moved one to the front; what stands in the last is not looked at any more
+-- the places moved one to the front; what stands in the last is not looked at any more
 unfoldable pub shifted : List Seq → List Seq
-shifted acks = drop 1 acks ++ drop 63 acks
+shifted acks = drop 1 acks ++ drop (ACKS - 1) acks
 
 -- "Taking an ack removes the link's oldest."
 unfoldable pub ackTaken : LinkRow → LinkRow

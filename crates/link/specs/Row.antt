@@ -3,13 +3,15 @@
 use mathlib.Core.Bool.{Bool, true, false}
 use Prim.Native.Nat.{ℕ}
 use lib.ListN.{replicate}
+use mathlib.Core.List.{[]}
 use Rattle.seq.specs.Numbers.{seqOf}
 use Rattle.link.specs.declared.row.LinkRow.{LinkRow}
 use Rattle.link.specs.declared.row.MaxPing.{MaxPing}
 use Rattle.link.specs.declared.row.MaxPing.the-variants.{Unlimited}
 use Rattle.link.specs.declared.row.Limit.the-variants.{Clear}
 use Rattle.link.specs.declared.row.Ping.the-variants.{Idle}
-use Rattle.link.specs.Fields.{withFlags, withSending}
+use Rattle.link.specs.Fields.{withFlags, withSending, withAcks}
+use Rattle.link.specs.Sizes.{ACKS}
 
 -- "Its round trip, `max_ping` or none, blocked and unconfirmed flags are given; all else starts empty, the zero-estimate
 -- flag false (P)."
@@ -25,13 +27,13 @@ freshRow id roundtrip max blocked unconfirmed = record {
   «limit_increased» = Clear;
   «current_ping_sent» = Idle;
   «txed_unacked_data» = 0;
-  «tx_ack_queue» = replicate 64 (seqOf 0);
+  «tx_ack_queue» = replicate ACKS (seqOf 0);
   «ack_count» = 0;
 }
 
--- an empty slot: "all else empty, zero or false"
-unfoldable pub emptyRow : LinkRow
-emptyRow = record {
+-- what an index past the rows would read
+abbrev pub noRow : LinkRow
+noRow = record {
   live = false;
   «link_id» = 0;
   roundtrip = 0;
@@ -42,9 +44,13 @@ emptyRow = record {
   «limit_increased» = Clear;
   «current_ping_sent» = Idle;
   «txed_unacked_data» = 0;
-  «tx_ack_queue» = replicate 64 (seqOf 0);
+  «tx_ack_queue» = [];
   «ack_count» = 0;
 }
+
+-- an empty slot: "all else empty, zero or false"
+unfoldable pub emptyRow : LinkRow
+emptyRow = withAcks noRow (replicate ACKS (seqOf 0)) 0
 
 -- "Confirming, blocking .. are plain changes of a row (P)."
 unfoldable pub confirmed : LinkRow → LinkRow

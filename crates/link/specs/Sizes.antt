@@ -9,9 +9,16 @@ use Rattle.link.specs.declared.row.MaxPing.the-variants.{Unlimited, UpTo
 use Rattle.link.specs.declared.row.Ping.{Ping}
 use Rattle.link.specs.declared.row.Ping.the-variants.{Idle, Since}
 
+-- "Times are nanoseconds, at most 2^56"; "64 waiting acks a link"
+abbrev pub MAX_TIME : ℕ
+MAX_TIME = 2 ^ 56
+
+abbrev pub ACKS : ℕ
+ACKS = 64
+
 abbrev pub maxPingWithin : MaxPing → Bool
 maxPingWithin Unlimited = true
-maxPingWithin (UpTo limit) = leb limit (2 ^ 56)
+maxPingWithin (UpTo limit) = leb limit MAX_TIME
 
 abbrev pub pingWithin : Ping → ℕ → Bool
 pingWithin Idle time = true
@@ -19,5 +26,5 @@ pingWithin (Since since) time = leb since time
 
 unfoldable pub rowWithin : LinkRow → ℕ → Bool
 rowWithin r time =
-    leb (r .roundtrip) (2 ^ 56)
-    && (maxPingWithin (r .«max_ping») && (pingWithin (r .«current_ping_sent») time && leb (r .«ack_count») 64))
+    leb (r .roundtrip) MAX_TIME
+    && (maxPingWithin (r .«max_ping») && (pingWithin (r .«current_ping_sent») time && leb (r .«ack_count») ACKS))

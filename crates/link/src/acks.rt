@@ -1,8 +1,12 @@
 // The waiting acks of a link, oldest first.
 use crate::row::LinkRow;
+use crate::sizes::ACKS;
 use seq::Seq;
 ghost use mathlib.Core.Path.{_≡_};
 ghost use Rattle.link.specs.Acks.{shifted, ackQueued, oldestAck, ackTaken};
+
+// The last place of the queue.
+const LAST: usize = ACKS - 1;
 
 // The oldest waiting ack.
 pub enum OldestAck {
@@ -11,12 +15,12 @@ pub enum OldestAck {
 }
 
 // The numbers moved one place to the front: the first is gone, and the last stands twice.
-fn shift(acks: [Seq; 64]) -> [Seq; 64]
+fn shift(acks: [Seq; ACKS]) -> [Seq; ACKS]
     ensures { λ r. ⌜ r ≡ shifted acks ⌝ }
 {
     let mut out = acks;
     let mut i: usize = 0;
-    while i < 63 {
+    while i < LAST {
         let next = acks[i + 1];
         out[i] = next;
         i += 1;
@@ -25,12 +29,12 @@ fn shift(acks: [Seq; 64]) -> [Seq; 64]
 }
 
 impl LinkRow {
-    // Adds an ack; a queue of 64 stays as it is.
+    // Adds an ack; a full queue stays as it is.
     pub fn queue_ack(self, seq: Seq) -> LinkRow
         ensures { λ r. ⌜ r ≡ ackQueued self seq ⌝ }
     {
         let n = self.ack_count;
-        if 64 <= n {
+        if ACKS <= n {
             return self;
         }
         let mut out = self;

@@ -1,4 +1,5 @@
 // The row itself, and the plain changes of it.
+use crate::sizes::ACKS;
 use seq::Seq;
 ghost use mathlib.Core.Path.{_≡_};
 ghost use Rattle.link.specs.Row.{emptyRow, freshRow, confirmed, unconfirmedRow, blockedRow, withUnacked};
@@ -40,7 +41,7 @@ pub struct LinkRow {
     // the data bytes Sent over this link and not acknowledged
     pub txed_unacked_data: u32,
     // the waiting acks, oldest first: the first ack_count of these
-    pub tx_ack_queue: [Seq; 64],
+    pub tx_ack_queue: [Seq; ACKS],
     pub ack_count: usize,
 }
 
@@ -60,7 +61,7 @@ impl LinkRow {
             limit_increased: Limit::Clear,
             current_ping_sent: Ping::Idle,
             txed_unacked_data: 0,
-            tx_ack_queue: [Seq::ZERO; 64],
+            tx_ack_queue: [Seq::ZERO; ACKS],
             ack_count: 0,
         }
     }
@@ -86,7 +87,7 @@ impl LinkRow {
             limit_increased: Limit::Clear,
             current_ping_sent: Ping::Idle,
             txed_unacked_data: 0,
-            tx_ack_queue: [Seq::ZERO; 64],
+            tx_ack_queue: [Seq::ZERO; ACKS],
             ack_count: 0,
         }
     }

@@ -6,6 +6,9 @@ use refusal::both;
 ghost use mathlib.Core.Path.{_≡_};
 ghost use Rattle.link.specs.Sizes.{maxPingWithin, pingWithin, rowWithin};
 
+// Acks that may wait on a link.
+pub const ACKS: usize = 64;
+
 // The latest time, 2^56 nanoseconds: some 833 days.
 pub const MAX_TIME: u64 = 0x100_0000_0000_0000;
 
@@ -36,7 +39,7 @@ impl LinkRow {
         let ping = self.current_ping_sent;
         let limit = max_ping_within(max_ping);
         let pinged = ping_within(ping, time);
-        let acks = self.ack_count <= 64;
+        let acks = self.ack_count <= ACKS;
         both(self.roundtrip <= MAX_TIME, both(limit, both(pinged, acks)))
     }
 }

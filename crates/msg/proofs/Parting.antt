@@ -79,7 +79,7 @@ module _ (msg : LinkMsg) (parts : Parts) (p : Parted (writable msg) (headOf msg)
 
   module _ (buffer : List ℕ) where
     -- a message that may not be written
-    pub write-refused : parts .ok ≡ false → (No (refuse 20) ≡ writeOf msg buffer) × (buffer ≡ bufferOf msg buffer)
+    pub write-refused : parts .ok ≡ false → (No (refuse 20 tt) ≡ writeOf msg buffer) × (buffer ≡ bufferOf msg buffer)
     unfolding writeOf bufferOf
     write-refused w = let v : writable msg ≡ false = sym (p .may) ∙ w in (simp v, simp v)
 
@@ -94,7 +94,7 @@ module _ (msg : LinkMsg) (parts : Parts) (p : Parted (writable msg) (headOf msg)
       end-small = omega (arith, p .test, size-small msg v)
 
       -- a buffer too short for it
-      pub write-short : length buffer < parts .len + parts .size → (No (refuse 7) ≡ writeOf msg buffer) × (buffer ≡ bufferOf msg buffer)
+      pub write-short : length buffer < parts .len + parts .size → (No (refuse 7 tt) ≡ writeOf msg buffer) × (buffer ≡ bufferOf msg buffer)
       unfolding writeOf bufferOf
       write-short h =
           let e = lt-leb (length (bytesOf msg)) (length buffer) (omega (arith, whole)) in

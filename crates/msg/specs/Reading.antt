@@ -21,7 +21,7 @@ readingNumber (No e) = numberOf e
 
 -- "message bytes not as below" give 20
 abbrev pub bad : Reading
-bad = No (refuse 20)
+bad = No (refuse 20 tt)
 
 -- "Numbers are big-endian."
 unfoldable pub numberAt : List ℕ → ℕ → ℕ

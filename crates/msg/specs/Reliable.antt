@@ -1,5 +1,8 @@
 -- Reliable messages: those with a number, which are acknowledged and resent. Assumes nothing.
 use mathlib.Core.Path.{_≡_, refl}
+use mathlib.Core.Bool.{Bool}
+use Prim.Native.Nat.{ℕ}
+use lib.Dec.{eqb}
 use Rattle.seq.specs.declared.Seq.{Seq}
 use Rattle.msg.specs.declared.link_msg.LinkMsg.{LinkMsg}
 use Rattle.msg.specs.declared.link_msg.LinkMsg.the-variants as links
@@ -7,6 +10,40 @@ use Rattle.msg.specs.declared.reliable.ReliableMsg.{ReliableMsg}
 use Rattle.msg.specs.declared.reliable.ReliableMsg.the-variants.{Data, Consumed, SendFinish, ReceiveClose, ReceiveFinish}
 use Rattle.msg.specs.declared.reliable.FromLink.{FromLink}
 use Rattle.msg.specs.declared.reliable.FromLink.the-variants.{Reliable, Other}
+
+-- the kind bytes
+abbrev pub MSG_DATA : ℕ
+MSG_DATA = 7
+
+abbrev pub MSG_CONSUMED : ℕ
+MSG_CONSUMED = 9
+
+abbrev pub MSG_SEND_FINISH : ℕ
+MSG_SEND_FINISH = 10
+
+abbrev pub MSG_RECEIVE_CLOSE : ℕ
+MSG_RECEIVE_CLOSE = 11
+
+abbrev pub MSG_RECEIVE_FINISH : ℕ
+MSG_RECEIVE_FINISH = 12
+
+abbrev pub kindOf : ReliableMsg → ℕ
+kindOf Data = MSG_DATA
+kindOf (Consumed n) = MSG_CONSUMED
+kindOf SendFinish = MSG_SEND_FINISH
+kindOf ReceiveClose = MSG_RECEIVE_CLOSE
+kindOf ReceiveFinish = MSG_RECEIVE_FINISH
+
+abbrev pub isKind : ℕ → ReliableMsg → Bool
+isKind kind msg = eqb (kindOf msg) kind
+
+-- what a Consumed tells; 0 for any other
+abbrev pub countOf : ReliableMsg → ℕ
+countOf Data = 0
+countOf (Consumed n) = n
+countOf SendFinish = 0
+countOf ReceiveClose = 0
+countOf ReceiveFinish = 0
 
 -- the link message that carries a reliable message under a number
 abbrev pub toLink : ReliableMsg → Seq → LinkMsg

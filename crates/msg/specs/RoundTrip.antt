@@ -19,9 +19,7 @@ use Rattle.msg.specs.declared.reading.Reading.the-variants.{Message}
 use Rattle.msg.specs.Messages.{be32, pattern, bytesOf, handshake}
 use Rattle.msg.specs.Reading.{bad, numberAt, exactly, readAlone, readRefused, readNumbered, readConsumed, readTestData, readSetBlock, readKind, readOf}
 use Rattle.msg.specs.Writing.{writable, bufferOf}
-
-false-true : {X : Type 0} → false ≡ true → X
-false-true {X} e = let z : _≡_ {A = ℕ} 0 1 = cc in absurd (omega arith)
+use Rattle.refusal.specs.Tests.{false-true}
 
 -- the numbers of a message are u32, as its type says
 abbrev pub Ranged : LinkMsg → Type 0

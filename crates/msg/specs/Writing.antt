@@ -44,8 +44,8 @@ writeOf msg buffer =
     cond (writable msg)
     (cond (leb (length (bytesOf msg)) (length buffer))
     (Bytes (length (bytesOf msg)))
-    (No (refuse 7)))
-    (No (refuse 20))
+    (No (refuse 7 tt)))
+    (No (refuse 20 tt))
 
 -- "Writing touches only the message's own bytes": they stand at the buffer's start, and a refusal leaves all as it came
 unfoldable pub bufferOf : LinkMsg → List ℕ → List ℕ

@@ -2,7 +2,7 @@
 use crate::link_msg::LinkMsg;
 use seq::Seq;
 ghost use mathlib.Core.Path.{_≡_};
-ghost use Rattle.msg.specs.Reliable.{toLink, fromLink};
+ghost use Rattle.msg.specs.Reliable.{kindOf, countOf, toLink, fromLink};
 
 // A message that is resent until it is acknowledged. A Data's bytes are in a cell of a lent store.
 pub enum ReliableMsg {
@@ -29,6 +29,32 @@ impl ReliableMsg {
             ReliableMsg::SendFinish => LinkMsg::SendFinish { seq },
             ReliableMsg::ReceiveClose => LinkMsg::ReceiveClose { seq },
             ReliableMsg::ReceiveFinish => LinkMsg::ReceiveFinish { seq },
+        }
+    }
+
+    // Its kind byte.
+    pub fn kind(self) -> u8
+        ensures { λ r. ⌜ r ≡ kindOf self ⌝ }
+    {
+        match self {
+            ReliableMsg::Data => LinkMsg::MSG_DATA,
+            ReliableMsg::Consumed(_) => LinkMsg::MSG_CONSUMED,
+            ReliableMsg::SendFinish => LinkMsg::MSG_SEND_FINISH,
+            ReliableMsg::ReceiveClose => LinkMsg::MSG_RECEIVE_CLOSE,
+            ReliableMsg::ReceiveFinish => LinkMsg::MSG_RECEIVE_FINISH,
+        }
+    }
+
+    // What a Consumed tells; 0 for any other.
+    pub fn count(self) -> u32
+        ensures { λ r. ⌜ r ≡ countOf self ⌝ }
+    {
+        match self {
+            ReliableMsg::Data => 0,
+            ReliableMsg::Consumed(n) => n,
+            ReliableMsg::SendFinish => 0,
+            ReliableMsg::ReceiveClose => 0,
+            ReliableMsg::ReceiveFinish => 0,
         }
     }
 

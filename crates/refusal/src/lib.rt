@@ -3,6 +3,7 @@ pub mod verdict;
 
 pub use verdict::Verdict;
 pub use verdict::both;
+pub use verdict::either;
 pub use verdict::gate;
 ghost use mathlib.Core.Path.{_≡_};
 ghost use Rattle.refusal.specs.Refusals.{numberOf};

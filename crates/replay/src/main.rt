@@ -1,10 +1,11 @@
 // Replays a session: frames from standard input in lower-case hexadecimal, one a line, a Data's payload on the line after it. It
 // writes one line a frame: the answer in two digits, a space, and the next expected number in eight.
+use engine::RECEIVED_BYTES;
 use libc::STDERR_FILENO;
 use libc::STDIN_FILENO;
 use libc::STDOUT_FILENO;
-use replay_digits::digits::MAX_LINE;
 use replaying::Answer;
+use replaying::MAX_LINE;
 use replaying::Replay;
 use replaying::begin;
 use replaying::close;
@@ -108,7 +109,7 @@ fn replay_input(store: &mut [u8], line: &mut [u8; MAX_LINE]) -> bool {
 }
 
 fn main() {
-    let mut store = io::large_buffer();
+    let mut store = [0u8; RECEIVED_BYTES];
     let mut line = [0u8; MAX_LINE];
     if !replay_input(&mut store, &mut line) {
         io::write_all(STDERR_FILENO, b"replay: the input cannot be read\n");

@@ -10,16 +10,16 @@ use lib.Dec.{eqb, leb, ltb}
 use lib.ListN.{length, getD, take, drop, set, length-append, length-drop, drop-of-length-le}
 use lib.Seq.{drop-cons, drop-drop}
 use borrow.Author.Tests.{eq-eqb, ne-eqb, eqb-true, le-leb, lt-leb}
-use Rattle.refusal.specs.Verdicts.{by-test}
-use Rattle.engine_state.specs.declared.state.State.{State}
-use Rattle.replay_session.specs.declared.session.Waiting.{Waiting}
-use Rattle.replay_session.specs.declared.session.Waiting.the-variants.{Frame, Payload}
-use Rattle.replay_session.specs.declared.session.Answer.{Answer}
-use Rattle.replay_session.specs.declared.session.Answer.the-variants.{Nothing, Line}
-use Rattle.replay_session.specs.declared.session.Replay.{Replay}
-use Rattle.replay_session.specs.declared.session.Answered.{Answered}
+use borrow.Table.Steps.{cases}
+use Rattle.engine.specs.declared.state.State.{State}
+use Rattle.replaying.specs.declared.session.Waiting.{Waiting}
+use Rattle.replaying.specs.declared.session.Waiting.the-variants.{Frame, Payload}
+use Rattle.replaying.specs.declared.session.Answer.{Answer}
+use Rattle.replaying.specs.declared.session.Answer.the-variants.{Nothing, Line}
+use Rattle.replaying.specs.declared.session.Replay.{Replay}
+use Rattle.replaying.specs.declared.session.Answered.{Answered}
 use Rattle.replaying.specs.declared.feeding.Fed.{Fed}
-use Rattle.replay_session.specs.Taking.{ended}
+use Rattle.replaying.specs.Taking.{ended}
 use Rattle.replaying.specs.Line.{answerOf, storeOf}
 
 -- the lines that an answer writes: none or one
@@ -194,7 +194,7 @@ pub until-carried : (t : Told) (line : List ℕ) (count : ℕ) (xs : List ℕ)
 unfolding fedBy untilFeed carriedLine carriedCount
 until-carried t line count [] = refl
 until-carried t line count (b ∷ rest) =
-    by-test (eqb b 10)
+    cases (eqb b 10)
     (λ e. simp e)
     (λ e.
     let u : untilFeed (b ∷ rest) ≡ b ∷ untilFeed rest = simp e in
@@ -206,7 +206,7 @@ pub through-ended : (xs : List ℕ) → length (untilFeed xs) < length xs → th
 unfolding untilFeed throughFeed
 through-ended [] h = absurd (not-suc-le-zero h)
 through-ended (b ∷ rest) h =
-    by-test (eqb b 10)
+    cases (eqb b 10)
     (λ e. simp e (ap (λ x. x ∷ []) (eqb-true b 10 e)))
     (λ e. let g = simp e at h in simp e (ap (λ l. b ∷ l) (through-ended rest (omega arith))))
 
@@ -214,7 +214,7 @@ pub through-open : (xs : List ℕ) → length xs ≤ length (untilFeed xs) → t
 unfolding untilFeed throughFeed
 through-open [] h = refl
 through-open (b ∷ rest) h =
-    by-test (eqb b 10)
+    cases (eqb b 10)
     (λ e. let g = simp e at h in absurd (omega arith))
     (λ e. let g = simp e at h in simp e (ap (λ l. b ∷ l) (through-open rest (omega arith))))
 
@@ -223,7 +223,7 @@ pub through-split : (xs : List ℕ) → throughFeed xs ++ drop (length (throughF
 unfolding throughFeed
 through-split [] = refl
 through-split (b ∷ rest) =
-    by-test (eqb b 10)
+    cases (eqb b 10)
     (λ e. simp e)
     (λ e.
     let u : throughFeed (b ∷ rest) ≡ b ∷ throughFeed rest = simp e in
@@ -233,7 +233,7 @@ through-some : (xs : List ℕ) → 0 < length xs → 0 < length (throughFeed xs)
 unfolding throughFeed
 through-some [] h = h
 through-some (b ∷ rest) h =
-    by-test (eqb b 10)
+    cases (eqb b 10)
     (λ e. let u : throughFeed (b ∷ rest) ≡ b ∷ [] = simp e in rw u (omega arith))
     (λ e. let u : throughFeed (b ∷ rest) ≡ b ∷ throughFeed rest = simp e in rw u (omega arith))
 

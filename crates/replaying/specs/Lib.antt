@@ -1,3 +1,8 @@
+pub mod Digits
+pub mod Writing
+pub mod Session
+pub mod Taking
+pub mod Taken
 pub mod Line
 pub mod Feeding
 pub mod Whole

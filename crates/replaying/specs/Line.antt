@@ -18,16 +18,16 @@ use Rattle.msg.specs.declared.reliable.ReliableMsg.the-variants.{Data, Consumed
 use Rattle.msg.specs.declared.reliable.FromLink.{FromLink}
 use Rattle.msg.specs.declared.reliable.FromLink.the-variants.{Reliable, Other}
 use Rattle.msg.specs.Reliable.{fromLink}
-use Rattle.engine_state.specs.declared.state.State.{State}
-use Rattle.engine_state.specs.Answer.{outcomeNumber}
-use Rattle.engine_receive.specs.Receive.{receiveOf, receiveStore}
-use Rattle.replay_session.specs.declared.session.Waiting.{Waiting}
-use Rattle.replay_session.specs.declared.session.Waiting.the-variants.{Frame, Payload}
-use Rattle.replay_session.specs.declared.session.Answer.the-variants as answers
-use Rattle.replay_session.specs.declared.session.Replay.{Replay}
-use Rattle.replay_session.specs.declared.session.Answered.{Answered}
-use Rattle.replay_digits.specs.Digits.{spells, spelt, frameOf, frame-long}
-use Rattle.replay_session.specs.Taking.{ended}
+use Rattle.engine.specs.declared.state.State.{State}
+use Rattle.engine.specs.Answer.{outcomeNumber}
+use Rattle.engine.specs.Receiving.{receiveOf, receiveStore}
+use Rattle.replaying.specs.declared.session.Waiting.{Waiting}
+use Rattle.replaying.specs.declared.session.Waiting.the-variants.{Frame, Payload}
+use Rattle.replaying.specs.declared.session.Answer.the-variants as answers
+use Rattle.replaying.specs.declared.session.Replay.{Replay}
+use Rattle.replaying.specs.declared.session.Answered.{Answered}
+use Rattle.replaying.specs.Digits.{spells, spelt, frameOf, frame-long}
+use Rattle.replaying.specs.Taking.{ended}
 
 -- a message that reaches the engine, over link 0; the answer is the refusal's number, or 0
 unfoldable pub received : State → ℕ → ReliableMsg → Seq → ℕ → Answered

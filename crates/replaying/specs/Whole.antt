@@ -10,7 +10,7 @@ use lib.Dec.{eqb, leb, ltb}
 use lib.ListN.{length, take, set, length-append, length-set}
 use lib.Seq.{take-suc-set}
 use borrow.Author.Tests.{eqb-true, eqb-false, leb-true, leb-false, ltb-true, ltb-false}
-use Rattle.refusal.specs.Verdicts.{by-test}
+use borrow.Table.Steps.{cases}
 use Rattle.seq.specs.declared.Seq.{Seq}
 use Rattle.msg.specs.declared.reading.Reading.{Reading}
 use Rattle.msg.specs.declared.reading.Reading.the-variants as readings
@@ -19,18 +19,18 @@ use Rattle.msg.specs.declared.reliable.ReliableMsg.the-variants.{Data, Consumed
 use Rattle.msg.specs.declared.reliable.FromLink.{FromLink}
 use Rattle.msg.specs.declared.reliable.FromLink.the-variants.{Reliable, Other}
 use Rattle.msg.specs.Reliable.{fromLink}
-use Rattle.engine_state.specs.declared.state.State.{State}
-use Rattle.engine_state.specs.Answer.{outcomeNumber}
-use Rattle.engine_receive.specs.Receive.{receiveOf}
-use Rattle.replay_session.specs.declared.session.Waiting.{Waiting}
-use Rattle.replay_session.specs.declared.session.Waiting.the-variants.{Frame, Payload}
-use Rattle.replay_session.specs.declared.session.Answer.{Answer}
-use Rattle.replay_session.specs.declared.session.Answer.the-variants.{Nothing}
-use Rattle.replay_session.specs.declared.session.Replay.{Replay}
-use Rattle.replay_session.specs.declared.session.Answered.{Answered}
-use Rattle.replay_session.specs.Session.{beginning}
-use Rattle.replay_digits.specs.Digits.{spells, spelt, frameOf}
-use Rattle.replay_session.specs.Taking.{ended}
+use Rattle.engine.specs.declared.state.State.{State}
+use Rattle.engine.specs.Answer.{outcomeNumber}
+use Rattle.engine.specs.Receiving.{receiveOf}
+use Rattle.replaying.specs.declared.session.Waiting.{Waiting}
+use Rattle.replaying.specs.declared.session.Waiting.the-variants.{Frame, Payload}
+use Rattle.replaying.specs.declared.session.Answer.{Answer}
+use Rattle.replaying.specs.declared.session.Answer.the-variants.{Nothing}
+use Rattle.replaying.specs.declared.session.Replay.{Replay}
+use Rattle.replaying.specs.declared.session.Answered.{Answered}
+use Rattle.replaying.specs.Session.{beginning}
+use Rattle.replaying.specs.Digits.{spells, spelt, frameOf}
+use Rattle.replaying.specs.Taking.{ended}
 use Rattle.replaying.specs.Line.{received, awaited, afterReliable, afterCarried, afterReading, afterPayload, answerAs, answerOf, storeOf, long-answer, long-store}
 use Rattle.replaying.specs.Feeding.{Told, Session, saidBy, sessionWith, lineWith, countWith, lineAnswer, lineStore, lineEnded, byteFed, fedBy, absentOf, closeOf, closeStore, fed-append, line-long, line-short, line-long-store, line-short-store, close-none, close-last, close-none-store, close-last-store}
 
@@ -156,13 +156,13 @@ carries-none line h = record { sized = h; short = λ z. refl; same = λ z. refl;
 
 fits : (line : List ℕ) (count : ℕ) (l : List ℕ) → Carries line count l → count < 2080 → (count ≡ length l) × (length l < 2080)
 fits line count l k h =
-    by-test (leb (length l) 2080)
+    cases (leb (length l) 2080)
     (λ t. let e = k .short (leb-true (length l) 2080 t) in (e, omega arith))
     (λ f. let e = k .long (leb-false (length l) 2080 f) in absurd (omega arith))
 
 full : (line : List ℕ) (count : ℕ) (l : List ℕ) → Carries line count l → 2080 ≤ count → 2080 ≤ length l
 full line count l k h =
-    by-test (leb (length l) 2080)
+    cases (leb (length l) 2080)
     (λ t. let e = k .short (leb-true (length l) 2080 t) in omega arith)
     (λ f. let e = leb-false (length l) 2080 f in omega arith)
 
@@ -170,7 +170,7 @@ carries-more : (line : List ℕ) (count : ℕ) (l : List ℕ) (b : ℕ) → Carr
 unfolding lineWith countWith
 carries-more line count l b k =
     let len : length (l ++ (b ∷ [])) ≡ length l + 1 = length-append l (b ∷ []) in
-    by-test (ltb count 2080)
+    cases (ltb count 2080)
     (λ t.
     let f = fits line count l k (ltb-true count 2080 t) in
     let e : take (length l + 1) (set line count b) ≡ l ++ (b ∷ []) = rw (f .0, add-one) (take-suc-set line (length l) b (omega (arith, k .sized)) ∙ ap (λ x. x ++ (b ∷ [])) (k .same (omega arith))) in
@@ -193,7 +193,7 @@ carries-more line count l b k =
 module _ (t : Told) (line : List ℕ) (count : ℕ) (l : List ℕ) (k : Carries line count l) where
   carried-answer : lineAnswer (t .replay) (length (t .store)) line count ≡ answerOf (t .replay) (length (t .store)) l
   carried-answer =
-      by-test (leb (length l) 2080)
+      cases (leb (length l) 2080)
       (λ y.
       let h = leb-true (length l) 2080 y in
       let e = k .short h in
@@ -207,7 +207,7 @@ module _ (t : Told) (line : List ℕ) (count : ℕ) (l : List ℕ) (k : Carries 
 
   carried-store : lineStore (t .replay) (t .store) line count ≡ storeOf (t .replay) (t .store) l
   carried-store =
-      by-test (leb (length l) 2080)
+      cases (leb (length l) 2080)
       (λ y.
       let h = leb-true (length l) 2080 y in
       let e = k .short h in
@@ -227,7 +227,7 @@ module _ (t : Told) (line : List ℕ) (count : ℕ) (l : List ℕ) (k : Carries 
 
   unempty : (length l ≡ 0 → ⊥) → count ≡ 0 → ⊥
   unempty h z =
-      by-test (leb (length l) 2080)
+      cases (leb (length l) 2080)
       (λ y. let e = k .short (leb-true (length l) 2080 y) in h (omega arith))
       (λ n. let e = k .long (leb-false (length l) 2080 n) in omega arith)
 
@@ -252,11 +252,11 @@ closed-from : (t : Told) (line : List ℕ) (count : ℕ) (l input : List ℕ) �
     → closed (fedBy (sessionWith t line count) input) ≡ finished (tellAll t (linesFrom l input))
 unfolding fedBy byteFed linesFrom tellAll
 closed-from t line count l [] k =
-    by-test (eqb (length l) 0)
+    cases (eqb (length l) 0)
     (λ y. closed-none t line count l k (eqb-true (length l) 0 y) ∙ simp y)
     (λ n. closed-last t line count l k (eqb-false (length l) 0 n) ∙ simp n)
 closed-from t line count l (b ∷ rest) k =
-    by-test (eqb b 10)
+    cases (eqb b 10)
     (λ y.
     let step : byteFed (sessionWith t line count) b ≡ lineEnded (sessionWith t line count) = simp y in
     let lines : linesFrom l (b ∷ rest) ≡ l ∷ linesFrom [] rest = simp y in

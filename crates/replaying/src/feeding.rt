@@ -1,12 +1,12 @@
 // Input in pieces: the unfinished line is carried along in a lent buffer, with a count of its bytes.
+use crate::digits::MAX_LINE;
 use crate::lines::answer_line;
+use crate::session::Answer;
+use crate::session::Answered;
+use crate::session::Replay;
+use crate::session::Waiting;
+use crate::taking::end_frame;
 use refusal::Refusal;
-use replay_digits::digits::MAX_LINE;
-use replay_session::session::Answer;
-use replay_session::session::Answered;
-use replay_session::session::Replay;
-use replay_session::session::Waiting;
-use replay_session::taking::end_frame;
 ghost use mathlib.Core.Path.{_≡_};
 ghost use Prim.Native.Nat.{_+_};
 ghost use lib.ListN.{length, drop};

@@ -1,14 +1,19 @@
 // The replay: lines of hexadecimal frames, received by one engine, and an answer for each frame.
+pub mod digits;
 pub mod feeding;
 pub mod lines;
+pub mod session;
+pub mod taking;
+pub mod writing;
 
+pub use digits::MAX_LINE;
 pub use feeding::Fed;
 pub use feeding::close;
 pub use feeding::feed;
 pub use lines::answer_line;
-pub use replay_digits::writing::write_line;
-pub use replay_session::session::Answer;
-pub use replay_session::session::Answered;
-pub use replay_session::session::Replay;
-pub use replay_session::session::Waiting;
-pub use replay_session::session::begin;
+pub use session::Answer;
+pub use session::Answered;
+pub use session::Replay;
+pub use session::Waiting;
+pub use session::begin;
+pub use writing::write_line;

@@ -1,25 +1,24 @@
 // What one line does.
-use engine_receive::receive::receive;
-use engine_state::Outcome;
-use engine_state::State;
+use crate::digits::MAX_FRAME;
+use crate::digits::MAX_PAYLOAD;
+use crate::digits::decode;
+use crate::digits::read_frame;
+use crate::session::Answer;
+use crate::session::Answered;
+use crate::session::Replay;
+use crate::session::Waiting;
+use crate::taking::end_frame;
+use engine::Outcome;
+use engine::State;
 use msg::LinkMsg;
 use msg::Reading;
 use msg::ReliableMsg;
 use msg::reliable::FromLink;
 use refusal::Refusal;
-use replay_digits::digits::MAX_FRAME;
-use replay_digits::digits::MAX_PAYLOAD;
-use replay_digits::digits::decode;
-use replay_digits::digits::read_frame;
-use replay_session::session::Answer;
-use replay_session::session::Answered;
-use replay_session::session::Replay;
-use replay_session::session::Waiting;
-use replay_session::taking::end_frame;
 use seq::Seq;
 ghost use mathlib.Core.Path.{_≡_};
 ghost use lib.ListN.{length};
-ghost use Rattle.engine_state.specs.Answer.{outcomeNumber};
+ghost use Rattle.engine.specs.Answer.{outcomeNumber};
 ghost use Rattle.replaying.specs.Line.{received, receivedStore, afterReliable, storeAfterReliable, afterMessage, storeAfterMessage, afterReading, storeAfterReading, afterPayload, storeAfterPayload, answerOf, storeOf};
 
 fn outcome_number(outcome: Outcome) -> u8
@@ -36,7 +35,7 @@ fn receive_frame(s: State, store: &mut [u8], msg: ReliableMsg, seq: Seq, payload
     ensures { λ r. ⌜ r ≡ received s (length (now (store .entry))) msg seq (length (now (payload .entry))) ⌝ }
     ensures { λ _. ⌜ now (store .exit) ≡ receivedStore s (now (store .entry)) msg seq (now (payload .entry)) ⌝ }
 {
-    let changed = receive(s, store, 0, msg, seq, payload);
+    let changed = engine::receive(s, store, 0, msg, seq, payload);
     let outcome = changed.outcome;
     let state = changed.state;
     end_frame(outcome_number(outcome), state)

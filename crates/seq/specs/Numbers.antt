@@ -29,3 +29,7 @@ negative (negsuc n) = true
 -- "Number a is before b when a − b is negative (P)."
 unfoldable pub before : ℕ → ℕ → Bool
 before a b = negative (signed (minus a b))
+
+-- "`ZERO`, `MINUS_ONE` and `USABLE_INTERVAL` (65,536) belong to the number type itself."
+abbrev pub USABLE_INTERVAL : ℕ
+USABLE_INTERVAL = 65536

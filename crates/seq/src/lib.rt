@@ -1,7 +1,7 @@
 // Sequence numbers (003, seq.rs): 32 bits that wrap at 2^32.
 ghost use mathlib.Core.Path.{_≡_};
 ghost use lib.IntN.{pos};
-ghost use Rattle.seq.specs.Numbers.{seqOf, plus, minus, signed, before};
+ghost use Rattle.seq.specs.Numbers.{seqOf, plus, minus, signed, before, USABLE_INTERVAL};
 
 // A sequence number.
 pub struct Seq(pub u32);
@@ -67,7 +67,7 @@ fn minus_one() -> Seq
 }
 
 fn usable_interval() -> i32
-    ensures { λ r. ⌜ r ≡ pos 65536 ⌝ }
+    ensures { λ r. ⌜ r ≡ pos USABLE_INTERVAL ⌝ }
 {
     Seq::USABLE_INTERVAL
 }

@@ -13,22 +13,18 @@ use crate::tally::REFUSED;
 use crate::tally::RESENT;
 use crate::tally::Tally;
 use crate::tally::count;
+use engine::DATA_BYTES;
+use engine::Outcome;
+use engine::PACKETS;
+use engine::RECEIVED_BYTES;
+use engine::ResendAnswer;
+use engine::SENT_BYTES;
+use engine::SendAnswer;
+use engine::SentReliableStatus;
 use engine::State;
-use engine::ack;
-use engine::acks;
-use engine::changes;
-use engine::flush;
-use engine::receive;
-use engine::resend;
-use engine::send;
-use engine::unconfirm;
-use engine_acks::acks::TakeAck;
-use engine_resend::resend::ResendAnswer;
-use engine_send::send::SendAnswer;
-use engine_state::Outcome;
-use engine_state::rows::row_of;
-use engine_state::state::SentReliableStatus;
-use engine_state::table::packet_of;
+use engine::TakeAck;
+use engine::packet_of;
+use engine::row_of;
 use msg::LinkMsg;
 use msg::Reading;
 use msg::ReliableMsg;
@@ -36,7 +32,9 @@ use msg::Written;
 use msg::reliable::FromLink;
 use seq::Seq;
 
-pub type Store = [u8; 65536];
+pub type SentStore = [u8; SENT_BYTES];
+
+pub type ReceivedStore = [u8; RECEIVED_BYTES];
 
 // The links' slots are 0 to 2.
 const LINKS: u8 = 3;
@@ -44,9 +42,8 @@ const LINKS: u8 = 3;
 // After how many nanoseconds without an ack a link is doubted: 50 ticks.
 const PATIENCE: u64 = 50_000_000;
 
-const CELL: usize = 1024;
-
-const CELLS: u32 = 64;
+// A sound table has at most PACKETS packets, so that a count modulo this is the count.
+const COUNTS: usize = PACKETS + 1;
 
 // Writes a message and gives it to a link.
 fn post(tally: &mut Tally, air: &mut Air, slot: u8, to: u8, msg: LinkMsg, payload: &[u8]) {
@@ -61,7 +58,7 @@ fn post(tally: &mut Tally, air: &mut Air, slot: u8, to: u8, msg: LinkMsg, payloa
 // Gives a message to a link, and counts it where the engine takes it: a full packet table or a dead link has it wait.
 pub fn give(
     s: State,
-    sent: &mut Store,
+    sent: &mut SentStore,
     tally: &mut Tally,
     air: &mut Air,
     slot: u8,
@@ -71,7 +68,7 @@ pub fn give(
     payload: &[u8],
     what: usize,
 ) -> State {
-    let result = send::send(s, sent, slot, now, msg, payload);
+    let result = engine::send(s, sent, slot, now, msg, payload);
     let answer = result.answer;
     let SendAnswer::Number(seq) = answer else {
         return s;
@@ -98,7 +95,7 @@ fn note_refusal(tally: &mut Tally, outcome: Outcome) {
 
 fn receive(
     s: State,
-    received: &mut Store,
+    received: &mut ReceivedStore,
     tally: &mut Tally,
     slot: u8,
     msg: ReliableMsg,
@@ -107,7 +104,7 @@ fn receive(
 ) -> State {
     let rx = s.rx;
     note_arrival(tally, rx.rx_seq, seq);
-    let changed = receive::receive(s, received, slot, msg, seq, payload);
+    let changed = engine::receive(s, received, slot, msg, seq, payload);
     let outcome = changed.outcome;
     note_refusal(tally, outcome);
     changed.state
@@ -118,14 +115,20 @@ fn ack(s: State, tally: &mut Tally, slot: u8, msg: LinkMsg, now: u64) -> State {
         count(tally, REFUSED);
         return s;
     };
-    let changed = ack::ack(s, slot, now, received);
+    let changed = engine::ack(s, slot, now, received);
     let outcome = changed.outcome;
     note_refusal(tally, outcome);
     changed.state
 }
 
 // A frame has arrived.
-fn arrive(s: State, received: &mut Store, tally: &mut Tally, room: &Room, now: u64) -> State {
+fn arrive(
+    s: State,
+    received: &mut ReceivedStore,
+    tally: &mut Tally,
+    room: &Room,
+    now: u64,
+) -> State {
     let slot = air::slot_of(room);
     let reading = msg::read(air::frame_of(room));
     let Reading::Message(msg) = reading else {
@@ -150,7 +153,7 @@ fn arrive(s: State, received: &mut Store, tally: &mut Tally, room: &Room, now: u
 // All that has arrived at an end.
 fn arrivals(
     s: State,
-    received: &mut Store,
+    received: &mut ReceivedStore,
     tally: &mut Tally,
     air: &mut Air,
     end: u8,
@@ -174,7 +177,7 @@ fn send_acks(s: State, tally: &mut Tally, air: &mut Air, slot: u8, to: u8) -> St
     let mut more = row.ack_count;
     let mut out = s;
     while 0 < more {
-        let taken = acks::take_ack(out, slot);
+        let taken = engine::take_ack(out, slot);
         let answer = taken.answer;
         let TakeAck::Number(received) = answer else {
             return out;
@@ -189,9 +192,9 @@ fn send_acks(s: State, tally: &mut Tally, air: &mut Air, slot: u8, to: u8) -> St
 // A silent link is unconfirmed, so that what it has is resent elsewhere; the host then finds it in order again.
 fn doubt(s: State, tally: &mut Tally, slot: u8) -> State {
     count(tally, DOUBTED);
-    let unconfirmed = unconfirm::unconfirm(s, slot);
+    let unconfirmed = engine::unconfirm(s, slot);
     let state = unconfirmed.state;
-    let confirmed = changes::confirm(state, slot);
+    let confirmed = engine::confirm(state, slot);
     confirmed.state
 }
 
@@ -201,31 +204,25 @@ fn watch(s: State, tally: &mut Tally, now: u64) -> State {
     if tx.txed_count == 0 {
         return s;
     }
-    let first = tx.tx_seq.sub((tx.txed_count % 65) as u32);
+    let first = tx.tx_seq.sub((tx.txed_count % COUNTS) as u32);
     let oldest = packet_of(tx, first);
     let status = oldest.status;
-    let SentReliableStatus::Sent {
-        sent,
-        flushed: _,
-        slot,
-        link: _,
-    } = status
-    else {
+    let SentReliableStatus::Sent(flight) = status else {
         return s;
     };
-    if now <= sent {
+    if now <= flight.sent {
         return s;
     }
-    if now - sent < PATIENCE {
+    if now - flight.sent < PATIENCE {
         return s;
     }
-    doubt(s, tally, slot)
+    doubt(s, tally, flight.slot)
 }
 
 // Resends the oldest queued message over a link, where the engine allows it.
 fn resend(
     s: State,
-    sent: &Store,
+    sent: &SentStore,
     tally: &mut Tally,
     air: &mut Air,
     slot: u8,
@@ -238,13 +235,13 @@ fn resend(
     }
     let queue = tx.resend_queue;
     let seq = queue[0];
-    let result = resend::resend(s, slot, now, seq);
+    let result = engine::resend(s, slot, now, seq);
     let answer = result.answer;
     let ResendAnswer::Message(msg, len) = answer else {
         return s;
     };
     count(tally, RESENT);
-    let at = (seq.0 % CELLS) as usize * CELL;
+    let at = seq.0 as usize % PACKETS * DATA_BYTES;
     post(
         tally,
         air,
@@ -259,7 +256,7 @@ fn resend(
 // One link's doings.
 fn serve(
     s: State,
-    sent: &Store,
+    sent: &SentStore,
     tally: &mut Tally,
     air: &mut Air,
     slot: u8,
@@ -270,7 +267,14 @@ fn serve(
     resend(acked, sent, tally, air, slot, to, now)
 }
 
-fn serve_all(s: State, sent: &Store, tally: &mut Tally, air: &mut Air, to: u8, now: u64) -> State {
+fn serve_all(
+    s: State,
+    sent: &SentStore,
+    tally: &mut Tally,
+    air: &mut Air,
+    to: u8,
+    now: u64,
+) -> State {
     let mut out = s;
     let mut slot: u8 = 0;
     while slot < LINKS {
@@ -283,8 +287,8 @@ fn serve_all(s: State, sent: &Store, tally: &mut Tally, air: &mut Air, to: u8, n
 // A tick at an end; the link whose turn it is is flushed.
 pub fn turn(
     s: State,
-    sent: &Store,
-    received: &mut Store,
+    sent: &SentStore,
+    received: &mut ReceivedStore,
     tally: &mut Tally,
     air: &mut Air,
     end: u8,
@@ -295,6 +299,6 @@ pub fn turn(
     let arrived = arrivals(s, received, tally, air, end, now);
     let watched = watch(arrived, tally, now);
     let served = serve_all(watched, sent, tally, air, to, now);
-    let flushed = flush::flush(served, slot, now);
+    let flushed = engine::flush(served, slot, now);
     flushed.state
 }

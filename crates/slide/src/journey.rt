@@ -6,7 +6,8 @@ use crate::air::SCANNER;
 use crate::air::SERVER;
 use crate::chance::Chance;
 use crate::end;
-use crate::end::Store;
+use crate::end::ReceivedStore;
+use crate::end::SentStore;
 use crate::map::Row;
 use crate::scanner;
 use crate::server;
@@ -15,17 +16,13 @@ use crate::tally::EVENT;
 use crate::tally::FINISHED;
 use crate::tally::RETURNED;
 use crate::tally::Tally;
+use engine::MAX_RECV_BUFFER;
 use engine::State;
-use engine::add;
-use engine::fresh;
-use engine::unconfirm;
 use link::MaxPing;
 use seq::Seq;
 
 // 512 numbers before the wrap.
 const START: u32 = 0xFFFF_FE00;
-
-const RECV_BUFFER: u32 = 65536;
 
 // A tick is a millisecond.
 const TICK: u64 = 1_000_000;
@@ -44,19 +41,19 @@ struct Ends {
 }
 
 fn with_link(s: State, id: u64) -> State {
-    let added = add::add(s, id, 0, MaxPing::Unlimited, false, false);
+    let added = engine::add(s, id, 0, MaxPing::Unlimited, false, false);
     added.state
 }
 
 // An end with its three links.
 fn begin() -> State {
-    let made = fresh::fresh(Seq(START), RECV_BUFFER);
+    let made = engine::fresh(Seq(START), MAX_RECV_BUFFER);
     let empty = made.state;
     with_link(with_link(with_link(empty, 1), 2), 3)
 }
 
 fn without_link(s: State, slot: u8) -> State {
-    let removed = unconfirm::remove(s, slot);
+    let removed = engine::remove(s, slot);
     removed.state
 }
 
@@ -85,8 +82,8 @@ fn fate(ends: Ends, air: &mut Air, tally: &mut Tally, tick: u64) -> Ends {
 // A tick at the scanner.
 fn scanner_turn(
     s: State,
-    sent: &mut Store,
-    received: &mut Store,
+    sent: &mut SentStore,
+    received: &mut ReceivedStore,
     tally: &mut Tally,
     air: &mut Air,
     slot: u8,
@@ -99,8 +96,8 @@ fn scanner_turn(
 // A tick at the server.
 fn server_turn(
     s: State,
-    sent: &mut Store,
-    received: &mut Store,
+    sent: &mut SentStore,
+    received: &mut ReceivedStore,
     tally: &mut Tally,
     air: &mut Air,
     row: &mut Row,
@@ -125,10 +122,10 @@ fn are_empty(ends: Ends) -> bool {
 // A tick of the whole: each end's new messages go over the links in turn.
 fn pass_tick(
     ends: Ends,
-    scanner_sent: &mut Store,
-    scanner_received: &mut Store,
-    server_sent: &mut Store,
-    server_received: &mut Store,
+    scanner_sent: &mut SentStore,
+    scanner_received: &mut ReceivedStore,
+    server_sent: &mut SentStore,
+    server_received: &mut ReceivedStore,
     chance: &mut Chance,
     tally: &mut Tally,
     air: &mut Air,
@@ -162,10 +159,10 @@ fn is_over(ends: Ends, tally: &Tally) -> bool {
 
 // Runs until the stream's end was handed out and nothing is left to be acked.
 pub fn run(
-    scanner_sent: &mut Store,
-    scanner_received: &mut Store,
-    server_sent: &mut Store,
-    server_received: &mut Store,
+    scanner_sent: &mut SentStore,
+    scanner_received: &mut ReceivedStore,
+    server_sent: &mut SentStore,
+    server_received: &mut ReceivedStore,
     chance: &mut Chance,
     tally: &mut Tally,
     air: &mut Air,

@@ -10,12 +10,15 @@ mod scanner;
 mod server;
 mod tally;
 
+use engine::RECEIVED_BYTES;
+use engine::SENT_BYTES;
+
 // The stores and the rest are made here, once, and lent to everything below.
 fn main() {
-    let mut scanner_sent = [0u8; 65536];
-    let mut scanner_received = [0u8; 65536];
-    let mut server_sent = [0u8; 65536];
-    let mut server_received = [0u8; 65536];
+    let mut scanner_sent = [0u8; SENT_BYTES];
+    let mut scanner_received = [0u8; RECEIVED_BYTES];
+    let mut server_sent = [0u8; SENT_BYTES];
+    let mut server_received = [0u8; RECEIVED_BYTES];
     let mut chance = [1189u64; 1];
     let mut tally = [0u64; 17];
     let mut air = [0u8; 133120];

@@ -2,7 +2,7 @@
 use crate::air::Air;
 use crate::air::SERVER;
 use crate::air::part;
-use crate::end::Store;
+use crate::end::SentStore;
 use crate::end::give;
 use crate::picture::shade;
 use crate::tally::ENDED;
@@ -24,7 +24,7 @@ fn next_tile(tally: &Tally) -> u16 {
 
 pub fn scan(
     s: State,
-    sent: &mut Store,
+    sent: &mut SentStore,
     tally: &mut Tally,
     air: &mut Air,
     slot: u8,

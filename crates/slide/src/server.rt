@@ -1,7 +1,8 @@
 // The server's own work: it takes the tiles that are ready, looks at each and tells the scanner what it has consumed.
 use crate::air::Air;
 use crate::air::SCANNER;
-use crate::end::Store;
+use crate::end::ReceivedStore;
+use crate::end::SentStore;
 use crate::end::give;
 use crate::map;
 use crate::map::Row;
@@ -14,19 +15,14 @@ use crate::tally::Tally;
 use crate::tally::WRAPPED;
 use crate::tally::WRONG;
 use crate::tally::count;
+use engine::CELLS;
+use engine::Due;
+use engine::HandOut;
 use engine::State;
-use engine::due;
-use engine::show;
-use engine::take;
-use engine_acks::due::Due;
-use engine_handout::ready::HandOut;
 use msg::ReliableMsg;
 use seq::Seq;
 use tiles::TILES;
 use tiles::is_tile;
-
-// The most messages that are ready at one time.
-const MAX_READY: usize = 64;
 
 // The number of the tile that has to come next; TILES where none has to.
 fn expected_tile(tally: &Tally) -> u16 {
@@ -75,16 +71,22 @@ fn is_drained(s: State) -> bool {
     rx.rx_oldest.0 == rx.rx_seq.0
 }
 
-// Takes every ready message.
-fn take_ready(s: State, received: &Store, tally: &mut Tally, row: &mut Row, tick: u64) -> State {
+// Takes every ready message: there are at most CELLS.
+fn take_ready(
+    s: State,
+    received: &ReceivedStore,
+    tally: &mut Tally,
+    row: &mut Row,
+    tick: u64,
+) -> State {
     let mut out = s;
-    let mut more: usize = MAX_READY;
+    let mut more: usize = CELLS;
     while 0 < more {
         if is_drained(out) {
             return out;
         }
-        let shown = show::show(out, received);
-        let taken = take::take(out);
+        let shown = engine::show(out, received);
+        let taken = engine::take(out);
         let answer = taken.answer;
         let HandOut::Message(msg, seq, _) = answer else {
             return out;
@@ -104,8 +106,15 @@ fn is_due(due: Due) -> bool {
 }
 
 // Tells what was taken, when that is due.
-fn tell(s: State, sent: &mut Store, tally: &mut Tally, air: &mut Air, slot: u8, now: u64) -> State {
-    if !is_due(due::is_consume_ack_required(s)) {
+fn tell(
+    s: State,
+    sent: &mut SentStore,
+    tally: &mut Tally,
+    air: &mut Air,
+    slot: u8,
+    now: u64,
+) -> State {
+    if !is_due(engine::is_consume_ack_required(s)) {
         return s;
     }
     let rx = s.rx;
@@ -115,8 +124,8 @@ fn tell(s: State, sent: &mut Store, tally: &mut Tally, air: &mut Air, slot: u8, 
 
 pub fn view(
     s: State,
-    sent: &mut Store,
-    received: &Store,
+    sent: &mut SentStore,
+    received: &ReceivedStore,
     tally: &mut Tally,
     air: &mut Air,
     row: &mut Row,

@@ -1,16 +1,16 @@
 -- Decimal words: which runs of bytes are numbers, and which number each is. Assumes nothing.
 use mathlib.Core.Bool.{Bool, true, false, cond, not, _&&_}
 use mathlib.Core.List.{List, [], _∷_}
-use mathlib.Core.Path.{_≡_, refl, sym, _∙_}
-use Prim.Native.Nat.{ℕ, suc, _+_, _-_, _*_, _<_, _≤_}
-use native.Mathlib.Nat.{le-refl, le-trans}
+use mathlib.Core.Path.{_≡_, refl}
+use Prim.Native.Nat.{ℕ, _+_, _-_, _*_, _<_, _≤_}
+use native.Mathlib.Nat.{le-refl}
 use native.Mathlib.Numerals.{add-one}
 use native.Mathlib.Omega.{arith}
 use lib.Dec.{eqb, leb, ltb}
 use lib.ListN.{length, getD, drop}
 use lib.Seq.{drop-cons}
 use borrow.Author.Tests.{le-leb, lt-leb, lt-ltb, le-ltb, eq-eqb, ne-eqb, leb-true}
-use Rattle.text.specs.Cases.{by-test}
+use borrow.Table.Steps.{cases}
 use Rattle.text.specs.declared.reading.Decimal.{Decimal}
 use Rattle.text.specs.declared.reading.Decimal.the-variants.{Number, Bad}
 
@@ -59,7 +59,7 @@ pub read-past : (n : ℕ) (word : List ℕ) (limit : ℕ) → limit < n → read
 unfolding readFrom
 read-past n word limit h =
     let past : limit < valueFrom n word = omega (arith, value-grows word n) in
-    by-test (allDigits word)
+    cases (allDigits word)
     (λ t. simp (t, lt-leb (valueFrom n word) limit past))
     (λ f. simp f)
 
@@ -104,9 +104,9 @@ module _ (limit : ℕ) where
 read-within : (word : List ℕ) (limit n : ℕ) → readFrom 0 word limit ≡ Number n → n ≤ limit
 unfolding readFrom
 read-within word limit n e =
-    by-test (allDigits word)
+    cases (allDigits word)
     (λ t.
-    by-test (leb (valueFrom 0 word) limit)
+    cases (leb (valueFrom 0 word) limit)
     (λ l.
     let v : valueFrom 0 word ≡ n = cc (simp (t, l) at e) in
     omega (arith, leb-true (valueFrom 0 word) limit l))
@@ -116,6 +116,6 @@ read-within word limit n e =
 pub a-number-read-is-within : (word : List ℕ) (limit n : ℕ) → decimalOf word limit ≡ Number n → n ≤ limit
 unfolding decimalOf
 a-number-read-is-within word limit n e =
-    by-test (unpadded word)
+    cases (unpadded word)
     (λ t. read-within word limit n (simp t at e))
     (λ f. let z : _≡_ {A = ℕ} 0 1 = cc (simp f at e) in absurd (omega arith))

@@ -1,13 +1,13 @@
 -- Lower-case hexadecimal: what each of the 256 bytes is worth as a digit, and the digits of a number. Assumes nothing.
-use mathlib.Core.Bool.{Bool, true, false, cond, _&&_, _||_}
+use mathlib.Core.Bool.{cond, _&&_, _||_}
 use mathlib.Core.List.{List, [], _∷_}
-use mathlib.Core.Path.{_≡_, refl, _∙_, ap}
-use Prim.Native.Nat.{ℕ, _+_, _-_, _*_, _/_, _%_, _<_, _≤_}
+use mathlib.Core.Path.{_≡_, ap}
+use Prim.Native.Nat.{ℕ, _+_, _-_, _*_, _/_, _%_, _<_}
 use native.Mathlib.Omega.{arith}
 use lib.Dec.{leb, ltb}
-use borrow.Author.Tests.{le-leb, lt-leb, lt-ltb, le-ltb, ltb-true, ltb-false}
+use borrow.Author.Tests.{le-leb, lt-leb, ltb-true, ltb-false}
+use borrow.Table.Steps.{cases}
 use Rattle.io.specs.Digits.{glyph}
-use Rattle.text.specs.Cases.{by-test}
 use Rattle.text.specs.declared.hex.HexByte.{HexByte}
 use Rattle.text.specs.declared.hex.HexByte.the-variants.{Byte, Bad}
 
@@ -33,7 +33,7 @@ pub a-digit-is-worth-its-number : (n : ℕ) → hexValue (hexDigit n) ≡ n % 16
 unfolding hexValue hexDigit
 a-digit-is-worth-its-number n =
     let small : n % 16 < 16 = omega arith in
-    by-test (ltb (n % 16) 10)
+    cases (ltb (n % 16) 10)
     (λ t.
     let h = ltb-true (n % 16) 10 t in
     simp (t, le-leb 48 (48 + n % 16) (omega arith), le-leb (48 + n % 16) 57 (omega arith)) (omega arith))

@@ -1,4 +1,3 @@
-pub mod Cases
 pub mod Hex
 pub mod Decimal
 pub mod Put

@@ -1,7 +1,7 @@
 -- A line of text has twelve bytes.
 use mathlib.Core.Path.{sym, ap}
 use lib.ListN.{length}
-use Rattle.replay_digits.specs.Writing.{textOf}
+use Rattle.replaying.specs.Writing.{textOf}
 use borrow.Author.Needs.{needs}
 use Rattle.replay.proofs.show.Statement.{statement}
 use Rattle.replay.proofs.show.Tie as tie

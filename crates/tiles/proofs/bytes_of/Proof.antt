@@ -7,7 +7,7 @@ use native.Mathlib.Omega.{arith}
 use borrow.Author.Needs.{needs}
 use lib.Seq.{take-suc-set}
 use lib.ListN.{length, take, length-set}
-use Rattle.tiles.specs.Tiles.{tileLength, tileByte, tileStart, tile}
+use Rattle.tiles.specs.Tiles.{tileLength, tileStart, tile}
 use Rattle.tiles.specs.Laws.{start-next, length-range}
 use Rattle.tiles.proofs.bytes_of.Statement.{statement}
 use Rattle.tiles.proofs.bytes_of.Tie as tie

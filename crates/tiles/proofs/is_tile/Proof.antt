@@ -7,7 +7,7 @@ use native.Mathlib.Numerals.{add-one}
 use native.Mathlib.Omega.{arith}
 use lib.Seq.{take-suc, take-all}
 use lib.ListN.{length, take, getD}
-use Rattle.tiles.specs.Tiles.{tileLength, tileByte, tileStart, tile}
+use Rattle.tiles.specs.Tiles.{tileLength, tileStart, tile}
 use Rattle.tiles.specs.Laws.{start-next, tile-at, length-range, tile-length}
 use Rattle.tiles.proofs.is_tile.Statement.{statement}
 use Rattle.tiles.proofs.is_tile.Tie as tie

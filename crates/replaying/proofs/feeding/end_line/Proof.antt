@@ -4,7 +4,7 @@ use native.Mathlib.Omega.{arith}
 use lib.Seq.{length-take-le, take-all}
 use denote.Ref.{now}
 use lib.ListN.{length}
-use Rattle.replay_session.specs.Taking.{ended}
+use Rattle.replaying.specs.Taking.{ended}
 use Rattle.replaying.specs.Line.{answerOf, storeOf}
 use Rattle.replaying.specs.Feeding.{line-long, line-short, line-long-store, line-short-store}
 use borrow.Author.Needs.{needs}

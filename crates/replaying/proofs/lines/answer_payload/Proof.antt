@@ -5,8 +5,8 @@ use lib.Seq.{length-take-le}
 use denote.Ref.{now}
 use lib.ListN.{length}
 use Rattle.msg.specs.declared.reliable.ReliableMsg.the-variants.{Data}
-use Rattle.replay_session.specs.Taking.{ended}
-use Rattle.replay_digits.specs.Digits.{room-left}
+use Rattle.replaying.specs.Taking.{ended}
+use Rattle.replaying.specs.Digits.{room-left}
 use Rattle.replaying.specs.Line.{received, receivedStore, payload-long, payload-bad, payload-good, store-long, store-bad, store-good}
 use borrow.Author.Needs.{needs}
 use Rattle.replaying.proofs.lines.answer_payload.Statement.{statement}

@@ -1,7 +1,7 @@
 -- The engine's own promise, and the end of a frame.
 use mathlib.Core.Path.{_∙_, ap}
-use Rattle.engine_state.specs.Answer.{outcomeNumber}
-use Rattle.replay_session.specs.Taking.{ended}
+use Rattle.engine.specs.Answer.{outcomeNumber}
+use Rattle.replaying.specs.Taking.{ended}
 use Rattle.replaying.specs.Line.{received}
 use borrow.Author.Needs.{needs}
 use Rattle.replaying.proofs.lines.receive_frame.Statement.{statement}

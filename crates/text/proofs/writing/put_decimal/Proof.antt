@@ -1,5 +1,4 @@
 -- The digits that the library spells are put.
-use mathlib.Core.Path.{_≡_}
 use borrow.Author.Needs.{needs}
 use Rattle.text.proofs.writing.put_decimal.Statement.{statement}
 use Rattle.text.proofs.writing.put_decimal.Tie as tie

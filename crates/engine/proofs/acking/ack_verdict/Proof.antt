@@ -1,0 +1,22 @@
+-- The gates, in the order of their numbers.
+use Rattle.engine.specs.Acking.{ackVerdict}
+use borrow.Author.Needs.{needs}
+use Rattle.engine.proofs.acking.ack_verdict.Statement.{statement}
+use Rattle.engine.proofs.acking.ack_verdict.Tie as tie
+
+place-ok-requires : tie.Need-place-ok-requires
+place-ok-requires c κs = search needs
+
+gate-requires : tie.Need-gate-requires
+gate-requires c κs = search needs
+
+timed-verdict-requires : tie.Need-timed-verdict-requires
+timed-verdict-requires c κs = search needs
+
+returns : tie.Need-returns
+unfolding ackVerdict
+returns c = simp (c .timed-verdict .ensures, c .before .gate .ensures, c .before .before .place-ok .ensures)
+
+pub ack-verdict-spec : {M : Type 1} → statement M
+ack-verdict-spec =
+    tie.close (tie.spec place-ok-requires gate-requires timed-verdict-requires returns)

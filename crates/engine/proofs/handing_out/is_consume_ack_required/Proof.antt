@@ -1,0 +1,21 @@
+-- Sound, and above a tenth of the buffer.
+use Rattle.engine.specs.HandingOut.{dueOf}
+use borrow.Author.Tests.{not-true, not-false}
+use mathlib.Core.Path.{sym}
+use borrow.Author.Needs.{needs}
+use Rattle.engine.proofs.handing_out.is_consume_ack_required.Statement.{statement}
+use Rattle.engine.proofs.handing_out.is_consume_ack_required.Tie as tie
+
+is-sound-requires : tie.Need-is-sound-requires
+is-sound-requires c κs = search needs
+
+returns : tie.Need-returns
+unfolding dueOf
+returns c = simp (sym (c .before .is-sound .ensures), not-true (c .before .is-sound .result) (c .if1 .taken))
+
+returns-2 : tie.Need-returns-2
+unfolding dueOf
+returns-2 c = simp (sym (c .before .before .is-sound .ensures), not-false (c .before .before .is-sound .result) (c .before .if1 .left))
+
+pub is-consume-ack-required-spec : {M : Type 1} → statement M
+is-consume-ack-required-spec = tie.close (tie.spec is-sound-requires returns returns-2)

@@ -1,0 +1,21 @@
+-- Both tests of how far back the number is.
+use Rattle.engine.specs.Table.{inTable}
+use borrow.Author.Needs.{needs}
+use Rattle.engine.proofs.table.in_table.Statement.{statement}
+use Rattle.engine.proofs.table.in_table.Tie as tie
+
+since-requires : tie.Need-since-requires
+since-requires c κs = search needs
+
+cast-back : tie.Need-cast-back
+cast-back c = search needs
+
+both-requires : tie.Need-both-requires
+both-requires c κs = search needs
+
+returns : tie.Need-returns
+unfolding inTable
+returns c = simp (c .both .ensures, c .before .before .since .ensures)
+
+pub in-table-spec : {M : Type 1} → statement M
+in-table-spec = tie.close (tie.spec since-requires cast-back both-requires returns)

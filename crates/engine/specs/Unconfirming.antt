@@ -1,0 +1,40 @@
+-- Document 01, "Unconfirm" and "Removing unconfirms, then empties the slot." Assumes nothing.
+use mathlib.Core.Bool.{cond}
+use mathlib.Core.List.{map}
+use Prim.Native.Nat.{ℕ}
+use lib.Dec.{eqb}
+use Rattle.link.specs.Row.{emptyRow, unconfirmedRow}
+use Rattle.engine.specs.declared.state.SentReliableStatus.{SentReliableStatus}
+use Rattle.engine.specs.declared.state.SentReliableStatus.the-variants.{Sent, Received, ResendQueued}
+use Rattle.engine.specs.declared.state.SentReliable.{SentReliable}
+use Rattle.engine.specs.declared.state.State.{State}
+use Rattle.engine.specs.declared.answer.Changed.{Changed}
+use Rattle.engine.specs.Queue.{requeued}
+use Rattle.engine.specs.Rows.{rowOf}
+use Rattle.engine.specs.Answer.{changedBy}
+use Rattle.engine.specs.Gates.{slotVerdict}
+use Rattle.engine.specs.Fields.{withStatus, withPackets, withRow, withTx}
+
+-- "Its Sent packets become ResendQueued, remembering the identity"
+unfoldable pub unconfirmedAs : SentReliableStatus → ℕ → SentReliable → SentReliable
+unconfirmedAs (Sent flight) slot p = cond (eqb (flight .slot) slot) (withStatus p (ResendQueued (flight .link))) p
+unconfirmedAs Received slot p = p
+unconfirmedAs (ResendQueued link) slot p = p
+
+abbrev pub unconfirmedPacket : ℕ → SentReliable → SentReliable
+unconfirmedPacket slot p = unconfirmedAs (p .status) slot p
+
+-- "The link becomes unconfirmed; its mark is cleared, its round trip and flag kept (P). .. the queue stays oldest first."
+unfoldable pub unconfirmedState : State → ℕ → State
+unconfirmedState s slot =
+    withTx (withRow s slot (unconfirmedRow (rowOf s slot)))
+    (requeued (withPackets (s .tx) (map (unconfirmedPacket slot) (s .tx .«txed_packets»))))
+
+unfoldable pub unconfirmOf : State → ℕ → Changed
+unfolding unconfirmedState
+unconfirmOf s slot = changedBy (slotVerdict s slot) s (unconfirmedState s slot)
+
+-- "Removing unconfirms, then empties the slot."
+unfoldable pub removeOf : State → ℕ → Changed
+unfolding unconfirmedState
+removeOf s slot = changedBy (slotVerdict s slot) s (withRow (unconfirmedState s slot) slot emptyRow)

@@ -1,3 +1,0 @@
-pub mod Settle
-pub mod Sweep
-pub mod Ack

@@ -1,2 +1,0 @@
-// The engine's call that adds a link.
-pub mod add;

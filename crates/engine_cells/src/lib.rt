@@ -1,2 +1,0 @@
-// The cells of what was received.
-pub mod cells;

@@ -1,2 +1,0 @@
-// The engine's call that flushes a link.
-pub mod flush;

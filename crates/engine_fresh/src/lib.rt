@@ -1,2 +1,0 @@
-// How the engine's state starts.
-pub mod fresh;

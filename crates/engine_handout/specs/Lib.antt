@@ -1,3 +1,0 @@
-pub mod Ready
-pub mod Show
-pub mod Take

@@ -1,2 +1,0 @@
-// The engine's plain changes of a row: confirming, blocking, pings and the limit mark.
-pub mod changes;

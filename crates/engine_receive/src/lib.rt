@@ -1,2 +1,0 @@
-// The engine's receiving of a message.
-pub mod receive;

@@ -1,2 +1,0 @@
-// The engine's call that sends a packet again.
-pub mod resend;

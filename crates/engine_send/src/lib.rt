@@ -1,2 +1,0 @@
-// The engine's call that sends a message.
-pub mod send;

@@ -1,2 +1,0 @@
-// The engine's calls that unconfirm and remove a link.
-pub mod unconfirm;

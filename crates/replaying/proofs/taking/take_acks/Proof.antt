@@ -1,0 +1,65 @@
+-- As many turns as are left take from there to the same state.
+use mathlib.Core.Path.{_≡_, refl, sym, _∙_, ap}
+use mathlib.Core.Bool.{true, false}
+use native.Mathlib.Omega.{arith}
+use borrow.Author.Tests.{not-true, not-false}
+use Rattle.link.specs.Sizes.{ACKS}
+use Rattle.engine.specs.HandingOut.{takeAckOf}
+use Rattle.replaying.specs.Taking.{isAck, withoutAcks, acks-step, acks-end}
+use Rattle.replaying.proofs.taking.take_acks.Statement.{statement}
+use Rattle.replaying.proofs.taking.take_acks.Tie as tie
+
+abbrev Inv-loop : tie.InvT-loop
+Inv-loop out₀ left₀ out left = withoutAcks left out ≡ withoutAcks ACKS out₀
+
+abbrev μ-loop : tie.MeasureT-loop
+μ-loop out₀ left₀ out left = left
+
+loop-holds : tie.Need-loop-holds Inv-loop μ-loop
+loop-holds c = refl
+
+take-ack-requires : tie.Need-take-ack-requires Inv-loop μ-loop
+take-ack-requires c κs = tt
+
+is-ack-requires : tie.Need-is-ack-requires Inv-loop μ-loop
+is-ack-requires c κs = tt
+
+returns : tie.Need-returns Inv-loop μ-loop
+returns c =
+    let l = c .before .before .before .before .loop in
+    let refused : isAck (takeAckOf (l .out) 0 .answer) ≡ false =
+    sym (ap (λ r. isAck (r .answer)) (c .before .before .take-ack .ensures)) ∙ sym (c .before .is-ack .ensures) ∙ not-true (c .before .is-ack .result) (c .if1 .taken)
+    in
+    sym (acks-step (l .out) (l .left) (c .before .before .before .loop-test .taken) ∙ simp refused) ∙ l .inv
+
+sub-left : tie.Need-sub-left Inv-loop μ-loop
+sub-left c = omega arith
+
+loop-less : tie.Need-loop-less Inv-loop μ-loop
+loop-less c = omega arith
+
+loop-again : tie.Need-loop-again Inv-loop μ-loop
+loop-again c =
+    let l = c .before .before .before .before .before .loop in
+    let taken : isAck (takeAckOf (l .out) 0 .answer) ≡ true =
+    sym (ap (λ r. isAck (r .answer)) (c .before .before .before .take-ack .ensures)) ∙ sym (c .before .before .is-ack .ensures) ∙ not-false (c .before .before .is-ack .result) (c .before .if1 .left)
+    in
+    simp (c .before .before .before .take-ack .ensures) (sym (acks-step (l .out) (l .left) (c .before .before .before .before .loop-test .taken) ∙ simp taken) ∙ l .inv)
+
+returns-2 : tie.Need-returns-2 Inv-loop μ-loop
+returns-2 c = sym (acks-end (c .before .loop .out) (c .before .loop .left) (c .loop-test .left)) ∙ c .before .loop .inv
+
+pub take-acks-spec : {M : Type 1} → statement M
+take-acks-spec =
+    tie.close
+    (tie.spec
+    Inv-loop
+    μ-loop
+    loop-holds
+    take-ack-requires
+    is-ack-requires
+    returns
+    sub-left
+    loop-less
+    loop-again
+    returns-2)

@@ -1,0 +1,65 @@
+-- As many turns as are left take from there to the same state.
+use mathlib.Core.Path.{_≡_, refl, sym, _∙_, ap}
+use mathlib.Core.Bool.{true, false}
+use native.Mathlib.Omega.{arith}
+use borrow.Author.Tests.{not-true, not-false}
+use Rattle.engine.specs.Sizes.{CELLS}
+use Rattle.engine.specs.HandingOut.{takeOf}
+use Rattle.replaying.specs.Taking.{isMessage, withoutReady, ready-step, ready-end}
+use Rattle.replaying.proofs.taking.take_ready.Statement.{statement}
+use Rattle.replaying.proofs.taking.take_ready.Tie as tie
+
+abbrev Inv-loop : tie.InvT-loop
+Inv-loop out₀ left₀ out left = withoutReady left out ≡ withoutReady CELLS out₀
+
+abbrev μ-loop : tie.MeasureT-loop
+μ-loop out₀ left₀ out left = left
+
+loop-holds : tie.Need-loop-holds Inv-loop μ-loop
+loop-holds c = refl
+
+take-requires : tie.Need-take-requires Inv-loop μ-loop
+take-requires c κs = tt
+
+is-message-requires : tie.Need-is-message-requires Inv-loop μ-loop
+is-message-requires c κs = tt
+
+returns : tie.Need-returns Inv-loop μ-loop
+returns c =
+    let l = c .before .before .before .before .loop in
+    let refused : isMessage (takeOf (l .out) .answer) ≡ false =
+    sym (ap (λ r. isMessage (r .answer)) (c .before .before .take .ensures)) ∙ sym (c .before .is-message .ensures) ∙ not-true (c .before .is-message .result) (c .if1 .taken)
+    in
+    sym (ready-step (l .out) (l .left) (c .before .before .before .loop-test .taken) ∙ simp refused) ∙ l .inv
+
+sub-left : tie.Need-sub-left Inv-loop μ-loop
+sub-left c = omega arith
+
+loop-less : tie.Need-loop-less Inv-loop μ-loop
+loop-less c = omega arith
+
+loop-again : tie.Need-loop-again Inv-loop μ-loop
+loop-again c =
+    let l = c .before .before .before .before .before .loop in
+    let taken : isMessage (takeOf (l .out) .answer) ≡ true =
+    sym (ap (λ r. isMessage (r .answer)) (c .before .before .before .take .ensures)) ∙ sym (c .before .before .is-message .ensures) ∙ not-false (c .before .before .is-message .result) (c .before .if1 .left)
+    in
+    simp (c .before .before .before .take .ensures) (sym (ready-step (l .out) (l .left) (c .before .before .before .before .loop-test .taken) ∙ simp taken) ∙ l .inv)
+
+returns-2 : tie.Need-returns-2 Inv-loop μ-loop
+returns-2 c = sym (ready-end (c .before .loop .out) (c .before .loop .left) (c .loop-test .left)) ∙ c .before .loop .inv
+
+pub take-ready-spec : {M : Type 1} → statement M
+take-ready-spec =
+    tie.close
+    (tie.spec
+    Inv-loop
+    μ-loop
+    loop-holds
+    take-requires
+    is-message-requires
+    returns
+    sub-left
+    loop-less
+    loop-again
+    returns-2)

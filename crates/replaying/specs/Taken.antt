@@ -1,0 +1,159 @@
+-- Document 01, "The replay program": "acks and ready messages are taken after each frame". That ACKS and CELLS turns take all: what is asked of
+-- the state holds of every sound one. Assumes nothing.
+use mathlib.Core.Path.{_≡_, refl, sym, _∙_, ap}
+use mathlib.Core.Bool.{true, false}
+use Prim.Native.Nat.{ℕ, zero, suc, _+_, _-_, _^_, _≤_, _<_}
+use native.Mathlib.Omega.{arith}
+use lib.Dec.{eqb}
+use lib.ListN.{length, length-set}
+use lib.Seq.{getD-set-same}
+use borrow.Author.Tests.{eq-eqb, ne-eqb, eqb-false, not-true}
+use borrow.Table.Steps.{cases}
+use Rattle.refusal.specs.declared.verdict.Verdict.{Verdict}
+use Rattle.refusal.specs.Tests.{false-true, split}
+use Rattle.refusal.specs.declared.verdict.Verdict.the-variants as verdicts
+use Rattle.seq.specs.declared.Seq.{Seq}
+use Rattle.seq.specs.Numbers.{plus, minus}
+use Rattle.link.specs.declared.row.LinkRow.{LinkRow}
+use Rattle.link.specs.declared.acks.OldestAck.the-variants as oldest
+use Rattle.link.specs.Acks.{oldestAck, ackTaken}
+use Rattle.link.specs.Row.{noRow}
+use Rattle.engine.specs.declared.state.Held.the-variants as helds
+use Rattle.engine.specs.declared.state.Receiving.{Receiving}
+use Rattle.engine.specs.declared.state.State.{State}
+use Rattle.engine.specs.Sizes.{SLOTS, CELLS}
+use Rattle.engine.specs.Received.{expectedAt}
+use Rattle.engine.specs.Gates.{slotVerdict}
+use Rattle.engine.specs.Rows.{rowOf, row-of}
+use Rattle.engine.specs.declared.handing_out.TakeAck.{TakeAck}
+use Rattle.engine.specs.declared.handing_out.TakeAck.the-variants as acks
+use Rattle.engine.specs.declared.handing_out.HandOut.{HandOut}
+use Rattle.engine.specs.declared.handing_out.HandOut.the-variants as ready
+use Rattle.engine.specs.HandingOut.{takeAckOf, ackAs, ackAnswer, takenAckBy, takenAckState, readyOf, handOutAs, handOutBy, dataLength, takeOf, takeVerdict, takenBy, takenState, takenRx, skipped, canSkip, passedBy}
+use Rattle.engine.specs.Fields.{withRow}
+use Rattle.replaying.specs.Taking.{isAck, isMessage, withoutAcks, withoutReady}
+
+-- ---- acks
+
+none-waiting : (v : Verdict) → isAck (ackAs v oldest.Nothing) ≡ false
+none-waiting verdicts.Pass = refl
+none-waiting (verdicts.No e) = refl
+
+no-ack : (s : State) → rowOf s 0 .«ack_count» ≡ 0 → isAck (takeAckOf s 0 .answer) ≡ false
+unfolding takeAckOf ackAnswer oldestAck
+no-ack s e = simp (eq-eqb (rowOf s 0 .«ack_count») 0 e) (none-waiting (slotVerdict s 0))
+
+taken-by : (a : TakeAck) (s : State) → isAck a ≡ true → takenAckBy a s 0 ≡ takenAckState s 0
+taken-by (acks.Number seq) s e = refl
+taken-by (acks.No r) s e = false-true e
+
+one-less : (r : LinkRow) → (r .«ack_count» ≡ 0 → ⊥) → ackTaken r .«ack_count» ≡ r .«ack_count» - 1
+unfolding ackTaken
+one-less r h = simp (ne-eqb (r .«ack_count») 0 h)
+
+module _ (s : State) (eight : length (s .links) ≡ SLOTS) (t : isAck (takeAckOf s 0 .answer) ≡ true) where
+  some-waiting : rowOf s 0 .«ack_count» ≡ 0 → ⊥
+  some-waiting e = false-true (sym (no-ack s e) ∙ t)
+
+  ack-state : takeAckOf s 0 .state ≡ withRow s 0 (ackTaken (rowOf s 0))
+  unfolding takeAckOf takenAckState
+  ack-state = taken-by (ackAnswer s 0) s t
+
+  ack-links : length (takeAckOf s 0 .state .links) ≡ SLOTS
+  ack-links = ap (λ x. length (x .links)) ack-state ∙ length-set (s .links) 0 (ackTaken (rowOf s 0)) ∙ eight
+
+  ack-count : rowOf (takeAckOf s 0 .state) 0 .«ack_count» ≡ rowOf s 0 .«ack_count» - 1
+  ack-count =
+      ap (λ x. rowOf x 0 .«ack_count») ack-state
+      ∙ ap (λ r. r .«ack_count») (row-of (withRow s 0 (ackTaken (rowOf s 0))) 0 (omega arith))
+      ∙ ap (λ r. r .«ack_count») (getD-set-same (s .links) 0 (ackTaken (rowOf s 0)) noRow (omega (arith, eight)))
+      ∙ one-less (rowOf s 0) some-waiting
+
+-- as many turns as acks wait leave none to take
+pub no-ack-left : (n : ℕ) (s : State) → length (s .links) ≡ SLOTS → rowOf s 0 .«ack_count» ≤ n → isAck (takeAckOf (withoutAcks n s) 0 .answer) ≡ false
+unfolding withoutAcks
+no-ack-left zero s eight h = no-ack s (omega arith)
+no-ack-left (suc n) s eight h =
+    cases (isAck (takeAckOf s 0 .answer))
+    (λ t. simp t (no-ack-left n (takeAckOf s 0 .state) (ack-links s eight t) (omega (arith, ack-count s eight t, some-waiting s eight t))))
+    (λ f. simp f)
+
+-- ---- ready messages
+
+none-ready : (v : Verdict) (seq : Seq) → isMessage (handOutAs v helds.Nothing seq) ≡ false
+none-ready verdicts.Pass seq = refl
+none-ready (verdicts.No e) seq = refl
+
+-- the two numbers are 32 bits wide
+pub record Wide (rx : Receiving) : Type 0 where
+  pub expected : rx .«rx_seq» .0 < 2 ^ 32
+  pub oldest : rx .«rx_oldest» .0 < 2 ^ 32
+
+gap-none : (a b : ℕ) → a < 2 ^ 32 → b < 2 ^ 32 → minus a b ≡ 0 → b ≡ a
+unfolding minus
+gap-none a b p q e = omega arith
+
+gap-less : (a b : ℕ) → a < 2 ^ 32 → b < 2 ^ 32 → (b ≡ a → ⊥) → minus a (plus b 1) + 1 ≡ minus a b
+unfolding minus plus
+gap-less a b p q e = omega arith
+
+plus-wide : (b : ℕ) → plus b 1 < 2 ^ 32
+unfolding plus
+plus-wide b = omega arith
+
+nothing-ready : (rx : Receiving) → rx .«rx_oldest» .0 ≡ rx .«rx_seq» .0 → readyOf CELLS rx ≡ helds.Nothing
+unfolding readyOf
+nothing-ready rx e = simp (eq-eqb (rx .«rx_oldest» .0) (rx .«rx_seq» .0) e)
+
+no-message : (s : State) → s .rx .«rx_oldest» .0 ≡ s .rx .«rx_seq» .0 → isMessage (takeOf s .answer) ≡ false
+unfolding takeOf handOutBy
+no-message s e =
+    ap (λ held. isMessage (handOutAs (takeVerdict s) held (s .rx .«rx_oldest»))) (nothing-ready (s .rx) e)
+    ∙ none-ready (takeVerdict s) (s .rx .«rx_oldest»)
+
+passing : (rx : Receiving) → canSkip CELLS rx ≡ true → rx .«rx_oldest» .0 ≡ rx .«rx_seq» .0 → ⊥
+unfolding canSkip
+passing rx t = eqb-false (rx .«rx_oldest» .0) (rx .«rx_seq» .0) (not-true (eqb (rx .«rx_oldest» .0) (rx .«rx_seq» .0)) (split _ _ t .0))
+
+-- skipping goes on towards the next expected number, and not past it
+skip-near : (k : ℕ) (rx : Receiving) → Wide rx → Wide (skipped CELLS k rx) × (expectedAt (skipped CELLS k rx) ≤ expectedAt rx)
+unfolding skipped passedBy
+skip-near zero rx w = (w, omega arith)
+skip-near (suc k) rx w =
+    cases (canSkip CELLS rx)
+    (λ t.
+    let moved : Wide (passedBy rx) = record { expected = w .expected; oldest = plus-wide (rx .«rx_oldest» .0) } in
+    let less = gap-less (rx .«rx_seq» .0) (rx .«rx_oldest» .0) (w .expected) (w .oldest) (passing rx t) in
+    let rest = skip-near k (passedBy rx) moved in
+    simp t (rest .0, omega (arith, rest .1, less)))
+    (λ f. simp f (w, omega arith))
+
+taken-as : (a : HandOut) (s : State) → isMessage a ≡ true → (bytes : ℕ) × (takenBy a s ≡ takenState s bytes)
+taken-as (ready.Message msg seq len) s e = (dataLength msg len, refl)
+taken-as (ready.No r) s e = false-true e
+
+module _ (s : State) (w : Wide (s .rx)) (t : isMessage (takeOf s .answer) ≡ true) where
+  some-ready : s .rx .«rx_oldest» .0 ≡ s .rx .«rx_seq» .0 → ⊥
+  some-ready e = false-true (sym (no-message s e) ∙ t)
+
+  take-near : (bytes : ℕ) → Wide (takenRx CELLS (s .rx) bytes) × (expectedAt (takenRx CELLS (s .rx) bytes) + 1 ≤ expectedAt (s .rx))
+  unfolding takenRx
+  take-near bytes =
+      let less = gap-less (s .rx .«rx_seq» .0) (s .rx .«rx_oldest» .0) (w .expected) (w .oldest) some-ready in
+      let rest = skip-near CELLS _ (record { expected = w .expected; oldest = plus-wide (s .rx .«rx_oldest» .0) }) in
+      (rest .0, omega (arith, rest .1, less))
+
+  taken-near : Wide (takeOf s .state .rx) × (expectedAt (takeOf s .state .rx) + 1 ≤ expectedAt (s .rx))
+  unfolding takeOf takenState
+  taken-near =
+      let a = taken-as (handOutBy (takeVerdict s) (s .rx)) s t in
+      rw (a .1) (take-near (a .0))
+
+-- as many turns as numbers are ready leave nothing to take
+pub no-message-left : (n : ℕ) (s : State) → Wide (s .rx) → expectedAt (s .rx) ≤ n → isMessage (takeOf (withoutReady n s) .answer) ≡ false
+unfolding withoutReady
+no-message-left zero s w h = no-message s (gap-none (s .rx .«rx_seq» .0) (s .rx .«rx_oldest» .0) (w .expected) (w .oldest) (omega arith))
+no-message-left (suc n) s w h =
+    cases (isMessage (takeOf s .answer))
+    (λ t. let near = taken-near s w t in simp t (no-message-left n (takeOf s .state) (near .0) (omega (arith, near .1))))
+    (λ f. simp f)

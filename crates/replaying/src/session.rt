@@ -1,0 +1,45 @@
+// What a replay keeps between two lines, what a line answers, and how a replay begins.
+use engine::MAX_RECV_BUFFER;
+use engine::State;
+use link::MaxPing;
+use seq::Seq;
+ghost use mathlib.Core.Path.{_≡_};
+ghost use Rattle.replaying.specs.Session.{beginning};
+
+// What the next line is.
+pub enum Waiting {
+    Frame,
+    // the payload of the Data with this number, whose frame was read
+    Payload(Seq),
+}
+
+pub struct Replay {
+    pub state: State,
+    pub waiting: Waiting,
+}
+
+pub enum Answer {
+    // no frame has ended
+    Nothing,
+    // a refusal number, or 0, and the next expected number
+    Line(u8, Seq),
+}
+
+pub struct Answered {
+    pub answer: Answer,
+    pub replay: Replay,
+}
+
+// The round trip, the identity and the flags of link 0 reach no answer: nothing is sent here.
+pub fn begin() -> Replay
+    ensures { λ r. ⌜ r ≡ beginning ⌝ }
+{
+    let made = engine::fresh(Seq::ZERO, MAX_RECV_BUFFER);
+    let empty = made.state;
+    let added = engine::add(empty, 0, 0, MaxPing::Unlimited, false, false);
+    let state = added.state;
+    Replay {
+        state,
+        waiting: Waiting::Frame,
+    }
+}

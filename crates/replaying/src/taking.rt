@@ -1,0 +1,84 @@
+// What is taken after each frame.
+use crate::session::Answer;
+use crate::session::Answered;
+use crate::session::Replay;
+use crate::session::Waiting;
+use engine::CELLS;
+use engine::HandOut;
+use engine::State;
+use engine::TakeAck;
+use link::sizes::ACKS;
+ghost use mathlib.Core.Path.{_≡_};
+ghost use Rattle.link.specs.Sizes.{ACKS};
+ghost use Rattle.engine.specs.Sizes.{CELLS};
+ghost use Rattle.replaying.specs.Taking.{isAck, isMessage, withoutAcks, withoutReady, ended};
+
+fn is_ack(answer: TakeAck) -> bool
+    ensures { λ r. ⌜ r ≡ isAck answer ⌝ }
+{
+    match answer {
+        TakeAck::Number(_) => true,
+        TakeAck::No(_) => false,
+    }
+}
+
+fn is_message(answer: HandOut) -> bool
+    ensures { λ r. ⌜ r ≡ isMessage answer ⌝ }
+{
+    match answer {
+        HandOut::Message(_, _, _) => true,
+        HandOut::No(_) => false,
+    }
+}
+
+// Takes every waiting ack of link 0: there are at most ACKS.
+fn take_acks(s: State) -> State
+    ensures { λ r. ⌜ r ≡ withoutAcks ACKS s ⌝ }
+{
+    let mut out = s;
+    let mut left: usize = ACKS;
+    while 0 < left {
+        let taken = engine::take_ack(out, 0);
+        let answer = taken.answer;
+        if !is_ack(answer) {
+            return out;
+        }
+        out = taken.state;
+        left -= 1;
+    }
+    out
+}
+
+// Takes every ready message: there are at most CELLS.
+fn take_ready(s: State) -> State
+    ensures { λ r. ⌜ r ≡ withoutReady CELLS s ⌝ }
+{
+    let mut out = s;
+    let mut left: usize = CELLS;
+    while 0 < left {
+        let taken = engine::take(out);
+        let answer = taken.answer;
+        if !is_message(answer) {
+            return out;
+        }
+        out = taken.state;
+        left -= 1;
+    }
+    out
+}
+
+// The end of a frame: what is to be taken is taken, and the frame gets its line.
+pub fn end_frame(number: u8, s: State) -> Answered
+    ensures { λ r. ⌜ r ≡ ended number s ⌝ }
+{
+    let state = take_ready(take_acks(s));
+    let rx = state.rx;
+    let next = rx.rx_seq;
+    Answered {
+        answer: Answer::Line(number, next),
+        replay: Replay {
+            state,
+            waiting: Waiting::Frame,
+        },
+    }
+}
