@@ -28,7 +28,7 @@ use Rattle.engine.specs.Receiving.{receiveOf, receiveStore}
 use Rattle.engine.specs.declared.handing_out.HandOut.the-variants as handouts
 use Rattle.engine.specs.declared.handing_out.TakeAck.the-variants as acks
 use Rattle.engine.specs.HandingOut.{shownOf, takeOf, takeAckOf}
-use Rattle.engine.specs.Sizes.{PACKETS, SENT_BYTES}
+use Rattle.engine.specs.Sizes.{PACKETS, RECEIVED_BYTES}
 use Rattle.ends.specs.World.{Msg, upd}
 use Rattle.ends.specs.Model.{Rx, Like, sendOk, sent, resendOk, resent, resentMsg, unconfirmed, acked, near, repeated, received, takeOk, answer, taken}
 use Rattle.ends.specs.Views.{tx, rx, waitingOf, Whole, TxAlone, RxAlone, AcksAlone, Alone}
@@ -116,7 +116,7 @@ pub record ReceivingLaws : Type 0 where
   pub receive-law : (s : State) (store : List ℕ) (slot n : ℕ) (m : Msg) → Whole s → n < 2 ^ 32
       → receiveOf s (length store) slot (m .kind) n (length (m .bytes)) .outcome ≡ outcomes.Done
       → Receives s store slot n m (receiveOf s (length store) slot (m .kind) n (length (m .bytes)) .state) (receiveStore s store slot (m .kind) n (m .bytes))
-  pub take-law : (s : State) (store : List ℕ) (kind : ReliableMsg) (number : Seq) (len : ℕ) → Whole s → length store ≡ SENT_BYTES
+  pub take-law : (s : State) (store : List ℕ) (kind : ReliableMsg) (number : Seq) (len : ℕ) → Whole s → length store ≡ RECEIVED_BYTES
       → takeOf s .answer ≡ handouts.Message kind number len → HandsOut s store kind (takeOf s .state)
   -- with nothing to take, none is ready
   pub none-law : (s : State) (store : List ℕ) → Whole s → takeOf s .answer ≡ handouts.No (refuse 19 tt) → takeOk (rx s store) ≡ false

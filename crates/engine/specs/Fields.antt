@@ -134,6 +134,7 @@ withBytes rx a b = record {
 
 -- ---- the state
 
+-- all of its parts; `s` is for a field that no call changes together with these
 abbrev pub withParts : State → List LinkRow → Sending → Receiving → ℕ → State
 withParts s links tx rx time = record { links = links; tx = tx; rx = rx; time = time }
 
