@@ -15,7 +15,9 @@ from model import WRAP, Model
 
 ROOT = os.path.dirname(os.path.dirname(os.path.abspath(__file__)))
 DRIVER = os.path.join(ROOT, "target", "oracle", "driver")
-PORT = os.environ.get("PORT", "./run calls")
+# Proves and builds the port, and runs it; and runs what was built.
+PROVED, BUILT = "./run calls", "./run --built calls"
+PORT = os.environ.get("PORT", PROVED)
 
 # Lines in one run of the port while a script is made small.
 LINES_A_RUN = 20000
@@ -30,13 +32,15 @@ class Sides:
         self.driver = driver
 
     def make_ready(self):
-        """Runs the port once on no script. `./run` proves and builds first: here once, with all the time it takes, and not in every worker."""
+        """Runs the port once on no script. `./run` proves and builds first: here once, with all the time it takes; what runs then is the built program."""
         try:
             done = subprocess.run(self.port, stdin=subprocess.DEVNULL, stdout=subprocess.DEVNULL, cwd=ROOT, check=False)
         except OSError as why:
             sys.exit("the port's command cannot be run: %s" % why)
         if done.returncode:
             sys.exit("nothing was compared, since the port's command failed: " + " ".join(self.port))
+        if self.port == shlex.split(PROVED):
+            self.port = shlex.split(BUILT)
 
     def answers(self, lines):
         """For each line of a script, what the port and the original answered."""

@@ -529,7 +529,7 @@ JUNK = (
     "write 10 14 2",
     "write 10 7 4294967296",
     "due 1",
-    "slow 0",
+    "slow 10",
     "takeack",
     "# dump",
 )

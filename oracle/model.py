@@ -190,7 +190,9 @@ class End:
         self.unconfirm(slot)
         self.links[slot] = None
 
-    def slow(self):
+    def slow(self, rows):
+        if rows != SLOTS:
+            raise Refused(4)
         confirmed = [(slot, link) for slot, link in enumerate(self.links) if link and not link.unconfirmed]
         above = [slot for slot, link in confirmed if link.max_ping is not None and link.roundtrip > link.max_ping]
         if all(link.blocked or link.max_ping is None or slot in above for slot, link in confirmed):
@@ -567,7 +569,7 @@ def reason(word):
 # What a message has after its kind.
 WORDS = {kind: [u32] for kind in NUMBERED}
 WORDS.update({kind: [] for kind in HANDSHAKES + ALONE})
-WORDS.update({REFUSED: [reason], CONSUMED: [u32, u32], TEST_DATA: [u64], SET_BLOCK: [flag]})
+WORDS.update({REFUSED: [reason], CONSUMED: [u32, u32], TEST_DATA: [u32], SET_BLOCK: [flag]})
 
 CALLS = {
     "fresh": [u32, u32],
@@ -588,7 +590,7 @@ CALLS = {
     "take": [],
     "takeack": [u8],
     "due": [],
-    "slow": [],
+    "slow": [number_below(SLOTS + 2)],
     "dump": [],
     "read": [data],
     "lend": [store, number_below(MOST_LENT + 1)],
@@ -603,6 +605,8 @@ def parse(line):
         if len(words) < 2:
             raise NotACall
         return name, [number_below(MOST_BYTES + 1)(words[0]), parse_message(words[1:])]
+    if name == "slow" and not words:
+        words = [str(SLOTS)]
     types = CALLS.get(name)
     if types is None or len(types) != len(words):
         raise NotACall
@@ -675,7 +679,7 @@ class Model:
         elif name == "due":
             return [" %d" % end.due()]
         elif name == "slow":
-            return [" %d" % slot for slot in end.slow()]
+            return [" %d" % slot for slot in end.slow(*args)]
         elif name == "dump":
             return ["\n" + line for line in end.dump() + ["."]]
         else:

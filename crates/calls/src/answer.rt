@@ -146,8 +146,13 @@ fn listed(out: &mut Buffer, at: usize, links: SlowLinks) -> usize {
     end
 }
 
-pub fn slow(out: &mut Buffer, at: usize, links: SlowLinks) -> usize {
-    let a = out::put(out, at, b"0");
-    let b = listed(out, a, links);
-    out::end(out, b)
+pub fn slow(out: &mut Buffer, at: usize, outcome: Outcome, links: SlowLinks) -> usize {
+    match outcome {
+        Outcome::Done => {
+            let a = out::put(out, at, b"0");
+            let b = listed(out, a, links);
+            out::end(out, b)
+        }
+        Outcome::No(e) => no(out, at, e),
+    }
 }

@@ -3,6 +3,7 @@ use crate::kinds;
 use crate::kinds::Reliable;
 use crate::message;
 use crate::message::Message;
+use crate::rows::MOST_ROWS;
 use crate::words;
 use crate::words::Byte;
 use crate::words::Bytes;
@@ -13,6 +14,7 @@ use crate::words::Words;
 use crate::words::word;
 use engine::RECEIVED_BYTES;
 use engine::SENT_BYTES;
+use engine::SLOTS;
 use link::MaxPing;
 use msg::LinkMsg;
 use msg::ReliableMsg;
@@ -33,7 +35,8 @@ pub enum Plain {
     Take,
     TakeAck(u8),
     Due,
-    Slow,
+    // with how many rows are lent
+    Slow(usize),
     LendSent(usize),
     LendReceived(usize),
 }
@@ -76,7 +79,7 @@ fn alone(name: &[u8]) -> Call {
         return Call::OnState(Plain::Due);
     }
     if check::same(name, b"slow") {
-        return Call::OnState(Plain::Slow);
+        return Call::OnState(Plain::Slow(SLOTS));
     }
     if check::same(name, b"dump") {
         return Call::OnStores(Stored::Dump);
@@ -107,10 +110,20 @@ fn read(bytes: &[u8], payload: &mut [u8]) -> Call {
     }
 }
 
+fn slow(rows: &[u8]) -> Call {
+    match text::read_decimal(rows, MOST_ROWS as u64) {
+        Decimal::Number(n) => Call::OnState(Plain::Slow(n as usize)),
+        Decimal::Bad => Call::Unknown,
+    }
+}
+
 // A call of two words.
 fn short(name: &[u8], a: &[u8], payload: &mut [u8]) -> Call {
     if check::same(name, b"read") {
         return read(a, payload);
+    }
+    if check::same(name, b"slow") {
+        return slow(a);
     }
     match words::byte_of(a) {
         Byte::Is(slot) => slotted(name, slot),

@@ -104,7 +104,7 @@ fn lines(
     next
 }
 
-// Reads once.
+// Writes out the answers to what was read, so that whoever asks has them before more is read, and reads once.
 fn read_on(
     s: Session,
     input: &mut Piece,
@@ -114,16 +114,20 @@ fn read_on(
     received: &mut ReceivedStore,
     out: &mut Buffer,
 ) -> Session {
+    if !out::write_out(out, s.at) {
+        return s.cut_off();
+    }
+    let told = s.to(0);
     let got = libc::read(STDIN_FILENO, input);
     if got < 0 {
         out::complain(b"calls: standard input cannot be read\n");
-        return s.at_end();
+        return told.at_end();
     }
     if got == 0 {
-        return s.at_end();
+        return told.at_end();
     }
     let n = io::count(got, input);
-    lines(s, first(input, n), line, payload, sent, received, out)
+    lines(told, first(input, n), line, payload, sent, received, out)
 }
 
 // Reads to the end of the input. A proved loop has to end, and nothing says that the input does, so that the turns are

@@ -6,6 +6,7 @@ mod input;
 mod kinds;
 mod message;
 mod out;
+mod rows;
 mod run;
 mod session;
 mod words;

@@ -11,7 +11,6 @@ use crate::words::word;
 use msg::LinkMsg;
 use msg::RefusedReason;
 use seq::Seq;
-use text::Decimal;
 
 pub enum Message {
     Is(LinkMsg),
@@ -90,9 +89,9 @@ fn test_data(line: &[u8], w: Words) -> Message {
     if w.count != KIND + 2 {
         return Message::Bad;
     }
-    match words::long_of(word(line, w, KIND + 1)) {
-        Decimal::Number(n) => Message::Is(LinkMsg::TestData { size: n as usize }),
-        Decimal::Bad => Message::Bad,
+    match words::number_of(word(line, w, KIND + 1)) {
+        Number::Is(n) => Message::Is(LinkMsg::TestData { size: n as usize }),
+        Number::Bad => Message::Bad,
     }
 }
 

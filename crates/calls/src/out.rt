@@ -8,19 +8,27 @@ pub fn complain(what: &[u8]) {
     io::write_all(STDERR_FILENO, what);
 }
 
-fn write(part: &[u8]) {
-    if !io::write_all(STDOUT_FILENO, part) {
-        complain(b"calls: standard output cannot be written\n");
+// Whether a part could be written; where not, it is told.
+fn write(part: &[u8]) -> bool {
+    if io::write_all(STDOUT_FILENO, part) {
+        return true;
     }
+    complain(b"calls: standard output cannot be written\n");
+    false
 }
 
-// Writes out what the buffer holds.
-pub fn flush(out: &[u8], at: usize) -> usize {
+// Writes out what the buffer holds, and answers whether it could be written.
+pub fn write_out(out: &[u8], at: usize) -> bool {
     if at <= out.len() {
-        write(&out[0..at]);
-    } else {
-        complain(b"calls: a place past the output buffer\n");
+        return write(&out[0..at]);
     }
+    complain(b"calls: a place past the output buffer\n");
+    false
+}
+
+// Makes room in the buffer.
+pub fn flush(out: &[u8], at: usize) -> usize {
+    write_out(out, at);
     0
 }
 

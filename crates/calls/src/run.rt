@@ -9,6 +9,7 @@ use crate::dump;
 use crate::message;
 use crate::out;
 use crate::out::Buffer;
+use crate::rows;
 use crate::session::Session;
 use crate::words::first;
 use engine::Changed;
@@ -212,9 +213,13 @@ fn due(s: Session, out: &mut Buffer) -> Session {
     s.to(at)
 }
 
-fn slow(s: Session, out: &mut Buffer) -> Session {
+fn slow(s: Session, n: usize, out: &mut Buffer) -> Session {
     let state = s.state;
-    let at = answer::slow(out, s.at, engine::slow_links(state));
+    let links = state.links;
+    let told = rows::slow(links, n);
+    let outcome = told.outcome;
+    let listed = told.links;
+    let at = answer::slow(out, s.at, outcome, listed);
     s.to(at)
 }
 
@@ -309,7 +314,7 @@ fn on_state(s: Session, call: Plain, out: &mut Buffer) -> Session {
         Plain::Take => take(s, out),
         Plain::TakeAck(slot) => take_ack(s, slot, out),
         Plain::Due => due(s, out),
-        Plain::Slow => slow(s, out),
+        Plain::Slow(n) => slow(s, n, out),
         Plain::LendSent(n) => lend_sent(s, n, out),
         Plain::LendReceived(n) => lend_received(s, n, out),
     }

@@ -69,6 +69,12 @@ impl Session {
         out.is_long = false;
         out
     }
+
+    // With nobody to tell what more there is: no line that was begun is answered.
+    pub fn cut_off(self) -> Session {
+        self.to(0).on_new_line().at_end()
+    }
+
     // With nothing more to read.
     pub fn at_end(self) -> Session {
         let mut out = self;

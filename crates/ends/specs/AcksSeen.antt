@@ -19,8 +19,7 @@ use Rattle.engine.specs.Rows.{rowOf, row-of}
 use Rattle.engine.specs.Sound.{rowAt}
 use Rattle.engine.specs.Sizes.{SLOTS}
 use Rattle.laws.specs.RowAcks.{SameAcks}
-use Rattle.ends.specs.World.{upd}
-use Rattle.ends.specs.Views.{valueOf, waitingOf, AcksAlone}
+use Rattle.ends.specs.Views.{valueOf, waitingOf, upd, AcksAlone}
 
 -- ---- a row that keeps its waiting acks
 

@@ -1,7 +1,7 @@
 -- What a call at `a` did to the two ends, by its law: one case for each change of Model, and one where nothing was seen to change,
 -- as after a refusal. Assumes nothing.
 use mathlib.Core.Path.{_≡_, refl, sym, subst}
-use mathlib.Core.List.{List, []}
+use mathlib.Core.List.{List}
 use Prim.Native.Nat.{ℕ, _^_, _<_}
 use lib.ListN.{length}
 use Rattle.seq.specs.declared.Seq.{Seq}
@@ -34,7 +34,7 @@ use Rattle.engine.specs.declared.handing_out.TakeAck.{TakeAck as AckAnswer}
 use Rattle.engine.specs.declared.handing_out.TakeAck.the-variants as acks
 use Rattle.engine.specs.HandingOut.{shownOf, takeOf, takeAckOf}
 use Rattle.engine.specs.Sizes.{RECEIVED_BYTES}
-use Rattle.ends.specs.World.{Msg, Packet, Ack, End, World, after, moved, owing, addBy, addAt, removeBy, removeAt, sendBy, sendAt, resendBy, resendAt, receiveBy, receiveAt, takeBy, takeAt, takeAckBy, takeAckAt, Brought, BroughtAck, Timely, Call, Add, Remove, Confirm, Unconfirm, Block, Mark, Ping, Pong, Flush, Send, Resend, Receive, Acked, Take, TakeAck}
+use Rattle.ends.specs.World.{Msg, Packet, End, World, after, moved, sendBy, sendAt, resendBy, resendAt, receiveBy, receiveAt, takeBy, takeAt, takeAckBy, takeAckAt, Brought, Timely, TimelyAck, Call, Add, Remove, Confirm, Unconfirm, Block, Mark, Ping, Pong, Flush, Send, Resend, Receive, Acked, Take, TakeAck}
 use Rattle.ends.specs.Model.{Tx, Like}
 use Rattle.ends.specs.Views.{tx, Whole, Alone}
 use Rattle.ends.specs.Laws.{Laws, Keeps, Sends, Resends, Acks, Unconfirms, Removes, Receives, HandsOut, TakesAck, AddsLink}
@@ -46,23 +46,23 @@ pub data Did (W : World) : World → Type 0 where
       → Did W (sendBy (sends.Number number) W m s store)
   resent : (slot n : ℕ) (kind : ReliableMsg) (len : ℕ) (s : State) → n < 2 ^ 32 → Whole s → Resends (W .a .state) (W .a .sent) slot n kind len s
       → Did W (resendBy (resends.Message kind len) W n s)
-  acked : (slot : ℕ) (x : Ack) (s : State) → BroughtAck x (W .ba) → Timely (x .index) (W .a) → Whole s → Acks (W .a .state) slot (x .number) s
+  acked : (slot n : ℕ) (s : State) → TimelyAck n (W .a) (W .b) → Whole s → Acks (W .a .state) slot n s
       → Did W (moved W (after (W .a) s))
   unconfirmed : (slot : ℕ) (s : State) → Whole s → Unconfirms (W .a .state) slot s → Did W (moved W (after (W .a) s))
-  removed : (slot : ℕ) (s : State) → Whole s → Removes (W .a .state) slot s → Did W (moved W (owing (after (W .a) s) slot []))
-  added : (slot : ℕ) (s : State) → Whole s → AddsLink (W .a .state) slot s → Did W (moved W (owing (after (W .a) s) slot []))
+  removed : (slot : ℕ) (s : State) → Whole s → Removes (W .a .state) slot s → Did W (moved W (after (W .a) s))
+  added : (slot : ℕ) (s : State) → Whole s → AddsLink (W .a .state) slot s → Did W (moved W (after (W .a) s))
   received : (slot : ℕ) (p : Packet) (s : State) (store : List ℕ) → Brought p (W .ba) → Timely (p .index) (W .b) → Whole s
-      → Receives (W .a .state) (W .a .received) slot (p .number) (p .msg) s store → Did W (moved W (receiveBy outcomes.Done (W .a) slot p s store))
+      → Receives (W .a .state) (W .a .received) slot (p .number) (p .msg) s store → Did W (moved W (receiveBy outcomes.Done (W .a) p s store))
   took : (kind : ReliableMsg) (number : Seq) (len : ℕ) (s : State) → Whole s → HandsOut (W .a .state) (W .a .received) kind s
       → Did W (moved W (takeBy (handouts.Message kind number len) (W .a) (shownOf (W .a .state) (W .a .received)) s))
-  took-ack : (slot : ℕ) (number : Seq) (s : State) → Whole s → TakesAck (W .a .state) slot number s → Did W (takeAckBy (acks.Number number) W slot s)
+  took-ack : (slot : ℕ) (number : Seq) (s : State) → Whole s → TakesAck (W .a .state) slot number s → Did W (takeAckBy (acks.Number number) W s)
 
 -- the state after it
 pub whole-after : {W X : World} → Did W X → Whole (X .a .state)
 whole-after (still s whole law) = whole
 whole-after (sent slot m number s store whole law) = whole
 whole-after (resent slot n kind len s n32 whole law) = whole
-whole-after (acked slot x s brought timely whole law) = whole
+whole-after (acked slot n s timely whole law) = whole
 whole-after (unconfirmed slot s whole law) = whole
 whole-after (removed slot s whole law) = whole
 whole-after (added slot s whole law) = whole
@@ -75,7 +75,7 @@ pub other-end : {W X : World} → Did W X → X .b ≡ W .b
 other-end (still s whole law) = refl
 other-end (sent slot m number s store whole law) = refl
 other-end (resent slot n kind len s n32 whole law) = refl
-other-end (acked slot x s brought timely whole law) = refl
+other-end (acked slot n s timely whole law) = refl
 other-end (unconfirmed slot s whole law) = refl
 other-end (removed slot s whole law) = refl
 other-end (added slot s whole law) = refl
@@ -86,7 +86,7 @@ other-end (took-ack slot number s whole law) = refl
 -- ---- nothing is seen to change
 
 like : (t : Tx) → Like t t
-like t = record { next-same = refl; count-same = refl; store-same = refl; length-same = refl; table-same = λ n h. refl }
+like t = record { next-same = refl; count-same = refl; store-same = refl; length-same = refl; table-same = λ n u h. refl }
 
 alone : (s : State) → Alone s s
 alone s = record { tx-alone = λ store. like (tx s store); rx-alone = λ store. refl; acks-alone = λ slot. refl }
@@ -97,7 +97,7 @@ refused W s whole e = subst (λ (x : State). Did W (moved W (after (W .a) x))) (
 
 -- .. that was lent a store
 refused-sent : (W : World) (s : State) (store : List ℕ) → Whole (W .a .state) → s ≡ W .a .state → store ≡ W .a .sent
-    → Did W (moved W (record { state = s; sent = store; received = W .a .received; given = W .a .given; out = W .a .out; accepted = W .a .accepted; owed = W .a .owed }))
+    → Did W (moved W (record { state = s; sent = store; received = W .a .received; given = W .a .given; out = W .a .out; accepted = W .a .accepted }))
 refused-sent W s store whole e f = subst (λ (x : End). Did W (moved W x)) (λ d. record {
   state = s;
   sent = sym f d;
@@ -105,11 +105,10 @@ refused-sent W s store whole e f = subst (λ (x : End). Did W (moved W x)) (λ d
   given = W .a .given;
   out = W .a .out;
   accepted = W .a .accepted;
-  owed = W .a .owed;
 }) (refused W s whole e)
 
 refused-received : (W : World) (s : State) (store : List ℕ) → Whole (W .a .state) → s ≡ W .a .state → store ≡ W .a .received
-    → Did W (moved W (record { state = s; sent = W .a .sent; received = store; given = W .a .given; out = W .a .out; accepted = W .a .accepted; owed = W .a .owed }))
+    → Did W (moved W (record { state = s; sent = W .a .sent; received = store; given = W .a .given; out = W .a .out; accepted = W .a .accepted }))
 refused-received W s store whole e f = subst (λ (x : End). Did W (moved W x)) (λ d. record {
   state = s;
   sent = W .a .sent;
@@ -117,7 +116,6 @@ refused-received W s store whole e f = subst (λ (x : End). Did W (moved W x)) (
   given = W .a .given;
   out = W .a .out;
   accepted = W .a .accepted;
-  owed = W .a .owed;
 }) (refused W s whole e)
 
 -- the state after a call that is whole, by its laws
@@ -127,7 +125,7 @@ whole-by w k = let both = k (w .shaped) (w .sound) in record { shaped = both .0;
 -- ---- each call
 
 module _ (L : Laws) (W : World) (whole : Whole (W .a .state)) (store-fits : length (W .a .received) ≡ RECEIVED_BYTES)
-    (numbers : (p : Packet) → Brought p (W .ba) → p .number < 2 ^ 32) (ack-numbers : (x : Ack) → BroughtAck x (W .ba) → x .number < 2 ^ 32) where
+    (numbers : (p : Packet) → Brought p (W .ba) → p .number < 2 ^ 32) (ack-numbers : (n : ℕ) → TimelyAck n (W .a) (W .b) → n < 2 ^ 32) where
   abbrev S : State
   S = W .a .state
 
@@ -135,13 +133,13 @@ module _ (L : Laws) (W : World) (whole : Whole (W .a .state)) (store-fits : leng
   seen-alone s k law = still s (whole-by whole k) law
 
   pub did : {X : World} → Call W X → Did W X
-  unfolding addAt removeAt sendAt resendAt receiveAt takeAt takeAckAt
+  unfolding sendAt resendAt receiveAt takeAt takeAckAt
   did (Add id roundtrip max blocked untested) = go (r .answer) refl
     where
       r : Added
       r = addOf S id roundtrip max blocked untested
 
-      go : (a : AddAnswer) → r .answer ≡ a → Did W (moved W (addBy a (after (W .a) (r .state))))
+      go : (a : AddAnswer) → r .answer ≡ a → Did W (moved W (after (W .a) (r .state)))
       go (adds.Slot slot) q = let law = L .receiving .add-law S id roundtrip max blocked untested slot whole q in
           added slot (r .state) (whole-by whole (L .sounding .add-sound S id roundtrip max blocked untested)) law
       go (adds.No e) q = refused W (r .state) whole (add-no S e id roundtrip max blocked untested q)
@@ -150,7 +148,7 @@ module _ (L : Laws) (W : World) (whole : Whole (W .a .state)) (store-fits : leng
       r : Changed
       r = removeOf S slot
 
-      go : (o : Outcome) → r .outcome ≡ o → Did W (moved W (removeBy o slot (after (W .a) (r .state))))
+      go : (o : Outcome) → r .outcome ≡ o → Did W (moved W (after (W .a) (r .state)))
       go outcomes.Done q = let law = L .sending .remove-law S slot whole q in removed slot (r .state) (whole-by whole (L .sounding .remove-sound S slot)) law
       go (outcomes.No e) q = refused W (r .state) whole (remove-no S e slot q)
   did (Confirm slot) = seen-alone (confirmOf S slot .state) (L .sounding .confirm-sound S slot) (L .receiving .confirm-law S slot whole)
@@ -196,20 +194,20 @@ module _ (L : Laws) (W : World) (whole : Whole (W .a .state)) (store-fits : leng
       store : List ℕ
       store = receiveStore S (W .a .received) slot (p .msg .kind) (p .number) (p .msg .bytes)
 
-      go : (o : Outcome) → r .outcome ≡ o → Did W (moved W (receiveBy o (W .a) slot p (r .state) store))
+      go : (o : Outcome) → r .outcome ≡ o → Did W (moved W (receiveBy o (W .a) p (r .state) store))
       go outcomes.Done q = let law = L .receiving .receive-law S (W .a .received) slot (p .number) (p .msg) whole (numbers p brought) q in
           received slot p (r .state) store brought timely
           (whole-by whole (L .sounding .receive-sound S (length (W .a .received)) slot (p .msg .kind) (p .number) (length (p .msg .bytes)) (numbers p brought))) law
       go (outcomes.No e) q = let kept = receive-no S e (W .a .received) slot (p .msg .kind) (p .number) (p .msg .bytes) q in refused-received W (r .state) store whole (kept .0) (kept .1)
-  did (Acked slot time x brought timely) = go (r .outcome) refl
+  did (Acked slot time n brought timely) = go (r .outcome) refl
     where
       r : Changed
-      r = ackOf S slot time (x .number)
+      r = ackOf S slot time n
 
       go : (o : Outcome) → r .outcome ≡ o → Did W (moved W (after (W .a) (r .state)))
-      go outcomes.Done q = let law = L .sending .ack-law S slot time (x .number) whole (ack-numbers x brought) q in
-          acked slot x (r .state) brought timely (whole-by whole (L .sounding .ack-sound S slot time (x .number) (ack-numbers x brought))) law
-      go (outcomes.No e) q = refused W (r .state) whole (ack-no S e slot time (x .number) q)
+      go outcomes.Done q = let law = L .sending .ack-law S slot time n whole (ack-numbers n timely) q in
+          acked slot n (r .state) timely (whole-by whole (L .sounding .ack-sound S slot time n (ack-numbers n timely))) law
+      go (outcomes.No e) q = refused W (r .state) whole (ack-no S e slot time n q)
   did Take = go (r .answer) refl
     where
       r : TakeResult
@@ -224,7 +222,7 @@ module _ (L : Laws) (W : World) (whole : Whole (W .a .state)) (store-fits : leng
       r : TakeAckResult
       r = takeAckOf S slot
 
-      go : (a : AckAnswer) → r .answer ≡ a → Did W (takeAckBy a W slot (r .state))
+      go : (a : AckAnswer) → r .answer ≡ a → Did W (takeAckBy a W (r .state))
       go (acks.Number number) q = let law = L .receiving .take-ack-law S slot number whole q in
           took-ack slot number (r .state) (whole-by whole (L .sounding .take-ack-sound S slot)) law
       go (acks.No e) q = refused W (r .state) whole (take-ack-no S e slot q)

@@ -2,18 +2,16 @@
 -- Assumes nothing.
 use mathlib.Core.Path.{_≡_, refl, sym, _∙_, ap}
 use mathlib.Core.Bool.{Bool, true, false, cond}
-use mathlib.Core.List.{List·Memᴰ}
 use Prim.Native.Nat.{ℕ, _+_, _-_, _≤_, _<_}
 use native.Mathlib.Omega.{arith}
 use native.Mathlib.Decide.{decLt, decLe, ℕ-discrete}
 use lib.ListN.{length, getD, set}
 use borrow.Author.Tests.{le-leb, eq-eqb}
-use Rattle.ends.specs.World.{Ack}
-use Rattle.ends.specs.Wrap.{diff, cell}
+use Rattle.ends.specs.Wrap.{num, diff, cell}
 use Rattle.ends.specs.Model.{Pkt, noPkt, Status, SentOn, Queued, Received, Tx, isQueued, isReceived, inTable, pktAt, withStatus, withCells, settled, settledPkt, sweep, acked}
 use Rattle.ends.specs.OneWay.{Way, Move, send, resend, unconfirm, relabel, ack, again, receive, Moves, none, _and_, onAck}
 use Rattle.ends.specs.OneWay
-use Rattle.ends.specs.Inv.{pos, pktOf, AckIs}
+use Rattle.ends.specs.Inv.{pos, pktOf}
 use Rattle.ends.specs.TxLaws.{hit, miss, length-snoc, swept-le}
 use Rattle.ends.specs.TxKeeps.{map-received, like-at}
 use Rattle.ends.specs.RxKeeps.{Kept}
@@ -47,15 +45,12 @@ unfolding state
 state-count slot n t true = refl
 state-count slot n t false = refl
 
-done-ack-any : (w : Way) → length (w .tx .cells) ≡ PACKETS → (slot : ℕ) (a : Ack) (j : ℕ) → Done w j → Done (onAck slot a w) j
+done-ack-any : (w : Way) → length (w .tx .cells) ≡ PACKETS → (slot n : ℕ) (j : ℕ) → Done w j → Done (onAck slot n w) j
 unfolding state
-done-ack-any w l slot a j d j<N q = go (inTable (a .number) (w .tx)) q
+done-ack-any w l slot n j d j<N q = go (inTable n (w .tx)) q
   where
     t : Tx
     t = w .tx
-
-    n : ℕ
-    n = a .number
 
     new : Pkt
     new = settledPkt slot (pktAt t n)
@@ -87,47 +82,38 @@ done-move (resend {w} slot n n32 ok) k quiet j d = λ j<N p. place j<N p (ℕ-di
 done-move (unconfirm {w} slot) k quiet j d = λ j<N p. map-received slot (w .tx .cells) (pos (w .start) j) ∙ d j<N p
 done-move (relabel {w} t l) k quiet j d = λ j<N p. let p′ : length (w .given) ≤ j + w .tx .count = rw (l .count-same) at p in
     ap (λ (x : Pkt). isReceived (x .status)) (like-at w (k .e) (k .o) (k .inv) t l j j<N p′) ∙ d j<N p′
-done-move (ack {w} slot a h t) k quiet j d = done-ack-any w (k .inv .txi .tcells) slot a j d
+done-move (ack {w} slot n p h q t) k quiet j d = done-ack-any w (k .inv .txi .tcells) slot n j d
 done-move (again {w} p h t same) k quiet j d = d
 done-move (receive {w} p h t new close) k quiet j d = d
 done-move (OneWay.take {w} ok) k quiet j d = d
 
 -- an ack that comes where the packet was Sent
-pub done-ack : (w : Way) (k : Kept w) (slot : ℕ) (a : Ack) → List·Memᴰ a (w .acks) → pktOf (w .tx) (pos (w .start) (a .index)) .status ≡ SentOn slot → Done (onAck slot a w) (a .index)
+pub done-ack : (w : Way) (k : Kept w) (slot n i : ℕ) → n ≡ num (w .start) i → pktOf (w .tx) (pos (w .start) i) .status ≡ SentOn slot → Done (onAck slot n w) i
 unfolding state
-done-ack w k slot a h sent j<N q = go (decLe (length (w .given)) (a .index + t .count))
+done-ack w k slot n i n-is sent j<N q = go (decLe (length (w .given)) (i + t .count))
   where
     t : Tx
     t = w .tx
 
-    n : ℕ
-    n = a .number
-
-    a-is : AckIs (w .start) (w .given) (w .rx) (k .e) (k .o) a
-    a-is = k .inv .acks-ok a h
-
     new : Pkt
     new = settledPkt slot (pktAt t n)
 
-    k-is : pos (w .start) (a .index) ≡ cell n
-    k-is = omega (arith, a-is .number-is)
+    k-is : pos (w .start) i ≡ cell n
+    k-is = omega (arith, n-is)
 
-    go : Dec (length (w .given) ≤ a .index + t .count) → isReceived (pktOf (state slot n t (inTable n t)) (pos (w .start) (a .index)) .status) ≡ true
+    go : Dec (length (w .given) ≤ i + t .count) → isReceived (pktOf (state slot n t (inTable n t)) (pos (w .start) i) .status) ≡ true
     go (no y) = absurd (y (omega (arith, q, sweep-le (state slot n t (inTable n t)), state-count slot n t (inTable n t))))
-    go (yes y) = rw here-it (ap (λ (x : Pkt). isReceived (x .status)) (hit (t .cells) (cell n) (pos (w .start) (a .index)) new noPkt (omega (arith, k .inv .txi .tcells)) k-is)
+    go (yes y) = rw here-it (ap (λ (x : Pkt). isReceived (x .status)) (hit (t .cells) (cell n) (pos (w .start) i) new noPkt (omega (arith, k .inv .txi .tcells)) k-is)
         ∙ rw (← k-is, sent, eq-eqb slot slot refl) refl)
       where
-        inside : a .index < length (w .given)
-        inside = a-is .inside
-
         room : t .count ≤ PACKETS
         room = k .inv .txi .room
 
-        back-is : diff (t .next) n ≡ length (w .given) - a .index
-        back-is = omega (arith, a-is .number-is, k .inv .txi .next-is, inside, room)
+        back-is : diff (t .next) n ≡ length (w .given) - i
+        back-is = omega (arith, n-is, k .inv .txi .next-is, j<N, room)
 
         here-it : inTable n t ≡ true
-        here-it = rw (le-leb 1 (diff (t .next) n) (omega (arith, back-is, inside))) (le-leb (diff (t .next) n) (t .count) (omega (arith, back-is, inside)))
+        here-it = rw (le-leb 1 (diff (t .next) n) (omega (arith, back-is, j<N))) (le-leb (diff (t .next) n) (t .count) (omega (arith, back-is, j<N)))
 
 pub all-done : (w : Way) → Kept w → ((j : ℕ) → j < length (w .given) → Done w j) → w .tx .count ≡ 0
 all-done w k d = go (decLt 0 (w .tx .count))
@@ -144,7 +130,7 @@ move-grows (send {w} slot m ok) = omega (arith, length-snoc (w .given) m)
 move-grows (resend {w} slot n n32 ok) = omega arith
 move-grows (unconfirm {w} slot) = omega arith
 move-grows (relabel {w} t l) = omega arith
-move-grows (ack {w} slot a h t) = omega arith
+move-grows (ack {w} slot n p h q t) = omega arith
 move-grows (again {w} p h t same) = omega arith
 move-grows (receive {w} p h t new close) = omega arith
 move-grows (OneWay.take {w} ok) = omega arith

@@ -11,7 +11,7 @@ use Rattle.engine.specs.declared.state.Held.the-variants.{Message}
 use Rattle.engine.specs.declared.state.RxCell.{RxCell}
 use Rattle.engine.specs.Received.{noCell, isFull, isReadyKind}
 use Rattle.engine.specs.Sizes.{PACKETS, DATA_BYTES, SENT_BYTES, CELLS, RECEIVED_BYTES}
-use Rattle.ends.specs.World.{Msg, Packet, Ack}
+use Rattle.ends.specs.World.{Msg, Packet}
 use Rattle.ends.specs.Demand.{noMsg, handed}
 use Rattle.ends.specs.Wrap.{num}
 use Rattle.ends.specs.Store.{getCell}
@@ -88,10 +88,10 @@ pub record PacketIs (s : ℕ) (G : List Msg) (p : Packet) : Type 0 where
   pub number-is : p .number ≡ num s (p .index)
   pub msg-is : p .msg ≡ at G (p .index)
 
-pub record AckIs (s : ℕ) (G : List Msg) (r : Rx) (e o : ℕ) (a : Ack) : Type 0 where
-  pub inside : a .index < length G
-  pub number-is : a .number ≡ num s (a .index)
-  pub has : Has s r e o (a .index)
+-- what was accepted is one of the messages, and the receiving half has it
+pub record TakenIs (s : ℕ) (G : List Msg) (r : Rx) (e o : ℕ) (p : Packet) : Type 0 where
+  pub packet-is : PacketIs s G p
+  pub has : Has s r e o (p .index)
 
 -- ---- all of it
 
@@ -106,6 +106,6 @@ pub record Inv (w : Way) (e o : ℕ) : Type 0 where
   pub recvd : (j : ℕ) → j < length (w .given) → length (w .given) ≤ j + w .tx .count → pktOf (w .tx) (pos (w .start) j) .status ≡ Received
       → Has (w .start) (w .rx) e o j
   pub msgs-ok : (p : Packet) → List·Memᴰ p (w .msgs) → PacketIs (w .start) (w .given) p
-  pub acks-ok : (a : Ack) → List·Memᴰ a (w .acks) → AckIs (w .start) (w .given) (w .rx) e o a
+  pub taken-ok : (p : Packet) → List·Memᴰ p (w .accepted) → TakenIs (w .start) (w .given) (w .rx) e o p
   pub accepted-ok : (j : ℕ) → j < length (w .given) → Has (w .start) (w .rx) e o j → HasAccepted j (at (w .given) j) w
   pub out-is : w .out ≡ handed (take o (w .given))

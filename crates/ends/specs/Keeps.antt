@@ -30,7 +30,7 @@ keeps (send {w} slot m ok) k = record { e = k .e; o = k .o; inv = keeps-send w (
 keeps (resend {w} slot n n32 ok) k = record { e = k .e; o = k .o; inv = keeps-resend w (k .e) (k .o) (k .inv) slot n n32 ok }
 keeps (unconfirm {w} slot) k = record { e = k .e; o = k .o; inv = keeps-unconfirm w (k .e) (k .o) (k .inv) slot }
 keeps (relabel {w} t l) k = record { e = k .e; o = k .o; inv = keeps-relabel w (k .e) (k .o) (k .inv) t l }
-keeps (ack {w} slot a h t) k = record { e = k .e; o = k .o; inv = keeps-ack w (k .e) (k .o) (k .inv) slot a (k .inv .acks-ok a h) t }
+keeps (ack {w} slot n p h q t) k = record { e = k .e; o = k .o; inv = keeps-ack w (k .e) (k .o) (k .inv) slot n p (k .inv .taken-ok p h) q t }
 keeps (again {w} p h t same) k = record { e = k .e; o = k .o; inv = keeps-again w (k .e) (k .o) (k .inv) p (k .inv .msgs-ok p h) t same }
 keeps (receive {w} p h t new close) k = keeps-receive w (k .e) (k .o) (k .inv) p (k .inv .msgs-ok p h) t new close
 keeps (OneWay.take {w} ok) k = keeps-take w (k .e) (k .o) (k .inv) ok
@@ -69,7 +69,7 @@ module _ (s : ℕ) (sent received : List ℕ) (s32 : s < 4294967296) (lt : lengt
       tight = omega arith;
       recvd = λ j p q h. absurd (omega arith);
       msgs-ok = λ p h. absurd (List·Memᴰ·not-nil h);
-      acks-ok = λ a h. absurd (List·Memᴰ·not-nil h);
+      taken-ok = λ p h. absurd (List·Memᴰ·not-nil h);
       accepted-ok = λ j p h. absurd (omega arith);
       out-is = refl;
     };

@@ -29,9 +29,9 @@ use Rattle.engine.specs.declared.handing_out.HandOut.the-variants as handouts
 use Rattle.engine.specs.declared.handing_out.TakeAck.the-variants as acks
 use Rattle.engine.specs.HandingOut.{shownOf, takeOf, takeAckOf}
 use Rattle.engine.specs.Sizes.{PACKETS, RECEIVED_BYTES}
-use Rattle.ends.specs.World.{Msg, upd}
+use Rattle.ends.specs.World.{Msg}
 use Rattle.ends.specs.Model.{Rx, Like, sendOk, sent, resendOk, resent, resentMsg, unconfirmed, acked, near, repeated, received, takeOk, answer, taken}
-use Rattle.ends.specs.Views.{tx, rx, waitingOf, Whole, TxAlone, RxAlone, AcksAlone, Alone}
+use Rattle.ends.specs.Views.{tx, rx, waitingOf, upd, Whole, TxAlone, RxAlone, AcksAlone, Alone}
 
 -- ---- the sending half
 

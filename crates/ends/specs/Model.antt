@@ -3,7 +3,7 @@
 use mathlib.Core.Path.{_≡_}
 use mathlib.Core.Bool.{Bool, true, false, not, cond, _&&_, _||_}
 use mathlib.Core.List.{List, map}
-use Prim.Native.Nat.{ℕ, zero, suc, _+_}
+use Prim.Native.Nat.{ℕ, zero, suc, _+_, _<_, _^_}
 use lib.ListN.{length, getD, set}
 use lib.Dec.{leb, ltb, eqb}
 use Rattle.seq.specs.Numbers.{before}
@@ -210,4 +210,4 @@ pub record Like (t t′ : Tx) : Type 0 where
   pub count-same : t′ .count ≡ t .count
   pub store-same : t′ .store ≡ t .store
   pub length-same : length (t′ .cells) ≡ length (t .cells)
-  pub table-same : (n : ℕ) → inTable n t ≡ true → pktAt t′ n ≡ pktAt t n
+  pub table-same : (n : ℕ) → n < 2 ^ 32 → inTable n t ≡ true → pktAt t′ n ≡ pktAt t n

@@ -7,7 +7,7 @@ use Prim.Native.Nat.{ℕ, _+_, _-_, _<_}
 use lib.ListN.{length, replicate}
 use Rattle.engine.specs.Received.{noCell}
 use Rattle.engine.specs.Sizes.{PACKETS, CELLS}
-use Rattle.ends.specs.World.{Msg, Packet, Ack}
+use Rattle.ends.specs.World.{Msg, Packet, BEHIND}
 use Rattle.ends.specs.Wrap.{diff}
 use Rattle.ends.specs.Model.{Tx, Rx, noPkt, sendOk, sent, resendOk, resent, resentMsg, unconfirmed, acked, near, repeated, received, takeOk, answer, taken, Like}
 
@@ -19,9 +19,8 @@ pub record Way : Type 0 where
   pub given : List Msg
   pub out : List Msg
   pub accepted : List Packet
-  -- every message ever put on the links, and every ack that was ever made
+  -- every message ever put on the links
   pub msgs : List Packet
-  pub acks : List Ack
 
 abbrev pub freshTx : ℕ → List ℕ → Tx
 freshTx start store = record { next = start; count = 0; cells = replicate PACKETS noPkt; store = store }
@@ -30,7 +29,7 @@ abbrev pub freshRx : ℕ → List ℕ → Rx
 freshRx start store = record { expected = start; oldest = start; cells = replicate CELLS noCell; store = store }
 
 abbrev pub freshWay : ℕ → List ℕ → List ℕ → Way
-freshWay start sent received = record { start = start; tx = freshTx start sent; rx = freshRx start received; given = []; out = []; accepted = []; msgs = []; acks = [] }
+freshWay start sent received = record { start = start; tx = freshTx start sent; rx = freshRx start received; given = []; out = []; accepted = []; msgs = [] }
 
 -- ---- what each accepted call does
 
@@ -43,7 +42,6 @@ onSend slot m w = record {
   out = w .out;
   accepted = w .accepted;
   msgs = record { index = length (w .given); number = w .tx .next; msg = m } ∷ w .msgs;
-  acks = w .acks;
 }
 
 abbrev pub onResend : ℕ → ℕ → Way → Way
@@ -55,20 +53,19 @@ onResend slot n w = record {
   out = w .out;
   accepted = w .accepted;
   msgs = record { index = length (w .given) - diff (w .tx .next) n; number = n; msg = resentMsg n (w .tx) } ∷ w .msgs;
-  acks = w .acks;
 }
 
 -- another sending half
 abbrev pub withTx : Tx → Way → Way
-withTx t w = record { start = w .start; tx = t; rx = w .rx; given = w .given; out = w .out; accepted = w .accepted; msgs = w .msgs; acks = w .acks }
+withTx t w = record { start = w .start; tx = t; rx = w .rx; given = w .given; out = w .out; accepted = w .accepted; msgs = w .msgs }
 
 abbrev pub onUnconfirm : ℕ → Way → Way
 onUnconfirm slot w = withTx (unconfirmed slot (w .tx)) w
 
-abbrev pub onAck : ℕ → Ack → Way → Way
-onAck slot a w = withTx (acked slot (a .number) (w .tx)) w
+abbrev pub onAck : ℕ → ℕ → Way → Way
+onAck slot n w = withTx (acked slot n (w .tx)) w
 
--- a message is accepted: its ack is made, whatever else happens
+-- a message is accepted
 abbrev pub accepting : Packet → Rx → Way → Way
 accepting p r w = record {
   start = w .start;
@@ -78,7 +75,6 @@ accepting p r w = record {
   out = w .out;
   accepted = p ∷ w .accepted;
   msgs = w .msgs;
-  acks = record { index = p .index; number = p .number } ∷ w .acks;
 }
 
 abbrev pub onTake : Way → Way
@@ -90,12 +86,11 @@ onTake w = record {
   out = w .out ++ (answer (w .rx) ∷ []);
   accepted = w .accepted;
   msgs = w .msgs;
-  acks = w .acks;
 }
 
 -- not yet 2^30 behind the next number of the end that sent the message
 abbrev pub InTime : ℕ → Way → Type 0
-InTime index w = length (w .given) < index + 1073741824
+InTime index w = length (w .given) < index + BEHIND
 
 pub data Move : Way → Way → Type 0 where
   send : {w : Way} (slot : ℕ) (m : Msg) → sendOk m (w .tx) ≡ true → Move w (onSend slot m w)
@@ -103,7 +98,8 @@ pub data Move : Way → Way → Type 0 where
   unconfirm : {w : Way} (slot : ℕ) → Move w (onUnconfirm slot w)
   -- cells outside the table change
   relabel : {w : Way} (t : Tx) → Like (w .tx) t → Move w (withTx t w)
-  ack : {w : Way} (slot : ℕ) (a : Ack) → List·Memᴰ a (w .acks) → InTime (a .index) w → Move w (onAck slot a w)
+  -- an ack of an accepted message
+  ack : {w : Way} (slot n : ℕ) (p : Packet) → List·Memᴰ p (w .accepted) → p .number ≡ n → InTime (p .index) w → Move w (onAck slot n w)
   again : {w : Way} (p : Packet) → List·Memᴰ p (w .msgs) → InTime (p .index) w → repeated (p .number) (w .rx) ≡ true → Move w (accepting p (w .rx) w)
   receive : {w : Way} (p : Packet) → List·Memᴰ p (w .msgs) → InTime (p .index) w → repeated (p .number) (w .rx) ≡ false → near (p .number) (w .rx) ≡ true
       → Move w (accepting p (received (p .number) (p .msg) (w .rx)) w)

@@ -18,7 +18,7 @@ use Rattle.engine.specs.Stores.{storeBy, cellStart, copied}
 use Rattle.engine.specs.Gates.{slotVerdict}
 use Rattle.engine.specs.declared.links.AddAnswer.the-variants as adds
 use Rattle.engine.specs.Links.{addOf, addedBy, addVerdict, lowestIn}
-use Rattle.engine.specs.Unconfirming.{unconfirmedState, unconfirmOf, removeOf}
+use Rattle.engine.specs.Unconfirming.{unconfirmedState, removedState, unconfirmOf, removeOf}
 use Rattle.engine.specs.declared.sending.SendAnswer.the-variants as sends
 use Rattle.engine.specs.declared.resending.ResendAnswer.the-variants as resends
 use Rattle.engine.specs.Sending.{sendOf, sendStore, sentBy, sentState, sendVerdict}
@@ -84,13 +84,13 @@ module _ (s : State) (e : Refusal) where
 
   pub remove-no : (slot : ℕ) → removeOf s slot .outcome ≡ outcomes.No e → removeOf s slot .state ≡ s
   unfolding removeOf
-  remove-no slot h = changed-no (slotVerdict s slot) s (withRow (unconfirmedState s slot) slot emptyRow) e h
+  remove-no slot h = changed-no (slotVerdict s slot) s (removedState s slot) e h
 
   pub add-no : (id roundtrip : ℕ) (max : MaxPing) (blocked unconfirmed : Bool) → addOf s id roundtrip max blocked unconfirmed .answer ≡ adds.No e
       → addOf s id roundtrip max blocked unconfirmed .state ≡ s
   unfolding addOf
   add-no id roundtrip max blocked unconfirmed h =
-      added-no (addVerdict s (lowestIn s) id roundtrip max) (lowestIn s) s (withRow s (lowestIn s) (freshRow id roundtrip max blocked unconfirmed)) e h
+      added-no (addVerdict s id roundtrip max) (lowestIn s) s (withRow s (lowestIn s) (freshRow id roundtrip max blocked unconfirmed)) e h
 
   pub resend-no : (slot time n : ℕ) → resendOf s slot time n .answer ≡ resends.No e → resendOf s slot time n .state ≡ s
   unfolding resendOf

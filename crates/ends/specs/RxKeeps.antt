@@ -11,11 +11,11 @@ use borrow.Author.Tests.{ltb-true, eqb-false, not-true}
 use Rattle.seq.specs.Numbers.{before}
 use Rattle.engine.specs.Received.{isFull}
 use Rattle.engine.specs.Sizes.{CELLS}
-use Rattle.ends.specs.World.{Msg, Packet, Ack}
+use Rattle.ends.specs.World.{Msg, Packet}
 use Rattle.ends.specs.Wrap.{diff, cell, before-true, before-false}
 use Rattle.ends.specs.Model.{Rx, heldAt, near, repeated, stored, received, takeOk, answer}
 use Rattle.ends.specs.OneWay.{Way, InTime, accepting, onTake}
-use Rattle.ends.specs.Inv.{pos, at, RxI, Has, PacketIs, AckIs, Inv}
+use Rattle.ends.specs.Inv.{pos, at, RxI, Has, PacketIs, TakenIs, Inv}
 use Rattle.ends.specs.RxLaws.{rx-store, store-has, store-mono, store-back}
 use Rattle.ends.specs.RxPass.{advance, Advanced}
 use Rattle.ends.specs.RxTake.{take-one, Taken}
@@ -62,7 +62,7 @@ module _ (w : Way) (e o : ℕ) (i : Inv w e o) (p : Packet) (p-is : PacketIs (w 
   k₄ : cell n₄ ≡ pos s₄ x₄
   k₄ = omega (arith, p-is .number-is)
 
-  -- accepted once more: an ack and nothing else
+  -- accepted once more: nothing else changes
   accepted-again : Has s₄ r₄ e o x₄ → Inv (accepting p (w .rx) w) e o
   accepted-again has = record {
     small = i .small;
@@ -73,14 +73,14 @@ module _ (w : Way) (e o : ℕ) (i : Inv w e o) (p : Packet) (p-is : PacketIs (w 
     tight = i .tight;
     recvd = i .recvd;
     msgs-ok = i .msgs-ok;
-    acks-ok = λ a h. up a (List·Memᴰ·cases-cons h);
+    taken-ok = λ q h. up q (List·Memᴰ·cases-cons h);
     accepted-ok = λ j q h. let old = i .accepted-ok j q h in (old .0, List·Memᴰ·tail (old .1), old .2, old .3);
     out-is = i .out-is;
   }
     where
-      up : (a : Ack) → (a ≡ record { index = x₄; number = n₄ }) ⊎ List·Memᴰ a (w .acks) → AckIs s₄ G₄ r₄ e o a
-      up a (inl z) = rw z (record { inside = p-is .inside; number-is = p-is .number-is; has = has })
-      up a (inr h) = i .acks-ok a h
+      up : (q : Packet) → (q ≡ p) ⊎ List·Memᴰ q (w .accepted) → TakenIs s₄ G₄ r₄ e o q
+      up q (inl z) = rw z (record { packet-is = p-is; has = has })
+      up q (inr h) = i .taken-ok q h
 
   -- accepted for the first time
   module _ (ex : e ≤ x₄) (xo : x₄ < o + CELLS) where
@@ -109,18 +109,17 @@ module _ (w : Way) (e o : ℕ) (i : Inv w e o) (p : Packet) (p-is : PacketIs (w 
       tight = omega (arith, i .tight, adv .moved .grows);
       recvd = λ j q r h. now-has j (i .recvd j q r h);
       msgs-ok = i .msgs-ok;
-      acks-ok = λ a h. up a (List·Memᴰ·cases-cons h);
+      taken-ok = λ q h. up q (List·Memᴰ·cases-cons h);
       accepted-ok = λ j q h. acc j q (had j h);
       out-is = i .out-is ∙ sym (adv .moved .same-out);
     }
       where
-        up : (a : Ack) → (a ≡ record { index = x₄; number = n₄ }) ⊎ List·Memᴰ a (w .acks) → AckIs s₄ G₄ (received n₄ (p .msg) r₄) (adv .e′) (adv .o′) a
-        up a (inl z) = rw z (record {
-          inside = p-is .inside;
-          number-is = p-is .number-is;
+        up : (q : Packet) → (q ≡ p) ⊎ List·Memᴰ q (w .accepted) → TakenIs s₄ G₄ (received n₄ (p .msg) r₄) (adv .e′) (adv .o′) q
+        up q (inl z) = rw z (record {
+          packet-is = p-is;
           has = adv .moved .mono x₄ (store-has s₄ G₄ r₄ e o (i .rxi) (i .small) n₄ x₄ (p .msg) (p-is .number-is) (p-is .msg-is) ex xo (p-is .inside));
         })
-        up a (inr h) = let old = i .acks-ok a h in record { inside = old .inside; number-is = old .number-is; has = now-has (a .index) (old .has) }
+        up q (inr h) = let old = i .taken-ok q h in record { packet-is = old .packet-is; has = now-has (q .index) (old .has) }
 
         acc : (j : ℕ) → j < length G₄ → Has s₄ r₄ e o j ⊎ (j ≡ x₄) → (q : Packet) × List·Memᴰ q (p ∷ w .accepted) × (q .index ≡ j) × (q .msg ≡ at G₄ j)
         acc j q (inl h) = let old = i .accepted-ok j q h in (old .0, List·Memᴰ·tail (old .1), old .2, old .3)
@@ -157,7 +156,7 @@ keeps-take w e o i ok = record {
     tight = i .tight;
     recvd = λ j p r h. tk .mono j (i .recvd j p r h);
     msgs-ok = i .msgs-ok;
-    acks-ok = λ a h. let old = i .acks-ok a h in record { inside = old .inside; number-is = old .number-is; has = tk .mono (a .index) (old .has) };
+    taken-ok = λ q h. let old = i .taken-ok q h in record { packet-is = old .packet-is; has = tk .mono (q .index) (old .has) };
     accepted-ok = λ j p h. i .accepted-ok j p (tk .back j h);
     out-is = ap (λ (l : List Msg). l ++ (answer (w .rx) ∷ [])) (i .out-is) ∙ sym (tk .out′);
   };

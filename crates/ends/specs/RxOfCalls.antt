@@ -1,7 +1,8 @@
 -- The laws that Laws asks of the receiving half's calls and of the plain changes of the links (receive, take and none are those of
 -- RxOfTable). Assumes nothing.
+use Rattle.refusal.specs.Tests.{false-true}
 use mathlib.Core.Path.{_≡_, refl, sym, ap, subst, _∙_}
-use mathlib.Core.Bool.{Bool, _&&_}
+use mathlib.Core.Bool.{Bool, _&&_, true}
 use mathlib.Core.List.{_∷_, map}
 use Prim.Native.Nat.{ℕ, _≤_, _<_}
 use native.Mathlib.Omega.{arith}
@@ -28,15 +29,15 @@ use Rattle.engine.specs.declared.state.State.{State}
 use Rattle.engine.specs.Answer.{changedBy}
 use Rattle.engine.specs.Decide.{soundb}
 use Rattle.engine.specs.Gates.{slotVerdict, timedVerdict}
-use Rattle.engine.specs.Rows.{rowOf, row-of}
+use Rattle.engine.specs.Rows.{rowOf, row-of, slotOk}
 use Rattle.engine.specs.declared.links.AddAnswer.the-variants as adds
 use Rattle.engine.specs.Links.{lowestIn, addVerdict, addedBy, addOf, confirmOf, blockOf, markOf, pingOf, pongOf}
 use Rattle.engine.specs.declared.handing_out.TakeAck.the-variants as acks
-use Rattle.engine.specs.HandingOut.{ackAs, ackAnswer, takenAckState, takenAckBy, takeAckOf}
+use Rattle.engine.specs.HandingOut.{ackAs, ackAnswer, isWaiting, takeAckVerdict, takenAckState, takenAckBy, takeAckOf}
 use Rattle.engine.specs.Fields.{withRow, withTime}
 use Rattle.engine.specs.Sizes.{SLOTS}
 use Rattle.laws.specs.RowAcks.{SameAcks, confirm-acks, block-acks, mark-acks, ping-acks, pong-acks, row-full}
-use Rattle.laws.specs.Passed.{changed-keeps, slot-passed, timed-passed}
+use Rattle.laws.specs.Passed.{changed-keeps, slot-passed, timed-passed, slot-ok}
 use Rattle.ends.specs.Views.{valueOf, tx, Whole, Alone}
 use Rattle.ends.specs.Laws.{TakesAck, AddsLink, ReceivingLaws}
 use Rattle.ends.specs.AcksSeen.{acks-set, acks-same}
@@ -48,11 +49,11 @@ use Rattle.ends.specs.RxOfTable.{receive-law, take-law, none-law}
 -- what an answer that is no refusal says
 record AckHanded (v : Verdict) (ack : OldestAck) (number : Seq) : Type 0 where
   passed : v ≡ verdicts.Pass
-  first : ack ≡ oldest.Number number
+  first : isWaiting ack ≡ true → ack ≡ oldest.Number number
 
 ack-handed : (v : Verdict) (ack : OldestAck) (number : Seq) → ackAs v ack ≡ acks.Number number → AckHanded v ack number
-ack-handed verdicts.Pass oldest.Nothing number e = let z : _≡_ {A = ℕ} 0 1 = cc in absurd (omega arith)
-ack-handed verdicts.Pass (oldest.Number seq) number e = record { passed = refl; first = cc }
+ack-handed verdicts.Pass oldest.Nothing number e = record { passed = refl; first = λ w. false-true w }
+ack-handed verdicts.Pass (oldest.Number seq) number e = let q : seq ≡ number = cc in record { passed = refl; first = λ w. ap (λ (n : Seq). oldest.Number n) q }
 ack-handed (verdicts.No r) ack number e = let z : _≡_ {A = ℕ} 0 1 = cc in absurd (omega arith)
 
 -- a link's oldest ack is the first of its queue, which isn't empty
@@ -73,14 +74,18 @@ first-ack r number e =
     above {k} ne = omega arith
 
 pub take-ack-law : (s : State) (slot : ℕ) (number : Seq) → Whole s → takeAckOf s slot .answer ≡ acks.Number number → TakesAck s slot number (takeAckOf s slot .state)
-unfolding takeAckOf ackAnswer takenAckState
+unfolding takeAckOf ackAnswer takeAckVerdict takenAckState
 take-ack-law s slot number whole e =
     let r = rowOf s slot in
-    let h = ack-handed (slotVerdict s slot) (oldestAck r) number e in
-    let small = slot-passed s slot (h .passed) .0 in
-    let f = first-ack r number (h .first) in
+    let h = ack-handed (takeAckVerdict s slot) (oldestAck r) number e in
+    let e1 = gate-pass (soundb s) _ _ (h .passed) in
+    let e4 = gate-pass (slotOk s slot) _ _ (e1 .1) in
+    let e19 = gate-pass (isWaiting (oldestAck r)) _ _ (e4 .1) in
+    let here = slot-ok s slot (e4 .0) in
+    let small = here .0 in
+    let f = first-ack r number (h .first (e19 .0)) in
     let eight = whole .shaped .links-full in
-    let few : r .«ack_count» ≤ ACKS = rw (row-of s slot small) (whole .sound .ack-count slot small) in
+    let few : r .«ack_count» ≤ ACKS = rw (row-of s slot small) (whole .sound .ack-count slot small (here .1)) in
     let next = withRow s slot (ackTaken r) in
     subst (λ a. TakesAck s slot number (takenAckBy a s slot)) (sym e)
     (record {
@@ -103,24 +108,24 @@ add-passed : (v : Verdict) (at slot : ℕ) (s next : State) → addedBy v at s n
 add-passed verdicts.Pass at slot s next e = record { passed = refl; here = cc }
 add-passed (verdicts.No r) at slot s next e = let z : _≡_ {A = ℕ} 0 1 = cc in absurd (omega arith)
 
-lowest-small : (s : State) (slot id roundtrip : ℕ) (max : MaxPing) → addVerdict s slot id roundtrip max ≡ verdicts.Pass → slot < SLOTS
+lowest-small : (s : State) (id roundtrip : ℕ) (max : MaxPing) → addVerdict s id roundtrip max ≡ verdicts.Pass → lowestIn s < SLOTS
 unfolding addVerdict
-lowest-small s slot id roundtrip max v =
+lowest-small s id roundtrip max v =
     let one = gate-pass (soundb s) _ _ v in
     let three = gate-pass (leb roundtrip MAX_TIME && maxPingWithin max) _ _ (one .1) in
-    let five = gate-pass (ltb slot SLOTS) _ _ (three .1) in
-    ltb-true slot SLOTS (five .0)
+    let five = gate-pass (ltb (lowestIn s) SLOTS) _ _ (three .1) in
+    ltb-true (lowestIn s) SLOTS (five .0)
 
 pub add-law : (s : State) (id roundtrip : ℕ) (max : MaxPing) (blocked unconfirmed : Bool) (slot : ℕ) → Whole s
     → addOf s id roundtrip max blocked unconfirmed .answer ≡ adds.Slot slot → AddsLink s slot (addOf s id roundtrip max blocked unconfirmed .state)
 unfolding addOf freshRow waiting
 add-law s id roundtrip max blocked unconfirmed slot whole e =
     let at = lowestIn s in
-    let v = addVerdict s at id roundtrip max in
+    let v = addVerdict s id roundtrip max in
     let new = freshRow id roundtrip max blocked unconfirmed in
     let next = withRow s at new in
     let h = add-passed v at slot s next e in
-    let small = lowest-small s at id roundtrip max (h .passed) in
+    let small = lowest-small s id roundtrip max (h .passed) in
     let eight = whole .shaped .links-full in
     subst (λ (k : ℕ). AddsLink s k (addedBy v at s next .state)) (h .here)
     (subst (λ (w : Verdict). AddsLink s at (addedBy w at s next .state)) (sym (h .passed))

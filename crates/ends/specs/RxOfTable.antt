@@ -1,5 +1,6 @@
 -- What receiving and handing out do to what is seen of a state: the receive table's calls have the laws that Laws asks of them, by their
 -- own definitions. Assumes nothing.
+use Rattle.engine.specs.declared.state.Receiving.{Receiving}
 use mathlib.Core.Path.{_≡_, refl, sym, ap, subst, _∙_}
 use mathlib.Core.Bool.{Bool, true, false, cond, not, _||_}
 use mathlib.Core.List.{List, [], _∷_, _++_, map, map-append}
@@ -25,9 +26,8 @@ use Rattle.engine.specs.declared.state.Held.the-variants as helds
 use Rattle.engine.specs.declared.state.State.{State}
 use Rattle.engine.specs.declared.answer.Outcome.the-variants as outcomes
 use Rattle.engine.specs.Answer.{changedBy, done-passed}
-use Rattle.engine.specs.Received.{noCell, expectedAt, isFull}
-use Rattle.engine.specs.Decide.{soundb}
-use Rattle.engine.specs.Decided.{sound-decided}
+use Rattle.engine.specs.Received.{noCell, expectedAt, isFull, heldBytes}
+use Rattle.engine.specs.Decide.{soundb, sound-true}
 use Rattle.engine.specs.Rows.{rowOf, slotOk}
 use Rattle.engine.specs.Sound.{cellAt, ReadyKind, LengthWithin}
 use Rattle.engine.specs.Stores.{cellStart, copied, storeBy}
@@ -36,7 +36,7 @@ use Rattle.engine.specs.Cells.{cellOf, nearOldest, isRepeat}
 use Rattle.engine.specs.Receiving.{receiveVerdict, effectTx, storedRx, repeatedState, receivedState, receiveOf, receiveStore}
 use Rattle.engine.specs.declared.handing_out.HandOut.{HandOut}
 use Rattle.engine.specs.declared.handing_out.HandOut.the-variants as handouts
-use Rattle.engine.specs.HandingOut.{readyOf, handOutAs, handOutBy, dataLength, readyBytes, handed, ready-cell, showVerdict, showingOf, partAs, shownOf, takeVerdict, takenRx, takenState, takenBy, takeOf, data-all}
+use Rattle.engine.specs.HandingOut.{readyOf, msgIn, handOutBy, dataLength, readyBytes, taking, ready-cell, showVerdict, showingOf, partAs, shownOf, takeVerdict, takenRx, takenState, takenBy, takeOf, data-all}
 use Rattle.engine.specs.Ring.{window-step}
 use Rattle.engine.specs.Sizes.{CELLS, SLOTS, RECEIVED_BYTES}
 use Rattle.engine.specs.Fields.{withRow}
@@ -44,9 +44,9 @@ use Rattle.engine.specs.Totals.{fits, MAX_TOTAL}
 use Rattle.laws.specs.RowAcks.{row-full}
 use Rattle.laws.specs.Passed.{slot-ok}
 use Rattle.laws.specs.CellsKept.{expected-here}
-use Rattle.ends.specs.World.{Msg, upd}
+use Rattle.ends.specs.World.{Msg}
 use Rattle.ends.specs.Model.{Rx, near, repeated, received, takeOk, answerAs, answer, taken}
-use Rattle.ends.specs.Views.{valueOf, tx, rx, waitingOf, Whole}
+use Rattle.ends.specs.Views.{valueOf, tx, rx, waitingOf, upd, Whole}
 use Rattle.ends.specs.Laws.{Takes, Receives, HandsOut}
 use Rattle.ends.specs.AcksSeen.{acks-untouched, acks-set}
 use Rattle.ends.specs.RxSteps.{like-self, seenRx, advanced-seen, skipped-seen, queued-waiting}
@@ -143,7 +143,7 @@ nothing-message kind len e = false-true (ap isFull e)
 
 module _ (s : State) (whole : Whole s) where
   decided : soundb s ≡ true
-  decided = sound-decided s (whole .shaped) (whole .sound)
+  decided = sound-true s (whole .sound)
 
   -- the oldest number's cell
   oldest-held : cellAt s 0 ≡ cellOf CELLS (s .rx) (s .rx .«rx_oldest» .0)
@@ -173,9 +173,9 @@ module _ (s : State) (whole : Whole s) where
         let here = oldest-held ∙ ready-cell CELLS (s .rx) kind len ready in
         let kindly : ReadyKind (helds.Message kind len) = rw here at (whole .sound .ready 0 (ahead (ready-ahead kind len ready))) in
         let fits : LengthWithin (helds.Message kind len) = rw here at (whole .sound .cell-length 0 (omega arith)) in
-        let pass : showVerdict s (length store) ≡ verdicts.Pass = simp (decided, eq-eqb (length store) RECEIVED_BYTES l) in
-        ap (λ (v : Verdict). partAs (handOutAs v (readyOf CELLS (s .rx)) (s .rx .«rx_oldest»)) store) pass
-        ∙ ap (λ (h : Held). partAs (handOutAs verdicts.Pass h (s .rx .«rx_oldest»)) store) ready
+        let pass : showVerdict s (length store) ≡ verdicts.Pass = simp (decided, eq-eqb (length store) RECEIVED_BYTES l, ap isFull ready) in
+        ap (λ (v : Verdict). partAs (handOutBy v (s .rx)) store) pass
+        ∙ ap (λ (h : Held). partAs (handouts.Message (msgIn h) (s .rx .«rx_oldest») (heldBytes h)) store) ready
         ∙ ap (λ (k : ℕ). take k (drop (cellStart CELLS (s .rx .«rx_oldest» .0)) store)) (data-all kind len kindly fits)
 
     answered : length store ≡ RECEIVED_BYTES → _≡_ {A = Msg} (record { kind = kind; bytes = shownOf s store }) (answer (rx s store))
@@ -190,9 +190,9 @@ module _ (s : State) (whole : Whole s) where
 
 pub take-law : (s : State) (store : List ℕ) (kind : ReliableMsg) (number : Seq) (len : ℕ) → Whole s → length store ≡ RECEIVED_BYTES
     → takeOf s .answer ≡ handouts.Message kind number len → HandsOut s store kind (takeOf s .state)
-unfolding takeOf takenState handOutBy
+unfolding takeOf takenState
 take-law s store kind number len whole l e =
-    let h = handed (takeVerdict s) (readyOf CELLS (s .rx)) (s .rx .«rx_oldest») kind number len e in
+    let h = taking s kind number len e in
     subst (λ (a : HandOut). HandsOut s store kind (takenBy a s)) (sym e)
     (record {
       ok = ap not (ready-ahead s whole kind len (h .ready));
@@ -204,13 +204,13 @@ take-law s store kind number len whole l e =
 
 -- ---- nothing to take
 
--- a full cell is handed out, unless the verdict is a refusal
-full-verdict : (v : Verdict) (held : Held) (seq : Seq) → isFull held ≡ true → handOutAs v held seq ≡ handouts.No (refuse 19 tt) → v ≡ verdicts.No (refuse 19 tt)
-full-verdict verdicts.Pass helds.Nothing seq f e = false-true f
-full-verdict verdicts.Pass (helds.Message kind len) seq f e = let z : _≡_ {A = ℕ} 0 1 = cc in absurd (omega arith)
-full-verdict (verdicts.No r) held seq f e = cc
+-- an answer is a refusal just if the verdict is
+full-verdict : (v : Verdict) (rx : Receiving) → handOutBy v rx ≡ handouts.No (refuse 19 tt) → v ≡ verdicts.No (refuse 19 tt)
+unfolding handOutBy
+full-verdict verdicts.Pass rx e = let z : _≡_ {A = ℕ} 0 1 = cc in absurd (omega arith)
+full-verdict (verdicts.No r) rx e = cc
 
--- the verdict of taking is never 19
+-- with a message ready, the verdict of taking is not 19
 not-nothing : {X : Type 0} (b : Bool) → gate b 9 verdicts.Pass ≡ verdicts.No (refuse 19 tt) → X
 not-nothing true e = let z : _≡_ {A = ℕ} 0 1 = cc in absurd (omega arith)
 not-nothing false e = let z : _≡_ {A = ℕ} 0 1 = cc in absurd (omega arith)
@@ -221,12 +221,12 @@ module _ (s : State) (whole : Whole s) where
   unfolding readyOf
   full t = simp t (ap isFull (sym (oldest-held s whole)) ∙ whole .sound .oldest (ahead s whole t))
 
-  nothing-refused : {X : Type 0} → takeVerdict s ≡ verdicts.No (refuse 19 tt) → X
+  nothing-refused : {X : Type 0} → isFull (readyOf CELLS (s .rx)) ≡ true → takeVerdict s ≡ verdicts.No (refuse 19 tt) → X
   unfolding takeVerdict
-  nothing-refused v = not-nothing (fits (s .rx .«rxed_reliable_consumed») (readyBytes (readyOf CELLS (s .rx))) MAX_TOTAL) (simp (decided s whole) at v)
+  nothing-refused r v = not-nothing (fits (s .rx .«rxed_reliable_consumed») (readyBytes (readyOf CELLS (s .rx))) MAX_TOTAL) (simp (decided s whole, r) at v)
 
 pub none-law : (s : State) (store : List ℕ) → Whole s → takeOf s .answer ≡ handouts.No (refuse 19 tt) → takeOk (rx s store) ≡ false
-unfolding takeOf handOutBy
+unfolding takeOf
 none-law s store whole e =
     cases (eqb (s .rx .«rx_oldest» .0) (s .rx .«rx_seq» .0)) (λ t. ap not t)
-    (λ t. nothing-refused s whole (full-verdict (takeVerdict s) (readyOf CELLS (s .rx)) (s .rx .«rx_oldest») (full s whole t) e))
+    (λ t. nothing-refused s whole (full s whole t) (full-verdict (takeVerdict s) (s .rx) e))

@@ -102,4 +102,4 @@ module _ (r : LinkRow) (full : length (r .«tx_ack_queue») ≡ ACKS) (some : 0 
 
 -- the same table is a like one
 abbrev pub like-self : (t : Tx) → Like t t
-like-self t = record { next-same = refl; count-same = refl; store-same = refl; length-same = refl; table-same = λ n h. refl }
+like-self t = record { next-same = refl; count-same = refl; store-same = refl; length-same = refl; table-same = λ n u h. refl }

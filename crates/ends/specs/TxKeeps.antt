@@ -10,13 +10,13 @@ use lib.ListN.{length, getD, set, length-set, length-map}
 use lib.Seq.{take-append-le}
 use lib.Dec.{leb, ltb, eqb}
 use borrow.Author.Tests.{ltb-true, leb-true}
-use Rattle.ends.specs.World.{Msg, Packet, Ack}
+use Rattle.ends.specs.World.{Msg, Packet}
 use Rattle.ends.specs.Demand.{handed}
 use Rattle.ends.specs.Wrap.{num, diff, cell, num-cell}
 use Rattle.ends.specs.Store.{getCell}
 use Rattle.ends.specs.Model.{Pkt, noPkt, Status, SentOn, Queued, Received, Tx, sendOk, sent, resendOk, resent, resentMsg, isQueued, isReceived, inTable, pktAt, withStatus, withCells, requeued, requeuedPkt, settled, settledPkt, marked, sweep, Like}
 use Rattle.ends.specs.OneWay.{Way, InTime, onSend, onResend, onUnconfirm, onAck, withTx}
-use Rattle.ends.specs.Inv.{pos, at, pktOf, PktIs, TxI, Has, PacketIs, AckIs, Inv}
+use Rattle.ends.specs.Inv.{pos, at, pktOf, PktIs, TxI, Has, PacketIs, TakenIs, Inv}
 use Rattle.ends.specs.TxLaws.{hit, miss, at-old, at-new, length-snoc, tx-send, send-old, send-new, same-set, same-map, read-map, tx-status, tx-sweep, swept-le, swept-tight, swept-head, first-cell, isReceived-is, table-of}
 use Rattle.ends.specs.RxLaws.{rx-grow, has-inside}
 use Rattle.refusal.specs.Tests.{split}
@@ -43,7 +43,7 @@ module _ (w : Way) (e o : ℕ) (i : Inv w e o) (slot : ℕ) (m : Msg) where
     tight = omega (arith, i .tight, len);
     recvd = λ j p q h. received-was j p q h (ℕ-discrete j (length G));
     msgs-ok = λ p h. down p (List·Memᴰ·cases-cons h);
-    acks-ok = λ a h. let old = i .acks-ok a h in record { inside = omega (arith, old .inside, len); number-is = old .number-is; has = old .has };
+    taken-ok = λ p h. let old = i .taken-ok p h in record { packet-is = longer p (old .packet-is); has = old .has };
     accepted-ok = λ j p h. let lt = has-inside (w .start) G (w .rx) e o j rxi h in rw (at-old G m j lt) (i .accepted-ok j lt h);
     out-is = i .out-is ∙ ap handed (sym (take-append-le o G (m ∷ []) (omega (arith, rxi .en, rxi .oe))));
   }
@@ -84,13 +84,12 @@ module _ (w : Way) (e o : ℕ) (i : Inv w e o) (slot : ℕ) (m : Msg) where
           let le : length G ≤ j + w .tx .count = omega (arith, len) in
           i .recvd j lt le (sym (ap (λ (x : Pkt). x .status) (send-old (w .start) G (w .tx) slot m txi small free fits j lt le)) ∙ h)
 
+      longer : (p : Packet) → PacketIs (w .start) G p → PacketIs (w .start) G′ p
+      longer p old = record { inside = omega (arith, old .inside, len); number-is = old .number-is; msg-is = old .msg-is ∙ sym (at-old G m (p .index) (old .inside)) }
+
       down : (p : Packet) → (p ≡ record { index = length G; number = w .tx .next; msg = m }) ⊎ List·Memᴰ p (w .msgs) → PacketIs (w .start) G′ p
       down p (inl z) = rw z (record { inside = omega (arith, len); number-is = txi .next-is; msg-is = sym (at-new G m (length G) refl) })
-      down p (inr h) = let old = i .msgs-ok p h in record {
-        inside = omega (arith, old .inside, len);
-        number-is = old .number-is;
-        msg-is = old .msg-is ∙ sym (at-old G m (p .index) (old .inside));
-      }
+      down p (inr h) = longer p (i .msgs-ok p h)
 
 -- ---- A change of statuses alone, and more on the links
 
@@ -117,7 +116,7 @@ module _ (w : Way) (e o : ℕ) (i : Inv w e o) (slot n : ℕ) where
     tight = i .tight;
     recvd = λ j p q h. i .recvd j p q (status-was j h (ℕ-discrete (pos s₂ j) (cell n)));
     msgs-ok = λ p h. down p (List·Memᴰ·cases-cons h);
-    acks-ok = i .acks-ok;
+    taken-ok = i .taken-ok;
     accepted-ok = i .accepted-ok;
     out-is = i .out-is;
   }
@@ -198,7 +197,7 @@ keeps-unconfirm w e o i slot = record {
   tight = i .tight;
   recvd = λ j p q h. i .recvd j p q (isReceived-is _ (sym (map-received slot (w .tx .cells) (pos (w .start) j)) ∙ ap isReceived h));
   msgs-ok = i .msgs-ok;
-  acks-ok = i .acks-ok;
+  taken-ok = i .taken-ok;
   accepted-ok = i .accepted-ok;
   out-is = i .out-is;
 }
@@ -208,10 +207,7 @@ keeps-unconfirm w e o i slot = record {
 
 -- ---- Ack
 
-module _ (w : Way) (e o : ℕ) (i : Inv w e o) (slot : ℕ) (a : Ack) (a-is : AckIs (w .start) (w .given) (w .rx) e o a) (timely : InTime (a .index) w) where
-  abbrev n₃ : ℕ
-  n₃ = a .number
-
+module _ (w : Way) (e o : ℕ) (i : Inv w e o) (slot n₃ : ℕ) (p₃ : Packet) (p-is : TakenIs (w .start) (w .given) (w .rx) e o p₃) (numbered : p₃ .number ≡ n₃) (timely : InTime (p₃ .index) w) where
   abbrev Has₃ : ℕ → Type 0
   Has₃ j = Has (w .start) (w .rx) e o j
 
@@ -244,12 +240,12 @@ module _ (w : Way) (e o : ℕ) (i : Inv w e o) (slot : ℕ) (a : Ack) (a-is : Ac
           high : diff (w .tx .next) n₃ ≤ w .tx .count
           high = leb-true _ _ (bounds .1)
 
-          back-is : length (w .given) ≤ a .index + w .tx .count
-          back-is = omega (arith, high, timely, a-is .number-is, i .txi .next-is, a-is .inside)
+          back-is : length (w .given) ≤ p₃ .index + w .tx .count
+          back-is = omega (arith, high, timely, numbered, p-is .packet-is .number-is, i .txi .next-is, p-is .packet-is .inside)
 
           was : (j : ℕ) → j < length (w .given) → length (w .given) ≤ j + w .tx .count → getD (set (w .tx .cells) (cell n₃) new₃) (pos (w .start) j) noPkt .status ≡ Received
               → Dec (pos (w .start) j ≡ cell n₃) → Has₃ j
-          was j p r h (yes y) = rw same (a-is .has)
+          was j p r h (yes y) = rw same (p-is .has)
             where
               low : 1 ≤ diff (w .tx .next) n₃
               low = leb-true _ _ (bounds .0)
@@ -257,13 +253,13 @@ module _ (w : Way) (e o : ℕ) (i : Inv w e o) (slot : ℕ) (a : Ack) (a-is : Ac
               room : w .tx .count ≤ PACKETS
               room = i .txi .room
 
-              inside : a .index < length (w .given)
-              inside = a-is .inside
+              inside : p₃ .index < length (w .given)
+              inside = p-is .packet-is .inside
 
-              k-is : cell n₃ ≡ pos (w .start) (a .index)
-              k-is = omega (arith, a-is .number-is)
+              k-is : cell n₃ ≡ pos (w .start) (p₃ .index)
+              k-is = omega (arith, numbered, p-is .packet-is .number-is)
 
-              same : j ≡ a .index
+              same : j ≡ p₃ .index
               same = omega (arith, k-is, back-is, room, inside)
           was j p r h (no y) = i .recvd j p r (sym (ap (λ (x : Pkt). x .status) (miss (w .tx .cells) (cell n₃) (pos (w .start) j) new₃ noPkt y)) ∙ h)
 
@@ -271,7 +267,7 @@ module _ (w : Way) (e o : ℕ) (i : Inv w e o) (slot : ℕ) (a : Ack) (a-is : Ac
   lacks (inl p) = omega arith
   lacks (inr h) = let z : true ≡ false = sym (h .2) ∙ i .rest .stuck (h .1) in let z′ : _≡_ {A = ℕ} 0 1 = cc in omega arith
 
-  pub keeps-ack : Inv (onAck slot a w) e o
+  pub keeps-ack : Inv (onAck slot n₃ w) e o
   keeps-ack = record {
     small = i .small;
     txi = tx-sweep (w .start) (w .given) mt (mk .mtx);
@@ -282,7 +278,7 @@ module _ (w : Way) (e o : ℕ) (i : Inv w e o) (slot : ℕ) (a : Ack) (a-is : Ac
         (mk .mrecvd) lacks (omega (arith, i .tight, mk .mcount));
     recvd = λ j p q h. mk .mrecvd j p (omega (arith, le)) h;
     msgs-ok = i .msgs-ok;
-    acks-ok = i .acks-ok;
+    taken-ok = i .taken-ok;
     accepted-ok = i .accepted-ok;
     out-is = i .out-is;
   }
@@ -300,7 +296,7 @@ module _ (w : Way) (e o : ℕ) (i : Inv w e o) (slot : ℕ) (a : Ack) (a-is : Ac
 
 pub like-at : (w : Way) (e o : ℕ) → Inv w e o → (t : Tx) → Like (w .tx) t → (j : ℕ) → j < length (w .given) → length (w .given) ≤ j + w .tx .count
     → pktOf t (pos (w .start) j) ≡ pktOf (w .tx) (pos (w .start) j)
-like-at w e o i t l j p q = rw (num-cell (w .start) j) at (l .table-same (num (w .start) j) (table-of (w .start) (w .given) (w .tx) (i .txi) j p q))
+like-at w e o i t l j p q = rw (num-cell (w .start) j) at (l .table-same (num (w .start) j) (omega arith) (table-of (w .start) (w .given) (w .tx) (i .txi) j p q))
 
 pub keeps-relabel : (w : Way) (e o : ℕ) → Inv w e o → (t : Tx) → Like (w .tx) t → Inv (withTx t w) e o
 keeps-relabel w e o i t l = record {
@@ -325,7 +321,7 @@ keeps-relabel w e o i t l = record {
   recvd = λ j p q h. let q′ : length (w .given) ≤ j + w .tx .count = rw (l .count-same) at q in
       i .recvd j p q′ (sym (ap (λ (x : Pkt). x .status) (like-at w e o i t l j p q′)) ∙ h);
   msgs-ok = i .msgs-ok;
-  acks-ok = i .acks-ok;
+  taken-ok = i .taken-ok;
   accepted-ok = i .accepted-ok;
   out-is = i .out-is;
 }

@@ -1,7 +1,7 @@
 -- What Send, Resend, Ack, Unconfirm, Remove and Flush do to what is seen of a state, each from its own definition: the table's cells
 -- are changed as Model says, and no waiting ack but those of a removed link goes. Assumes nothing.
 use mathlib.Core.Path.{_≡_, refl, sym, ap, _∙_}
-use mathlib.Core.Bool.{cond, _&&_}
+use mathlib.Core.Bool.{cond, _&&_, true}
 use mathlib.Core.List.{List, [], _∷_, map}
 use Prim.Native.Nat.{ℕ, zero, suc, _+_, _-_, _%_, _^_, _≤_, _<_}
 use native.Mathlib.Omega.{arith}
@@ -28,21 +28,23 @@ use Rattle.engine.specs.declared.answer.Outcome.the-variants as outcomes
 use Rattle.engine.specs.Answer.{changedBy}
 use Rattle.engine.specs.Decide.{soundb}
 use Rattle.engine.specs.Gates.{slotVerdict, timedVerdict}
-use Rattle.engine.specs.Packets.{noPacket, isReceived, isQueued}
+use Rattle.engine.specs.Packets.{noPacket, firstOf, packets, isReceived, isQueued}
+use Rattle.engine.specs.InTable.{placed}
+use Rattle.laws.specs.PacketsKept.{table-at}
 use Rattle.engine.specs.Queue.{requeued}
-use Rattle.engine.specs.Ring.{window, window-length, nextCell}
+use Rattle.engine.specs.Ring.{window, window-length, nextCell, refill-length, refilled}
 use Rattle.engine.specs.Rows.{rowOf, slotOk, timeOk}
 use Rattle.engine.specs.Stores.{cellStart, copied, storeBy}
-use Rattle.engine.specs.Table.{inTable, packetOf, withPacket}
-use Rattle.engine.specs.Unconfirming.{unconfirmedAs, unconfirmedPacket, unconfirmedState, unconfirmOf, removeOf}
+use Rattle.engine.specs.Table.{inTable, lookedAt, packetOf, withPacket, withTable}
+use Rattle.engine.specs.Unconfirming.{unconfirmedAs, unconfirmedPacket, unconfirmedState, removedState, unconfirmOf, removeOf}
 use Rattle.engine.specs.declared.sending.SendAnswer.the-variants as sends
 use Rattle.engine.specs.declared.resending.ResendAnswer.the-variants as resends
 use Rattle.engine.specs.Sending.{sendVerdict, sentTx, toldRx, sentState, sentBy, sendOf, sendStore, send-passed}
-use Rattle.engine.specs.Resending.{resendVerdict, resentState, resentBy, resendOf}
-use Rattle.engine.specs.Flushing.{flushedAs, flushedPacket, flushOf}
-use Rattle.engine.specs.Acking.{receivedTx, settledTxAs, sweepFrom, sweepOf, sweptTx, ackVerdict, ackedRow, ackedTx, ackedState, ackOf}
+use Rattle.engine.specs.Resending.{resendVerdict, resentState, resentBy, resendOf, resend-passed}
+use Rattle.engine.specs.Flushing.{flushedAs, flushedPacket, flushedState, flushOf}
+use Rattle.engine.specs.Acking.{receivedTx, settledTxAs, sweepFrom, sweepOf, sweptTx, ackVerdict, ackedRow, ackedTx, ackedState, ackOf, acked-count}
 use Rattle.engine.specs.Sizes.{PACKETS, SLOTS, DATA_BYTES, SENT_BYTES}
-use Rattle.engine.specs.Fields.{withStatus, withPackets, withRow, withTx, withTime}
+use Rattle.engine.specs.Fields.{withStatus, withRow}
 use Rattle.laws.specs.RowAcks.{unacked-acks, unconfirm-acks, resent-acks, acked-acks}
 use Rattle.laws.specs.Passed.{changed-keeps, slot-ok, slot-passed, timed-passed}
 use Rattle.ends.specs.World.{Msg}
@@ -61,19 +63,25 @@ module _ {A B : Type 0} (f : A → B) where
   getD-map (x ∷ xs) zero d = refl
   getD-map (x ∷ xs) (suc i) d = getD-map xs i d
 
+  map-long : (l : List A) → length (map f l) ≡ length l
+  map-long [] = refl
+  map-long (x ∷ xs) = ap suc (map-long xs)
+
   map-set : (l : List A) (i : ℕ) (v : A) → map f (set l i v) ≡ set (map f l) i (f v)
   map-set [] i v = refl
   map-set (x ∷ xs) zero v = refl
   map-set (x ∷ xs) (suc i) v = ap (λ (t : List B). f x ∷ t) (map-set xs i v)
 
-  -- a change that isn't seen, and one that is seen as another
-  map-kept : (g : A → A) → ((a : A) → f (g a) ≡ f a) → (l : List A) → map f (map g l) ≡ map f l
-  map-kept g e [] = refl
-  map-kept g e (x ∷ xs) = simp (e x, map-kept g e xs)
+-- no change
+map-same : {A : Type 0} (l : List A) → map (λ x. x) l ≡ l
+map-same [] = refl
+map-same {A} (x ∷ xs) = ap (λ (t : List A). x ∷ t) (map-same xs)
 
-  map-seen : (g : A → A) (h : B → B) → ((a : A) → f (g a) ≡ h (f a)) → (l : List A) → map f (map g l) ≡ map h (map f l)
-  map-seen g h e [] = refl
-  map-seen g h e (x ∷ xs) = simp (e x, map-seen g h e xs)
+-- what stands at a place of a changed list
+map-read : (g : Pkt → Pkt) (l : List Pkt) (i : ℕ) → i < length l → getD (map g l) i noPkt ≡ g (getD l i noPkt)
+map-read g [] i h = absurd (omega arith)
+map-read g (x ∷ xs) zero h = refl
+map-read g (x ∷ xs) (suc i) h = map-read g xs i (omega arith)
 
 -- ---- the packets
 
@@ -87,7 +95,7 @@ same-like t t′ n c l d = record {
   count-same = c;
   store-same = d;
   length-same = ap (λ (cs : List Pkt). length cs) l;
-  table-same = λ k h. ap (λ (cs : List Pkt). getD cs (cell k) noPkt) l;
+  table-same = λ k u h. ap (λ (cs : List Pkt). getD cs (cell k) noPkt) l;
 }
 
 packet-seen : (t : Sending) (n : ℕ) (store : List ℕ) → pktAt (half t store) n ≡ packetSeen (packetOf t n)
@@ -97,6 +105,34 @@ packet-seen t n store = getD-map packetSeen (t .«txed_packets») (n % PACKETS) 
 table-seen : (t : Sending) (n : ℕ) (store : List ℕ) → model.inTable n (half t store) ≡ inTable t n
 unfolding inTable minus
 table-seen t n store = refl
+
+-- the packet that is looked at, of a sound state
+looked-seen : (s : State) (n : ℕ) (store : List ℕ) → Whole s → n < 2 ^ 32 → inTable (s .tx) n ≡ true → pktAt (half (s .tx) store) n ≡ packetSeen (lookedAt (s .tx) n)
+looked-seen s n store whole u h =
+    packet-seen (s .tx) n store ∙ ap packetSeen (placed (s .tx) n (whole .shaped .next-u32) u (whole .sound .packet-count) h .here)
+
+-- the table's packets changed in their places: the table is seen as the whole of the cells with the change seen
+changed-like : (s : State) (f : SentReliable → SentReliable) (g : Pkt → Pkt) (store : List ℕ) → Whole s → ((p : SentReliable) → packetSeen (f p) ≡ g (packetSeen p))
+    → Like (withCells (map g (map packetSeen (s .tx .«txed_packets»))) (half (s .tx) store)) (half (withTable (s .tx) (map f (packets (s .tx)))) store)
+unfolding withTable
+changed-like s f g store whole seen = record {
+  next-same = refl;
+  count-same = refl;
+  store-same = refl;
+  length-same =
+      map-long packetSeen (refilled PACKETS (s .tx .«txed_packets») (firstOf (s .tx) % PACKETS) (map f (packets (s .tx))))
+      ∙ refill-length PACKETS noPacket (s .tx .«txed_packets») (firstOf (s .tx) % PACKETS) (map f (packets (s .tx)))
+      ∙ sym (map-long g (map packetSeen (s .tx .«txed_packets»)) ∙ map-long packetSeen (s .tx .«txed_packets»));
+  table-same = λ n u h.
+      packet-seen (withTable (s .tx) (map f (packets (s .tx)))) n store
+      ∙ ap packetSeen (table-at f (s .tx) n (whole .shaped .next-u32) u (whole .sound .packet-count) (whole .shaped .packets-full) (sym (table-seen (s .tx) n store) ∙ h))
+      ∙ seen (packetOf (s .tx) n)
+      ∙ ap g (sym (packet-seen (s .tx) n store))
+      ∙ sym (map-read g (map packetSeen (s .tx .«txed_packets»)) (n % PACKETS) (cell-inside n (map packetSeen (s .tx .«txed_packets»)) (map-long packetSeen (s .tx .«txed_packets») ∙ whole .shaped .packets-full)));
+}
+  where
+    cell-inside : (n : ℕ) (cells : List Pkt) → length cells ≡ PACKETS → n % PACKETS < length cells
+    cell-inside n cells l = omega arith
 
 queued-seen : (st : SentReliableStatus) → model.isQueued (statusSeen st) ≡ isQueued st
 queued-seen (Sent flight) = refl
@@ -136,10 +172,10 @@ module _ (s next : State) where
   sent-keeps P (No r) old new number e f = let z : _≡_ {A = ℕ} 0 1 = cc in absurd (omega arith)
 
   resent-keeps : (P : ReliableMsg → ℕ → State → Type 0) (v : Verdict) (n : ℕ) (kind : ReliableMsg) (len : ℕ) → resentBy v s n next .answer ≡ resends.Message kind len
-      → (v ≡ Pass → P (packetOf (s .tx) n .msg) (packetOf (s .tx) n .len) next) → P kind len (resentBy v s n next .state)
+      → (v ≡ Pass → P (lookedAt (s .tx) n .msg) (lookedAt (s .tx) n .len) next) → P kind len (resentBy v s n next .state)
   resent-keeps P Pass n kind len e f =
-      let q : packetOf (s .tx) n .msg ≡ kind = cc in
-      let r : packetOf (s .tx) n .len ≡ len = cc in
+      let q : lookedAt (s .tx) n .msg ≡ kind = cc in
+      let r : lookedAt (s .tx) n .len ≡ len = cc in
       rw (q, r) at (f refl)
   resent-keeps P (No r) n kind len e f = let z : _≡_ {A = ℕ} 0 1 = cc in absurd (omega arith)
 
@@ -182,19 +218,17 @@ module _ (s : State) (store : List ℕ) (slot time : ℕ) (m : Msg) (whole : Who
 
 -- ---- Resend
 
-module _ (s : State) (store : List ℕ) (slot time n : ℕ) (whole : Whole s) where
-  resend-passed : resendVerdict s slot time n ≡ Pass → Resends s store slot n (packetOf (s .tx) n .msg) (packetOf (s .tx) n .len) (resentState s slot time n)
-  unfolding resentState resendVerdict withPacket requeued
-  resend-passed e =
-      let p = timed-passed s slot time _ e in
-      let q = gate-pass (inTable (s .tx) n && isQueued (packetOf (s .tx) n .status)) _ _ (p .4) .0 in
-      let b = split (inTable (s .tx) n) (isQueued (packetOf (s .tx) n .status)) q in
-      let seen = packet-seen (s .tx) n store in
-      let more = rowOf s slot .«txed_unacked_data» + packetOf (s .tx) n .len in
+module _ (s : State) (store : List ℕ) (slot time n : ℕ) (whole : Whole s) (u : n < 2 ^ 32) where
+  resend-done : resendVerdict s slot time n ≡ Pass → Resends s store slot n (lookedAt (s .tx) n .msg) (lookedAt (s .tx) n .len) (resentState s slot time n)
+  unfolding resentState withPacket requeued
+  resend-done e =
+      let p = resend-passed s slot time n (whole .shaped) u e in
+      let seen = looked-seen s n store whole u (p .held) in
+      let more = rowOf s slot .«txed_unacked_data» + lookedAt (s .tx) n .len in
       let row = withUnacked (markResent (rowOf s slot) n) more in
       let same = resent-acks (rowOf s slot) n more in
       record {
-        ok = join (table-seen (s .tx) n store ∙ b .0) (ap (λ (k : Pkt). model.isQueued (k .status)) seen ∙ queued-seen (packetOf (s .tx) n .status) ∙ b .1);
+        ok = join (table-seen (s .tx) n store ∙ p .held) (ap (λ (k : Pkt). model.isQueued (k .status)) seen ∙ queued-seen (lookedAt (s .tx) n .status) ∙ p .queued);
         msg-is = sym (ap (λ (k : Pkt). record { kind = k .kind; bytes = take (k .len) (drop (cellStart PACKETS n) store) }) seen);
         tx-is =
             same-like _ _ refl refl
@@ -202,14 +236,14 @@ module _ (s : State) (store : List ℕ) (slot time n : ℕ) (whole : Whole s) wh
             ∙ sym (ap (λ (k : Pkt). set (map packetSeen (s .tx .«txed_packets»)) (n % PACKETS) (model.withStatus (SentOn slot) k)) seen))
             refl;
         rx-alone = λ st. refl;
-        acks-alone = acks-same s (resentState s slot time n) slot row (whole .shaped .links-full) (p .2) refl same;
+        acks-alone = acks-same s (resentState s slot time n) slot row (whole .shaped .links-full) (p .in-eight) refl same;
       }
 
   resend-law : (kind : ReliableMsg) (len : ℕ) → resendOf s slot time n .answer ≡ resends.Message kind len
       → Resends s store slot n kind len (resendOf s slot time n .state)
   unfolding resendOf
   resend-law kind len e =
-      resent-keeps s (resentState s slot time n) (λ k l s′. Resends s store slot n k l s′) (resendVerdict s slot time n) n kind len e resend-passed
+      resent-keeps s (resentState s slot time n) (λ k l s′. Resends s store slot n k l s′) (resendVerdict s slot time n) n kind len e resend-done
 
 -- ---- Unconfirm and Remove
 
@@ -221,9 +255,7 @@ module _ (s : State) (slot : ℕ) (whole : Whole s) where
       let same = unconfirm-acks (rowOf s slot) in
       record {
         tx-is = λ store.
-            same-like _ _ refl refl
-            (map-seen packetSeen (unconfirmedPacket slot) (requeuedPkt slot) (λ p. unconfirm-as slot p (p .status)) (s .tx .«txed_packets»))
-            refl;
+            changed-like s (unconfirmedPacket slot) (requeuedPkt slot) store whole (λ p. unconfirm-as slot p (p .status));
         rx-alone = λ st. refl;
         acks-alone = acks-same s (unconfirmedState s slot) slot row (whole .shaped .links-full) small refl same;
       }
@@ -238,7 +270,8 @@ module _ (s : State) (slot : ℕ) (whole : Whole s) where
   unfolding unconfirmedState
   mid-eight = length-set (s .links) slot (unconfirmedRow (rowOf s slot)) ∙ whole .shaped .links-full
 
-  remove-done : slot < SLOTS → Removes s slot (withRow (unconfirmedState s slot) slot emptyRow)
+  remove-done : slot < SLOTS → Removes s slot (removedState s slot)
+  unfolding removedState
   remove-done small =
       let mid = unconfirmedState s slot in
       let after = withRow mid slot emptyRow in
@@ -255,24 +288,22 @@ module _ (s : State) (slot : ℕ) (whole : Whole s) where
   remove-law : removeOf s slot .outcome ≡ outcomes.Done → Removes s slot (removeOf s slot .state)
   unfolding removeOf
   remove-law e =
-      done-keeps s (withRow (unconfirmedState s slot) slot emptyRow) (λ s′. Removes s slot s′) (slotVerdict s slot) e
+      done-keeps s (removedState s slot) (λ s′. Removes s slot s′) (slotVerdict s slot) e
       (λ v. remove-done (slot-passed s slot v .0))
 
 -- ---- Flush
 
-abbrev flushed : State → ℕ → ℕ → State
-flushed s slot time = withTime (withTx s (withPackets (s .tx) (map (flushedPacket slot time) (s .tx .«txed_packets»)))) time
-
-flush-law : (s : State) (slot time : ℕ) → Alone s (flushOf s slot time .state)
-unfolding flushOf
-flush-law s slot time =
-    changed-keeps (λ s′. Alone s s′) (timedVerdict s slot time Pass) s (flushed s slot time)
+flush-law : (s : State) (slot time : ℕ) → Whole s → Alone s (flushOf s slot time .state)
+unfolding flushOf flushedState
+flush-law s slot time whole =
+    changed-keeps (λ s′. Alone s s′) (timedVerdict s slot time Pass) s (flushedState s slot time)
     (record { tx-alone = λ store. same-like _ _ refl refl refl refl; rx-alone = λ store. refl; acks-alone = λ k. refl })
     (λ v. record {
       tx-alone = λ store.
-          same-like _ _ refl refl (map-kept packetSeen (flushedPacket slot time) (λ p. flush-as slot time p (p .status)) (s .tx .«txed_packets»)) refl;
+          rw (map-same (map packetSeen (s .tx .«txed_packets»))) at
+          (changed-like s (flushedPacket slot time) (λ k. k) store whole (λ p. flush-as slot time p (p .status)));
       rx-alone = λ store. refl;
-      acks-alone = acks-untouched s (flushed s slot time) refl;
+      acks-alone = acks-untouched s (flushedState s slot time) refl;
     })
 
 -- ---- Ack
@@ -298,14 +329,15 @@ settle-as t store slot n p Received e = ap (λ (cs : List Pkt). withCells cs (ha
 settle-as t store slot n p (ResendQueued link) e =
     ap (λ (cs : List Pkt). withCells cs (half t store)) (map-set packetSeen (t .«txed_packets») (n % PACKETS) (withStatus p Received))
 
-ack-table : (s : State) (store : List ℕ) (slot n : ℕ) → model.marked slot n (tx s store) ≡ half (ackedTx s slot n) store
+ack-table : (s : State) (store : List ℕ) (slot n : ℕ) → Whole s → n < 2 ^ 32 → model.marked slot n (tx s store) ≡ half (ackedTx s slot n) store
 unfolding ackedTx
-ack-table s store slot n =
-    let seen = packet-seen (s .tx) n store in
+ack-table s store slot n whole u =
     let there = table-seen (s .tx) n store in
-    let p = packetOf (s .tx) n in
+    let p = lookedAt (s .tx) n in
     cases (inTable (s .tx) n)
-    (λ y. rw (there, y)
+    (λ y.
+    let seen = looked-seen s n store whole u y in
+    rw (there, y)
     (ap (λ (k : Pkt). withCells (set (map packetSeen (s .tx .«txed_packets»)) (n % PACKETS) (settledPkt slot k)) (tx s store)) seen
     ∙ sym (settle-as (s .tx) store slot n p (p .status) (sym seen))))
     (λ y. rw (there, y) refl)
@@ -326,19 +358,13 @@ swept-left cells at (suc c) last held =
 sweep-count : (t : Sending) (store : List ℕ) → t .«txed_count» ≤ PACKETS → sweptTx t .«txed_count» ≡ sweep (half t store) .count
 unfolding sweptTx sweepOf minus
 sweep-count t store few =
-    let e : t .«txed_count» % 2 ^ 32 ≡ t .«txed_count» = omega arith in
-    rw e (swept-left (t .«txed_packets») (minus (t .«tx_seq» .0) (t .«txed_count») % PACKETS) (t .«txed_count») (t .«txed_last_consumed») (t .«txed_unconsumable»))
+    swept-left (t .«txed_packets») (minus (t .«tx_seq» .0) (t .«txed_count») % PACKETS) (t .«txed_count») (t .«txed_last_consumed») (t .«txed_unconsumable»)
 
 sweep-like : (t : Sending) (store : List ℕ) → t .«txed_count» ≤ PACKETS → Like (sweep (half t store)) (half (sweptTx t) store)
 unfolding sweptTx
 sweep-like t store few = same-like _ _ refl (sweep-count t store few) refl refl
 
-module _ (s : State) (slot time n : ℕ) (whole : Whole s) where
-  ack-count : (store : List ℕ) → ackedTx s slot n .«txed_count» ≡ s .tx .«txed_count»
-  ack-count store =
-      ap (λ (t : Tx). t .count) (sym (ack-table s store slot n))
-      ∙ cases (model.inTable n (tx s store)) (λ y. simp y) (λ y. simp y)
-
+module _ (s : State) (slot time n : ℕ) (whole : Whole s) (u : n < 2 ^ 32) where
   ack-passed : ackVerdict s slot time n ≡ Pass → Acks s slot n (ackedState s slot time n)
   unfolding ackVerdict ackedState
   ack-passed e =
@@ -346,8 +372,8 @@ module _ (s : State) (slot time n : ℕ) (whole : Whole s) where
       let after = ackedState s slot time n in
       record {
         tx-is = λ store.
-            rw (ack-table s store slot n)
-            (sweep-like (ackedTx s slot n) store (rw (ack-count store) (whole .sound .packet-count)));
+            rw (ack-table s store slot n whole u)
+            (sweep-like (ackedTx s slot n) store (rw (acked-count s slot n) (whole .sound .packet-count)));
         rx-alone = λ st. refl;
         acks-alone = acks-same s after slot (ackedRow s slot time n) (whole .shaped .links-full) (p .2) refl (acked-acks s slot time n);
       }
@@ -361,9 +387,9 @@ module _ (s : State) (slot time n : ℕ) (whole : Whole s) where
 pub sending-laws : SendingLaws
 sending-laws = record {
   send-law = λ s store slot time m number whole e. send-law s store slot time m whole number e;
-  resend-law = λ s store slot time n kind len whole small e. resend-law s store slot time n whole kind len e;
-  ack-law = λ s slot time n whole small e. ack-law s slot time n whole e;
+  resend-law = λ s store slot time n kind len whole small e. resend-law s store slot time n whole small kind len e;
+  ack-law = λ s slot time n whole small e. ack-law s slot time n whole small e;
   unconfirm-law = λ s slot whole e. unconfirm-law s slot whole e;
   remove-law = λ s slot whole e. remove-law s slot whole e;
-  flush-law = λ s slot time whole. flush-law s slot time;
+  flush-law = λ s slot time whole. flush-law s slot time whole;
 }

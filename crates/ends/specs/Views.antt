@@ -1,8 +1,10 @@
 -- What the theorem sees of a state: its sending half with the sent store, its receiving half with the received store, and the
 -- numbers of the acks that wait for a slot. Assumes nothing.
 use mathlib.Core.Path.{_≡_}
+use mathlib.Core.Bool.{cond}
 use mathlib.Core.List.{List, map}
 use Prim.Native.Nat.{ℕ}
+use lib.Dec.{eqb}
 use Rattle.seq.specs.declared.Seq.{Seq}
 use Rattle.link.specs.Acks.{waiting}
 use Rattle.engine.specs.declared.state.SentReliableStatus.{SentReliableStatus}
@@ -33,6 +35,10 @@ valueOf n = n .0
 -- oldest first
 abbrev pub waitingOf : State → ℕ → List ℕ
 waitingOf s slot = map valueOf (waiting (rowOf s slot))
+
+-- another list for one slot
+abbrev pub upd : (ℕ → List ℕ) → ℕ → List ℕ → ℕ → List ℕ
+upd f slot v k = cond (eqb k slot) v (f k)
 
 -- what is true of the state of an end at every point of a run
 pub record Whole (s : State) : Type 0 where

@@ -1,11 +1,11 @@
--- Two ends and the links between them. What a call does is the definition that the call's promise cites; what an observer writes
--- down beside it decides nothing. A reader needs this file, Demand and those definitions. Assumes nothing.
+-- Two ends and the links between them. What a call does is the definition that the call's promise cites. An observer writes down
+-- beside it what was given, handed out and accepted; no call sees that, and `Pinned` of Demand says that it is right. A reader needs
+-- this file, Demand and those definitions. Assumes nothing.
 use mathlib.Core.Path.{_≡_}
-use mathlib.Core.Bool.{Bool, cond}
+use mathlib.Core.Bool.{Bool}
 use mathlib.Core.List.{List, [], _∷_, _++_, List·Memᴰ}
 use Prim.Native.Nat.{ℕ, _+_, _-_, _^_, _<_}
-use lib.Dec.{eqb}
-use lib.ListN.{length, getD, take, drop}
+use lib.ListN.{length, take, drop}
 use Rattle.seq.specs.declared.Seq.{Seq}
 use Rattle.seq.specs.Numbers.{plus, minus}
 use Rattle.msg.specs.declared.reliable.ReliableMsg.{ReliableMsg}
@@ -15,8 +15,6 @@ use Rattle.engine.specs.declared.answer.Outcome.{Outcome}
 use Rattle.engine.specs.declared.answer.Outcome.the-variants as outcomes
 use Rattle.engine.specs.Stores.{cellStart}
 use Rattle.engine.specs.Starting.{freshOf}
-use Rattle.engine.specs.declared.links.AddAnswer.{AddAnswer}
-use Rattle.engine.specs.declared.links.AddAnswer.the-variants as adds
 use Rattle.engine.specs.Links.{addOf, confirmOf, blockOf, markOf, pingOf, pongOf}
 use Rattle.engine.specs.Unconfirming.{unconfirmOf, removeOf}
 use Rattle.engine.specs.declared.sending.SendAnswer.{SendAnswer}
@@ -37,21 +35,17 @@ use Rattle.engine.specs.Sizes.{PACKETS, SENT_BYTES, RECEIVED_BYTES}
 
 -- ---- what there is
 
--- "a Data with its payload is one message": a kind, with a Consumed's count in it, and the bytes
+-- "a message (a Data with its payload is one)": a kind, with a Consumed's count in it, and the bytes
 pub record Msg : Type 0 where
   pub kind : ReliableMsg
   pub bytes : List ℕ
 
--- a message on a link. `index` counts its sender's messages from 0, "counted without wrapping": the observer's, no call sees it
+-- a message on a link. `index` is its place among all that its sender was given, from 0: its number less the start, "counted without wrapping".
+-- It is the observer's: no call sees it, and it decides until when the message may arrive (Timely)
 pub record Packet : Type 0 where
   pub index : ℕ
   pub number : ℕ
   pub msg : Msg
-
--- an ack on a link, with the index of the message that it acks
-pub record Ack : Type 0 where
-  pub index : ℕ
-  pub number : ℕ
 
 -- an end: its state and its two stores; then what the observer writes down
 pub record End : Type 0 where
@@ -64,14 +58,12 @@ pub record End : Type 0 where
   pub out : List Msg
   -- what its Receives accepted, the last first
   pub accepted : List Packet
-  -- for each slot, the indices of the messages whose acks wait there, oldest first
-  pub owed : ℕ → List ℕ
 
--- all that one end ever put on the links. "Links that lose, repeat, delay and reorder": any of it arrives at any time, any number
--- of times, over any link, or never
+-- all that one end ever put on the links; an ack is the number that it acks. "links that lose, repeat, delay and reorder": any of it
+-- arrives at any time, any number of times, over any link, or never
 pub record Wire : Type 0 where
   pub msgs : List Packet
-  pub acks : List Ack
+  pub acks : List ℕ
 
 pub record World : Type 0 where
   pub start : ℕ
@@ -89,7 +81,7 @@ swap W = record { start = W .start; a = W .b; b = W .a; ab = W .ba; ba = W .ab }
 
 -- the end after a call, with nothing written down
 abbrev pub after : End → State → End
-after e s = record { state = s; sent = e .sent; received = e .received; given = e .given; out = e .out; accepted = e .accepted; owed = e .owed }
+after e s = record { state = s; sent = e .sent; received = e .received; given = e .given; out = e .out; accepted = e .accepted }
 
 abbrev pub moved : World → End → World
 moved W e = record { start = W .start; a = e; b = W .b; ab = W .ab; ba = W .ba }
@@ -98,50 +90,20 @@ moved W e = record { start = W .start; a = e; b = W .b; ab = W .ab; ba = W .ba }
 abbrev pub putMsg : Wire → Packet → Wire
 putMsg w p = record { msgs = p ∷ w .msgs; acks = w .acks }
 
-abbrev pub putAck : Wire → Ack → Wire
-putAck w x = record { msgs = w .msgs; acks = x ∷ w .acks }
+abbrev pub putAck : Wire → ℕ → Wire
+putAck w n = record { msgs = w .msgs; acks = n ∷ w .acks }
 
--- another list for one slot
-abbrev pub upd : (ℕ → List ℕ) → ℕ → List ℕ → ℕ → List ℕ
-upd f slot v k = cond (eqb k slot) v (f k)
-
-abbrev pub tail : List ℕ → List ℕ
-tail [] = []
-tail (x ∷ xs) = xs
-
--- the acks that wait for one slot, as the observer has them
-abbrev pub owing : End → ℕ → List ℕ → End
-owing e slot is = record { state = e .state; sent = e .sent; received = e .received; given = e .given; out = e .out; accepted = e .accepted; owed = upd (e .owed) slot is }
-
--- Add: no ack waits for a new link
-abbrev pub addBy : AddAnswer → End → End
-addBy (adds.Slot slot) e = owing e slot []
-addBy (adds.No r) e = e
-
-unfoldable pub addAt : World → ℕ → ℕ → MaxPing → Bool → Bool → World
-addAt W id roundtrip max blocked unconfirmed =
-    let r = addOf (W .a .state) id roundtrip max blocked unconfirmed in
-    moved W (addBy (r .answer) (after (W .a) (r .state)))
-
--- Remove: with the link go the acks that wait for it
-abbrev pub removeBy : Outcome → ℕ → End → End
-removeBy outcomes.Done slot e = owing e slot []
-removeBy (outcomes.No r) slot e = e
-
-unfoldable pub removeAt : World → ℕ → World
-removeAt W slot = let r = removeOf (W .a .state) slot in moved W (removeBy (r .outcome) slot (after (W .a) (r .state)))
-
--- Send: what was given is put on the links
+-- "an accepted Send": what was given, "by a call not refused", is put on the links
 abbrev pub sendBy : SendAnswer → World → Msg → State → List ℕ → World
 sendBy (sends.Number seq) W m s store = record {
   start = W .start;
-  a = record { state = s; sent = store; received = W .a .received; given = W .a .given ++ (m ∷ []); out = W .a .out; accepted = W .a .accepted; owed = W .a .owed };
+  a = record { state = s; sent = store; received = W .a .received; given = W .a .given ++ (m ∷ []); out = W .a .out; accepted = W .a .accepted };
   b = W .b;
   ab = putMsg (W .ab) (record { index = length (W .a .given); number = seq .0; msg = m });
   ba = W .ba;
 }
 sendBy (sends.No r) W m s store =
-    moved W (record { state = s; sent = store; received = W .a .received; given = W .a .given; out = W .a .out; accepted = W .a .accepted; owed = W .a .owed })
+    moved W (record { state = s; sent = store; received = W .a .received; given = W .a .given; out = W .a .out; accepted = W .a .accepted })
 
 unfoldable pub sendAt : World → ℕ → ℕ → Msg → World
 sendAt W slot time m =
@@ -152,7 +114,7 @@ sendAt W slot time m =
 abbrev pub newest : ℕ → ℕ → ℕ → ℕ
 newest start given n = given - minus (plus start given) n
 
--- Resend: what it answers is put on the links, "with the bytes of its sent cell"
+-- "an accepted Resend (with its sent cell)": what it answers is put on the links, with the bytes of the number's sent cell
 abbrev pub resendBy : ResendAnswer → World → ℕ → State → World
 resendBy (resends.Message kind len) W n s = record {
   start = W .start;
@@ -166,25 +128,24 @@ resendBy (resends.No r) W n s = moved W (after (W .a) s)
 unfoldable pub resendAt : World → ℕ → ℕ → ℕ → World
 resendAt W slot time n = let r = resendOf (W .a .state) slot time n in resendBy (r .answer) W n (r .state)
 
--- Receive: it is accepted, and an ack of it waits for the link
-abbrev pub receiveBy : Outcome → End → ℕ → Packet → State → List ℕ → End
-receiveBy outcomes.Done e slot p s store = record {
+-- Receive: what isn't refused is accepted
+abbrev pub receiveBy : Outcome → End → Packet → State → List ℕ → End
+receiveBy outcomes.Done e p s store = record {
   state = s;
   sent = e .sent;
   received = store;
   given = e .given;
   out = e .out;
   accepted = p ∷ e .accepted;
-  owed = upd (e .owed) slot (e .owed slot ++ (p .index ∷ []));
 }
-receiveBy (outcomes.No r) e slot p s store = record { state = s; sent = e .sent; received = store; given = e .given; out = e .out; accepted = e .accepted; owed = e .owed }
+receiveBy (outcomes.No r) e p s store = record { state = s; sent = e .sent; received = store; given = e .given; out = e .out; accepted = e .accepted }
 
 unfoldable pub receiveAt : World → ℕ → Packet → World
 receiveAt W slot p =
     let r = receiveOf (W .a .state) (length (W .a .received)) slot (p .msg .kind) (p .number) (length (p .msg .bytes)) in
-    moved W (receiveBy (r .outcome) (W .a) slot p (r .state) (receiveStore (W .a .state) (W .a .received) slot (p .msg .kind) (p .number) (p .msg .bytes)))
+    moved W (receiveBy (r .outcome) (W .a) p (r .state) (receiveStore (W .a .state) (W .a .received) slot (p .msg .kind) (p .number) (p .msg .bytes)))
 
--- Take: what was handed out is the kind that taking answers, with "the bytes that showing gives before taking"
+-- Take: what was handed out is the kind that taking answers, with the bytes that showing gives before it
 abbrev pub takeBy : HandOut → End → List ℕ → State → End
 takeBy (handouts.Message kind seq len) e shown s = record {
   state = s;
@@ -193,26 +154,25 @@ takeBy (handouts.Message kind seq len) e shown s = record {
   given = e .given;
   out = e .out ++ (record { kind = kind; bytes = shown } ∷ []);
   accepted = e .accepted;
-  owed = e .owed;
 }
 takeBy (handouts.No r) e shown s = after e s
 
 unfoldable pub takeAt : World → World
 takeAt W = let r = takeOf (W .a .state) in moved W (takeBy (r .answer) (W .a) (shownOf (W .a .state) (W .a .received)) (r .state))
 
--- the taking of an ack: it is put on the links
-abbrev pub takeAckBy : AckAnswer → World → ℕ → State → World
-takeAckBy (acks.Number seq) W slot s = record {
+-- "the taking of an ack": it is put on the links
+abbrev pub takeAckBy : AckAnswer → World → State → World
+takeAckBy (acks.Number seq) W s = record {
   start = W .start;
-  a = owing (after (W .a) s) slot (tail (W .a .owed slot));
+  a = after (W .a) s;
   b = W .b;
-  ab = putAck (W .ab) (record { index = getD (W .a .owed slot) 0 0; number = seq .0 });
+  ab = putAck (W .ab) (seq .0);
   ba = W .ba;
 }
-takeAckBy (acks.No r) W slot s = moved W (after (W .a) s)
+takeAckBy (acks.No r) W s = moved W (after (W .a) s)
 
 unfoldable pub takeAckAt : World → ℕ → World
-takeAckAt W slot = let r = takeAckOf (W .a .state) slot in takeAckBy (r .answer) W slot (r .state)
+takeAckAt W slot = let r = takeAckOf (W .a .state) slot in takeAckBy (r .answer) W (r .state)
 
 -- ---- the premises
 
@@ -220,19 +180,35 @@ takeAckAt W slot = let r = takeAckOf (W .a .state) slot in takeAckBy (r .answer)
 abbrev pub Brought : Packet → Wire → Type 0
 Brought p w = List·Memᴰ p (w .msgs)
 
-abbrev pub BroughtAck : Ack → Wire → Type 0
-BroughtAck x w = List·Memᴰ x (w .acks)
+abbrev pub BroughtAck : ℕ → Wire → Type 0
+BroughtAck n w = List·Memᴰ n (w .acks)
 
--- "No message or ack arrives once its number is 2^30 or more behind the next number of the end that sent the message (for an ack:
--- of the message it acks), counted without wrapping"
+-- "2^30 or more behind the next number"
+abbrev pub BEHIND : ℕ
+BEHIND = 2 ^ 30
+
+-- "No message or ack arrives once its number is 2^30 or more behind the next number of the end that sent the message": its next number
+-- is that of the place after all that it was given
 abbrev pub Timely : ℕ → End → Type 0
-Timely index sender = length (sender .given) < index + 2 ^ 30
+Timely index sender = length (sender .given) < index + BEHIND
 
--- ---- a call at `a`, whatever it is given and whatever it answers: one constructor for each call that gives a state
+-- "for an ack the message it acks": a message of that number, accepted where the ack was made
+pub record AckFor (n : ℕ) (accepted : List Packet) : Type 0 where
+  pub message : Packet
+  pub member : List·Memᴰ message accepted
+  pub numbered : message .number ≡ n
+
+-- an ack needs no label: that a message of its number that was accepted is timely is enough
+pub record TimelyAck (n : ℕ) (sender receiver : End) : Type 0 where
+  pub acked : AckFor n (receiver .accepted)
+  pub timely : Timely (acked .message .index) sender
+
+-- ---- "whatever calls are made or refused (a second fresh state isn't one of them)": one constructor for each call that gives a state,
+-- "given the last call's state and stores". Receive and ack are given what the links bring in time, and every other call what one likes
 
 pub data Call : World → World → Type 0 where
-  Add : {W : World} (id roundtrip : ℕ) (max : MaxPing) (blocked unconfirmed : Bool) → Call W (addAt W id roundtrip max blocked unconfirmed)
-  Remove : {W : World} (slot : ℕ) → Call W (removeAt W slot)
+  Add : {W : World} (id roundtrip : ℕ) (max : MaxPing) (blocked unconfirmed : Bool) → Call W (moved W (after (W .a) (addOf (W .a .state) id roundtrip max blocked unconfirmed .state)))
+  Remove : {W : World} (slot : ℕ) → Call W (moved W (after (W .a) (removeOf (W .a .state) slot .state)))
   Confirm : {W : World} (slot : ℕ) → Call W (moved W (after (W .a) (confirmOf (W .a .state) slot .state)))
   Unconfirm : {W : World} (slot : ℕ) → Call W (moved W (after (W .a) (unconfirmOf (W .a .state) slot .state)))
   Block : {W : World} (slot : ℕ) (blocked : Bool) → Call W (moved W (after (W .a) (blockOf (W .a .state) slot blocked .state)))
@@ -243,7 +219,7 @@ pub data Call : World → World → Type 0 where
   Send : {W : World} (slot time : ℕ) (m : Msg) → Call W (sendAt W slot time m)
   Resend : {W : World} (slot time n : ℕ) → n < 2 ^ 32 → Call W (resendAt W slot time n)
   Receive : {W : World} (slot : ℕ) (p : Packet) → Brought p (W .ba) → Timely (p .index) (W .b) → Call W (receiveAt W slot p)
-  Acked : {W : World} (slot time : ℕ) (x : Ack) → BroughtAck x (W .ba) → Timely (x .index) (W .a) → Call W (moved W (after (W .a) (ackOf (W .a .state) slot time (x .number) .state)))
+  Acked : {W : World} (slot time n : ℕ) → BroughtAck n (W .ba) → TimelyAck n (W .a) (W .b) → Call W (moved W (after (W .a) (ackOf (W .a .state) slot time n .state)))
   Take : {W : World} → Call W (takeAt W)
   TakeAck : {W : World} (slot : ℕ) → Call W (takeAckAt W slot)
 
@@ -256,10 +232,10 @@ pub data Run (W : World) : World → Type 0 where
   here : Run W W
   _then_ : {X Y : World} → Run W X → Step X Y → Run W Y
 
--- ---- "Two fresh ends, started at the same number (any)"
+-- ---- "two fresh ends, started at the same number"
 
 abbrev pub freshEnd : ℕ → ℕ → List ℕ → List ℕ → End
-freshEnd start buffer sent received = record { state = freshOf start buffer .state; sent = sent; received = received; given = []; out = []; accepted = []; owed = λ k. [] }
+freshEnd start buffer sent received = record { state = freshOf start buffer .state; sent = sent; received = received; given = []; out = []; accepted = [] }
 
 abbrev pub silent : Wire
 silent = record { msgs = []; acks = [] }

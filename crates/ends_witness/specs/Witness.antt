@@ -1,10 +1,12 @@
 -- The premises of demand 3 can be met, with any bytes in the stores: a run over the wrap with a loss, a reordering, a resend over another
 -- link and a repeat, to a hand-out of all that was given and an empty table. Each step is computed from the engine's own
 -- definitions. Assumes nothing.
+use Rattle.engine.specs.Received.{bytesIn}
+use Rattle.engine.specs.Packets.{queuedOf, sumOf}
 use mathlib.Core.Path.{_≡_, refl, sym, _∙_, ap, subst}
 use mathlib.Core.Bool.{false, cond}
 use mathlib.Core.List.{List, [], _∷_, List·Memᴰ, List·Memᴰ·head, List·Memᴰ·tail}
-use Prim.Native.Nat.{ℕ, _+_, _^_, _<_}
+use Prim.Native.Nat.{ℕ, _+_, _<_}
 use native.Mathlib.Omega.{arith}
 use native.Mathlib.Decide.{ℕ-discrete}
 use lib.ListN.{length, replicate, length-replicate}
@@ -17,33 +19,31 @@ use Rattle.engine.specs.declared.answer.Outcome.the-variants as outcomes
 use Rattle.engine.specs.Stores.{storeBy, copied, cellStart}
 use Rattle.engine.specs.declared.handing_out.HandOut.the-variants as handouts
 use Rattle.seq.specs.Numbers.{plus, minus, signed, before}
-use Rattle.link.specs.Acks.{ackQueued, oldestAck, shifted, ackTaken}
+use Rattle.link.specs.Acks.{ackQueued, waiting, oldestAck, shifted, ackTaken}
 use Rattle.link.specs.Limit.{markedRow, markAckedAs, markResentAs}
 use Rattle.link.specs.Roundtrip.{tripAfter, tripMoved}
 use Rattle.link.specs.Row.{freshRow, emptyRow, unconfirmedRow, withUnacked}
-use Rattle.link.specs.Sizes.{rowWithin}
-use Rattle.engine.specs.CellTally.{cellOk, cellWeighed, cellTallyFrom, cellTallyOf}
-use Rattle.engine.specs.Decide.{firstOk, rowOk, rowsFrom, distinctBelow, sendingb, receivingb, linksb, soundb}
+use Rattle.engine.specs.Decide.{soundb, sound?}
 use Rattle.engine.specs.Starting.{freshTx, freshRx, freshState, freshVerdict, freshOf}
 use Rattle.engine.specs.Gates.{slotVerdict, timedVerdict}
-use Rattle.engine.specs.Queue.{putIn, gatherFrom, gatherOf, requeued}
-use Rattle.engine.specs.Ring.{window, nextCell}
-use Rattle.engine.specs.Roster.{rosterOf, livesIn, livesBefore}
+use Rattle.engine.specs.Queue.{requeued}
+use Rattle.engine.specs.Ring.{window, nextCell, refilled}
 use Rattle.engine.specs.Rows.{rowOf, slotOk, timeOk}
-use Rattle.engine.specs.Table.{inTable, packetOf, withPacket}
-use Rattle.engine.specs.Tally.{lengthOk, statusOk, packetOk, weighed, tallyFrom, tallyOf}
-use Rattle.engine.specs.Links.{lowestEmpty, addVerdict, addOf}
+use Rattle.engine.specs.Table.{inTable, withPacket, place, lookedAt, withTable, packetOf}
+use Rattle.engine.specs.Tally.{lengthOk}
+use Rattle.engine.specs.Links.{lowestEmpty, addVerdict, addOf, isTaken}
 use Rattle.engine.specs.Unconfirming.{unconfirmedAs, unconfirmedState, unconfirmOf}
-use Rattle.engine.specs.Resending.{resendVerdict, resentState, resendOf}
+use Rattle.engine.specs.Resending.{resendVerdict, resentState, resendOf, isListed}
 use Rattle.engine.specs.Sending.{totalsOk, sendVerdict, sentTx, toldRx, sentState, sendOf, sendStore}
 use Rattle.engine.specs.Acking.{placeOk, ackVerdict, ackedRow, ackedTx, ackedState, ackOf, settledRowAs, receivedTx, settledTxAs, sweepFrom, sweepOf, sweptTx}
 use Rattle.engine.specs.Cells.{cellOf, nearOldest, isRepeat, canAdvance, passedOver, advanced}
 use Rattle.engine.specs.Receiving.{receiveVerdict, effectTx, storedRx, repeatedState, receivedState, receiveOf, receiveStore}
-use Rattle.engine.specs.HandingOut.{ackAnswer, takenAckState, takeAckOf, readyOf, handOutBy, showVerdict, showingOf, shownOf, partAs, takeVerdict, canSkip, passedBy, skipped, takenRx, takenState, takeOf}
+use Rattle.engine.specs.HandingOut.{ackAnswer, takenAckState, takeAckOf, readyOf, handOutBy, showVerdict, showingOf, shownOf, partAs, takeVerdict, canSkip, passedBy, skipped, takenRx, takenState, takeOf, takeAckVerdict}
 use Rattle.engine.specs.Sizes.{CELLS, PACKETS}
-use Rattle.ends.specs.World.{Msg, Packet, Ack, World, swap, after, moved, addAt, sendBy, sendAt, resendAt, receiveBy, receiveAt, takeBy, takeAt, takeAckAt, freshWorld, freshEnd, Call, Add, Unconfirm, Send, Resend, Receive, Acked, Take, TakeAck, at-a, at-b, Run, here, _then_, Fresh, fresh}
-use Rattle.ends.specs.Demand.{Emptied, SentOver, statusOf, Returned, now, earlier, Open}
+use Rattle.ends.specs.World.{Msg, Packet, World, swap, after, moved, sendBy, sendAt, resendAt, receiveBy, receiveAt, takeBy, takeAt, takeAckAt, freshWorld, freshEnd, BEHIND, TimelyAck, Call, Add, Unconfirm, Send, Resend, Receive, Acked, Take, TakeAck, at-a, at-b, Run, here, _then_, Fresh, fresh}
+use Rattle.ends.specs.Demand.{Emptied, SentOver, statusOf, Returned, now, earlier, Open, Stops}
 use Rattle.ends.specs.Theorem.{demand3}
+use Rattle.ends.specs.Views.{waitingOf}
 use Rattle.ends.specs.Store.{put, get, length-put, get-put-same}
 
 -- ---- the calls that look at a store's length, with the length written down
@@ -58,7 +58,7 @@ receiveWith : ℕ → World → ℕ → Packet → World
 receiveWith n W slot p =
     let r = receiveOf (W .a .state) n slot (p .msg .kind) (p .number) (length (p .msg .bytes)) in
     moved W
-    (receiveBy (r .outcome) (W .a) slot p (r .state)
+    (receiveBy (r .outcome) (W .a) p (r .state)
     (storeBy (receiveVerdict (W .a .state) n slot (p .msg .kind) (p .number) (length (p .msg .bytes))) (W .a .received)
     (cond (isRepeat 64 (W .a .state .rx) (p .number)) (W .a .received) (copied (W .a .received) (cellStart CELLS (p .number)) (p .msg .bytes)))))
 
@@ -69,7 +69,7 @@ send-step : (W : World) (slot time : ℕ) (m : Msg) → length (W .a .sent) ≡ 
 unfolding sendAt sendStore sendWith
 send-step W slot time m h = subst (λ (n : ℕ). Call W (sendWith n W slot time m)) h (Send slot time m)
 
-receive-step : (W : World) (slot : ℕ) (p : Packet) → length (W .a .received) ≡ 65536 → List·Memᴰ p (W .ba .msgs) → length (W .b .given) < p .index + 2 ^ 30
+receive-step : (W : World) (slot : ℕ) (p : Packet) → length (W .a .received) ≡ 65536 → List·Memᴰ p (W .ba .msgs) → length (W .b .given) < p .index + BEHIND
     → Call W (receiveWith 65536 W slot p)
 unfolding receiveAt receiveStore receiveWith
 receive-step W slot p h brought timely = subst (λ (n : ℕ). Call W (receiveWith n W slot p)) h (Receive slot p brought timely)
@@ -117,12 +117,17 @@ pub record Met (sent-a received-a sent-b received-b : List ℕ) : Type 0 where
   pub open-1 : Open resent 1
   pub over-0 : SentOver (statusOf resent 0) 1
   pub over-1 : SentOver (statusOf resent 1) 1
+  -- both arrive over link 1, unrefused: no ack waited for it, and now one of each does
+  pub arrived : World
+  pub between : Run resent arrived
+  pub unqueued : waitingOf (resent .b .state) 1 ≡ []
+  pub queued : waitingOf (arrived .b .state) 1 ≡ 4294967295 ∷ 0 ∷ []
   -- sending has stopped, and both acks return there
-  pub quiet : length (ended .a .given) ≡ length (resent .a .given)
+  pub quiet : Stops resent ended
   pub returned : (i : ℕ) → Open resent i → Returned resent i ended second
-  -- four messages were put on the links; of these b got the finish mark, and after it the data, twice
+  -- four messages were put on the links; of these b got the finish mark, after it the data, and then the finish mark once more
   pub copies : length (ended .ab .msgs) ≡ 4
-  pub accepted : ended .b .accepted ≡ p0 ∷ p0 ∷ p1 ∷ []
+  pub accepted : ended .b .accepted ≡ p1 ∷ p0 ∷ p1 ∷ []
   -- the table is empty, nothing is left to take, and all that was given was handed out
   pub emptied : Emptied ended
   pub nothing : takeOf (ended .b .state) .answer ≡ handouts.No (refuse 19 tt)
@@ -132,70 +137,67 @@ pub record Met (sent-a received-a sent-b received-b : List ℕ) : Type 0 where
 -- ---- the run
 
 module _ (sa ra sb rb : List ℕ) where
-  abbrev x0 : Ack
-  x0 = record { index = 0; number = 4294967295 }
-
-  abbrev x1 : Ack
-  x1 = record { index = 1; number = 0 }
-
-  -- two fresh ends; a adds two links, b one
+  -- two fresh ends, and two links between them: each end adds both, in the same order
   w0 : World
   w0 = begun sa ra sb rb
 
   w1 : World
-  w1 = addAt w0 1 0 Unlimited false false
+  w1 = moved w0 (after (w0 .a) (addOf (w0 .a .state) 1 0 Unlimited false false .state))
 
   w2 : World
-  w2 = addAt w1 2 0 Unlimited false false
+  w2 = moved w1 (after (w1 .a) (addOf (w1 .a .state) 2 0 Unlimited false false .state))
 
   w3 : World
-  w3 = swap (addAt (swap w2) 1 0 Unlimited false false)
+  w3 = swap (moved (swap w2) (after (w2 .b) (addOf (w2 .b .state) 1 0 Unlimited false false .state)))
 
-  -- a sends both messages over its link 0; the first is lost, the second arrives
   w4 : World
-  w4 = sendWith 65536 w3 0 0 data-7
+  w4 = swap (moved (swap w3) (after (w3 .b) (addOf (w3 .b .state) 2 0 Unlimited false false .state)))
 
+  -- a sends both messages over link 0; the first is lost, the second arrives
   w5 : World
-  w5 = sendWith 65536 w4 0 0 finish
+  w5 = sendWith 65536 w4 0 0 data-7
 
   w6 : World
-  w6 = swap (receiveWith 65536 (swap w5) 0 p1)
+  w6 = sendWith 65536 w5 0 0 finish
+
+  w7 : World
+  w7 = swap (receiveWith 65536 (swap w6) 0 p1)
 
   -- a doubts link 0, and resends both over link 1
-  w7 : World
-  w7 = moved w6 (after (w6 .a) (unconfirmOf (w6 .a .state) 0 .state))
-
   w8 : World
-  w8 = resendAt w7 1 0 4294967295
+  w8 = moved w7 (after (w7 .a) (unconfirmOf (w7 .a .state) 0 .state))
 
   w9 : World
-  w9 = resendAt w8 1 0 0
+  w9 = resendAt w8 1 0 4294967295
 
-  -- the first arrives, twice; b hands out both, in order
   w10 : World
-  w10 = swap (receiveWith 65536 (swap w9) 0 p0)
+  w10 = resendAt w9 1 0 0
 
+  -- both arrive over link 1, the second as a repeat; b hands out both, in order
   w11 : World
-  w11 = swap (receiveWith 65536 (swap w10) 0 p0)
+  w11 = swap (receiveWith 65536 (swap w10) 1 p0)
 
   w12 : World
-  w12 = swap (takeWith 65536 (swap w11))
+  w12 = swap (receiveWith 65536 (swap w11) 1 p1)
 
   w13 : World
   w13 = swap (takeWith 65536 (swap w12))
 
-  -- b gives two of its three acks to the link, and they come back to a on link 1
   w14 : World
-  w14 = swap (takeAckAt (swap w13) 0)
+  w14 = swap (takeWith 65536 (swap w13))
 
+  -- b takes the two acks that wait for link 1, and they come back to a over it; the ack that waits for link 0 stays
   w15 : World
-  w15 = swap (takeAckAt (swap w14) 0)
+  w15 = swap (takeAckAt (swap w14) 1)
 
   w16 : World
-  w16 = moved w15 (after (w15 .a) (ackOf (w15 .a .state) 1 0 0 .state))
+  w16 = swap (takeAckAt (swap w15) 1)
 
   w17 : World
-  w17 = moved w16 (after (w16 .a) (ackOf (w16 .a .state) 1 0 4294967295 .state))
+  w17 = moved w16 (after (w16 .a) (ackOf (w16 .a .state) 1 0 0 .state))
+
+  w18 : World
+  w18 = moved w17 (after (w17 .a) (ackOf (w17 .a .state) 1 0 4294967295 .state))
 
   -- ---- what is computed
 
@@ -206,70 +208,80 @@ module _ (sa ra sb rb : List ℕ) where
   received-cell = get (put rb 64512 (7 ∷ [])) 64512 1
 
   record Computed : Type 0 where
-    sent-3 : w3 .a .sent ≡ sa
-    sent-4 : w4 .a .sent ≡ put sa 64512 (7 ∷ [])
-    received-5 : w5 .b .received ≡ rb
-    received-9 : w9 .b .received ≡ rb
-    received-10 : w10 .b .received ≡ put rb 64512 (7 ∷ [])
+    sent-4 : w4 .a .sent ≡ sa
+    sent-5 : w5 .a .sent ≡ put sa 64512 (7 ∷ [])
+    received-6 : w6 .b .received ≡ rb
+    received-10 : w10 .b .received ≡ rb
     received-11 : w11 .b .received ≡ put rb 64512 (7 ∷ [])
     received-12 : w12 .b .received ≡ put rb 64512 (7 ∷ [])
-    given-5 : w5 .a .given ≡ data-7 ∷ finish ∷ []
-    given-9 : w9 .a .given ≡ data-7 ∷ finish ∷ []
+    received-13 : w13 .b .received ≡ put rb 64512 (7 ∷ [])
+    given-6 : w6 .a .given ≡ data-7 ∷ finish ∷ []
     given-10 : w10 .a .given ≡ data-7 ∷ finish ∷ []
-    given-15 : w15 .a .given ≡ data-7 ∷ finish ∷ []
-    given-16 : w16 .a .given ≡ data-7 ∷ finish ∷ []
-    given-17 : w17 .a .given ≡ data-7 ∷ finish ∷ []
-    msgs-5 : w5 .ab .msgs ≡ p1 ∷ p0 ∷ []
-    msgs-9 : w9 .ab .msgs ≡ p1 ∷ record { index = 0; number = 4294967295; msg = record { kind = msgs.Data; bytes = sent-cell } } ∷ p1 ∷ p0 ∷ []
+    given-11 : w11 .a .given ≡ data-7 ∷ finish ∷ []
+    msgs-6 : w6 .ab .msgs ≡ p1 ∷ p0 ∷ []
     msgs-10 : w10 .ab .msgs ≡ p1 ∷ record { index = 0; number = 4294967295; msg = record { kind = msgs.Data; bytes = sent-cell } } ∷ p1 ∷ p0 ∷ []
-    acks-15 : w15 .ba .acks ≡ x0 ∷ x1 ∷ []
-    acks-16 : w16 .ba .acks ≡ x0 ∷ x1 ∷ []
-    over-9-0 : SentOver (statusOf w9 0) 1
-    over-9-1 : SentOver (statusOf w9 1) 1
-    over-1 : SentOver (statusOf w15 1) 1
-    over-0 : SentOver (statusOf w16 0) 1
-    accepted-15 : ackOf (w15 .a .state) 1 0 0 .outcome ≡ outcomes.Done
-    accepted-16 : ackOf (w16 .a .state) 1 0 4294967295 .outcome ≡ outcomes.Done
-    table-9 : w9 .a .state .tx .«txed_count» ≡ 2
-    table-17 : w17 .a .state .tx .«txed_count» ≡ 0
-    none-17 : takeOf (w17 .b .state) .answer ≡ handouts.No (refuse 19 tt)
-    copies-17 : length (w17 .ab .msgs) ≡ 4
-    all-17 : w17 .b .accepted ≡ p0 ∷ p0 ∷ p1 ∷ []
-    out-17 : w17 .b .out ≡ record { kind = msgs.Data; bytes = received-cell } ∷ finish ∷ []
+    msgs-11 : w11 .ab .msgs ≡ p1 ∷ record { index = 0; number = 4294967295; msg = record { kind = msgs.Data; bytes = sent-cell } } ∷ p1 ∷ p0 ∷ []
+    waits-10 : waitingOf (w10 .b .state) 1 ≡ []
+    waits-12 : waitingOf (w12 .b .state) 1 ≡ 4294967295 ∷ 0 ∷ []
+    over-10-0 : SentOver (statusOf w10 0) 1
+    over-10-1 : SentOver (statusOf w10 1) 1
+    table-10 : w10 .a .state .tx .«txed_count» ≡ 2
+
+  -- .. and of the later worlds, apart, since one declaration may take only so many steps
+  record ComputedLater : Type 0 where
+    given-16 : w16 .a .given ≡ data-7 ∷ finish ∷ []
+    acks-16 : w16 .ba .acks ≡ 0 ∷ 4294967295 ∷ []
+    all-16 : w16 .b .accepted ≡ p1 ∷ p0 ∷ p1 ∷ []
+    over-1 : SentOver (statusOf w16 1) 1
+    over-0 : SentOver (statusOf w17 0) 1
+    number-1 : 0 ≡ plus (w16 .start) 1
+    number-0 : 4294967295 ≡ plus (w16 .start) 0
+    accepted-16 : ackOf (w16 .a .state) 1 0 0 .outcome ≡ outcomes.Done
+    accepted-17 : ackOf (w17 .a .state) 1 0 4294967295 .outcome ≡ outcomes.Done
+    table-18 : w18 .a .state .tx .«txed_count» ≡ 0
+    none-16 : takeOf (w16 .b .state) .answer ≡ handouts.No (refuse 19 tt)
+    copies-16 : length (w16 .ab .msgs) ≡ 4
+    out-16 : w16 .b .out ≡ record { kind = msgs.Data; bytes = received-cell } ∷ finish ∷ []
 
   computed : Computed
-  unfolding plus minus signed before ackQueued oldestAck shifted ackTaken markedRow markAckedAs markResentAs tripAfter tripMoved freshRow emptyRow unconfirmedRow withUnacked rowWithin cellOk cellWeighed cellTallyFrom cellTallyOf nextCell window firstOk rowOk rowsFrom distinctBelow sendingb receivingb linksb soundb freshTx freshRx freshState freshVerdict freshOf slotVerdict timedVerdict putIn gatherFrom gatherOf requeued rosterOf livesIn livesBefore rowOf slotOk timeOk inTable packetOf withPacket lengthOk statusOk packetOk weighed tallyFrom tallyOf lowestEmpty addVerdict addOf unconfirmedAs unconfirmedState unconfirmOf resendVerdict resentState resendOf totalsOk sendVerdict sentTx toldRx sentState sendOf sendStore placeOk ackVerdict ackedRow ackedTx ackedState ackOf settledRowAs receivedTx settledTxAs sweepFrom sweepOf sweptTx cellOf nearOldest isRepeat canAdvance passedOver advanced receiveVerdict effectTx storedRx repeatedState receivedState receiveOf receiveStore ackAnswer takenAckState takeAckOf readyOf handOutBy showVerdict showingOf shownOf takeVerdict canSkip passedBy skipped takenRx takenState takeOf addAt resendAt takeAckAt sendWith receiveWith takeWith w0 w1 w2 w3 w4 w5 w6 w7 w8 w9 w10 w11 w12 w13 w14 w15 w16 w17
+  unfolding plus minus signed before ackQueued waiting oldestAck shifted ackTaken markedRow markAckedAs markResentAs tripAfter tripMoved freshRow emptyRow unconfirmedRow withUnacked nextCell window sound? queuedOf sumOf bytesIn refilled place lookedAt packetOf withTable isTaken isListed takeAckVerdict soundb freshTx freshRx freshState freshVerdict freshOf slotVerdict timedVerdict requeued rowOf slotOk timeOk inTable withPacket lengthOk lowestEmpty addVerdict addOf unconfirmedAs unconfirmedState unconfirmOf resendVerdict resentState resendOf totalsOk sendVerdict sentTx toldRx sentState sendOf sendStore placeOk ackVerdict ackedRow ackedTx ackedState ackOf settledRowAs receivedTx settledTxAs sweepFrom sweepOf sweptTx cellOf nearOldest isRepeat canAdvance passedOver advanced receiveVerdict effectTx storedRx repeatedState receivedState receiveOf receiveStore ackAnswer takenAckState takeAckOf readyOf handOutBy showVerdict showingOf shownOf takeVerdict canSkip passedBy skipped takenRx takenState takeOf resendAt takeAckAt sendWith receiveWith takeWith w0 w1 w2 w3 w4 w5 w6 w7 w8 w9 w10 w11 w12 w13 w14 w15 w16 w17 w18
   computed = record {
-    sent-3 = refl;
     sent-4 = refl;
-    received-5 = refl;
-    received-9 = refl;
+    sent-5 = refl;
+    received-6 = refl;
     received-10 = refl;
     received-11 = refl;
     received-12 = refl;
-    given-5 = refl;
-    given-9 = refl;
+    received-13 = refl;
+    given-6 = refl;
     given-10 = refl;
-    given-15 = refl;
-    given-16 = refl;
-    given-17 = refl;
-    msgs-5 = refl;
-    msgs-9 = refl;
+    given-11 = refl;
+    msgs-6 = refl;
     msgs-10 = refl;
-    acks-15 = refl;
+    msgs-11 = refl;
+    waits-10 = refl;
+    waits-12 = refl;
+    over-10-0 = refl;
+    over-10-1 = refl;
+    table-10 = refl;
+  }
+
+  computed-later : ComputedLater
+  unfolding plus minus signed before ackQueued waiting oldestAck shifted ackTaken markedRow markAckedAs markResentAs tripAfter tripMoved freshRow emptyRow unconfirmedRow withUnacked nextCell window sound? queuedOf sumOf bytesIn refilled place lookedAt packetOf withTable isTaken isListed takeAckVerdict soundb freshTx freshRx freshState freshVerdict freshOf slotVerdict timedVerdict requeued rowOf slotOk timeOk inTable withPacket lengthOk lowestEmpty addVerdict addOf unconfirmedAs unconfirmedState unconfirmOf resendVerdict resentState resendOf totalsOk sendVerdict sentTx toldRx sentState sendOf sendStore placeOk ackVerdict ackedRow ackedTx ackedState ackOf settledRowAs receivedTx settledTxAs sweepFrom sweepOf sweptTx cellOf nearOldest isRepeat canAdvance passedOver advanced receiveVerdict effectTx storedRx repeatedState receivedState receiveOf receiveStore ackAnswer takenAckState takeAckOf readyOf handOutBy showVerdict showingOf shownOf takeVerdict canSkip passedBy skipped takenRx takenState takeOf resendAt takeAckAt sendWith receiveWith takeWith w0 w1 w2 w3 w4 w5 w6 w7 w8 w9 w10 w11 w12 w13 w14 w15 w16 w17 w18
+  computed-later = record {
+    given-16 = refl;
     acks-16 = refl;
-    over-9-0 = refl;
-    over-9-1 = refl;
+    all-16 = refl;
     over-1 = refl;
     over-0 = refl;
-    accepted-15 = refl;
+    number-1 = refl;
+    number-0 = refl;
     accepted-16 = refl;
-    table-9 = refl;
-    table-17 = refl;
-    none-17 = refl;
-    copies-17 = refl;
-    all-17 = refl;
-    out-17 = refl;
+    accepted-17 = refl;
+    table-18 = refl;
+    none-16 = refl;
+    copies-16 = refl;
+    out-16 = refl;
   }
 
   -- ---- the run, step by step
@@ -277,6 +289,9 @@ module _ (sa ra sb rb : List ℕ) where
   module _ (ha : length sa ≡ 65536) (hra : length ra ≡ 65536) (hsb : length sb ≡ 65536) (hb : length rb ≡ 65536) where
     abbrev c : Computed
     c = computed
+
+    abbrev later : ComputedLater
+    later = computed-later
 
     two : (l : List Msg) → l ≡ data-7 ∷ finish ∷ [] → length l ≡ 2
     two l e = ap length e
@@ -291,89 +306,107 @@ module _ (sa ra sb rb : List ℕ) where
     resent-same : _≡_ {A = Packet} p0 (record { index = 0; number = 4294967295; msg = record { kind = msgs.Data; bytes = sent-cell } })
     resent-same = λ d. record { index = 0; number = 4294967295; msg = record { kind = msgs.Data; bytes = sym (get-put-same sa 64512 (7 ∷ []) (omega (arith, ha))) d } }
 
-    to-9 : Run w0 w9
-    unfolding w1 w2 w3 w4 w5 w6 w7 w8 w9
-    to-9 =
-        _then_ {X = w8} {Y = w9} (_then_ {X = w7} {Y = w8} (_then_ {X = w6} {Y = w7} (_then_ {X = w5} {Y = w6} (_then_ {X = w4} {Y = w5} (_then_ {X = w3} {Y = w4} (_then_ {X = w2} {Y = w3} (_then_ {X = w1} {Y = w2} (_then_ {X = w0} {Y = w1} here
+    to-10 : Run w0 w10
+    unfolding w1 w2 w3 w4 w5 w6 w7 w8 w9 w10
+    to-10 =
+        _then_ {X = w9} {Y = w10} (_then_ {X = w8} {Y = w9} (_then_ {X = w7} {Y = w8} (_then_ {X = w6} {Y = w7} (_then_ {X = w5} {Y = w6} (_then_ {X = w4} {Y = w5} (_then_ {X = w3} {Y = w4} (_then_ {X = w2} {Y = w3} (_then_ {X = w1} {Y = w2} (_then_ {X = w0} {Y = w1} here
         (at-a (Add 1 0 Unlimited false false)))
         (at-a (Add 2 0 Unlimited false false)))
         (at-b (Add {W = swap w2} 1 0 Unlimited false false)))
-        (at-a (send-step w3 0 0 data-7 (ap length (c .sent-3) ∙ ha))))
-        (at-a (send-step w4 0 0 finish (ap length (c .sent-4) ∙ put-a))))
-        (at-b (receive-step (swap w5) 0 p1 (ap length (c .received-5) ∙ hb) (rw (c .msgs-5) (List·Memᴰ·head refl)) (omega (arith, two (w5 .a .given) (c .given-5))))))
+        (at-b (Add {W = swap w3} 2 0 Unlimited false false)))
+        (at-a (send-step w4 0 0 data-7 (ap length (c .sent-4) ∙ ha))))
+        (at-a (send-step w5 0 0 finish (ap length (c .sent-5) ∙ put-a))))
+        (at-b (receive-step (swap w6) 0 p1 (ap length (c .received-6) ∙ hb) (rw (c .msgs-6) (List·Memᴰ·head refl)) (omega (arith, two (w6 .a .given) (c .given-6))))))
         (at-a (Unconfirm 0)))
         (at-a (Resend 1 0 4294967295 (omega arith))))
         (at-a (Resend 1 0 0 (omega arith)))
 
-    to-15 : Run w9 w15
-    unfolding w10 w11 w12 w13 w14 w15
-    to-15 =
-        _then_ {X = w14} {Y = w15} (_then_ {X = w13} {Y = w14} (_then_ {X = w12} {Y = w13} (_then_ {X = w11} {Y = w12} (_then_ {X = w10} {Y = w11} (_then_ {X = w9} {Y = w10} here
-        (at-b (receive-step (swap w9) 0 p0 (ap length (c .received-9) ∙ hb) (rw (c .msgs-9) (List·Memᴰ·tail (List·Memᴰ·head resent-same))) (omega (arith, two (w9 .a .given) (c .given-9))))))
-        (at-b (receive-step (swap w10) 0 p0 (ap length (c .received-10) ∙ put-b) (rw (c .msgs-10) (List·Memᴰ·tail (List·Memᴰ·head resent-same))) (omega (arith, two (w10 .a .given) (c .given-10))))))
-        (at-b (take-step (swap w11) (ap length (c .received-11) ∙ put-b))))
+    to-12 : Run w10 w12
+    unfolding w11 w12
+    to-12 =
+        _then_ {X = w11} {Y = w12} (_then_ {X = w10} {Y = w11} here
+        (at-b (receive-step (swap w10) 1 p0 (ap length (c .received-10) ∙ hb) (rw (c .msgs-10) (List·Memᴰ·tail (List·Memᴰ·head resent-same))) (omega (arith, two (w10 .a .given) (c .given-10))))))
+        (at-b (receive-step (swap w11) 1 p1 (ap length (c .received-11) ∙ put-b) (rw (c .msgs-11) (List·Memᴰ·head refl)) (omega (arith, two (w11 .a .given) (c .given-11)))))
+
+    to-16 : Run w10 w16
+    unfolding w13 w14 w15 w16
+    to-16 =
+        _then_ {X = w15} {Y = w16} (_then_ {X = w14} {Y = w15} (_then_ {X = w13} {Y = w14} (_then_ {X = w12} {Y = w13} to-12
         (at-b (take-step (swap w12) (ap length (c .received-12) ∙ put-b))))
-        (at-b (TakeAck {W = swap w13} 0)))
-        (at-b (TakeAck {W = swap w14} 0))
+        (at-b (take-step (swap w13) (ap length (c .received-13) ∙ put-b))))
+        (at-b (TakeAck {W = swap w14} 1)))
+        (at-b (TakeAck {W = swap w15} 1))
 
-    back-1 : List·Memᴰ x1 (w15 .ba .acks)
-    back-1 = rw (c .acks-15) (List·Memᴰ·tail (List·Memᴰ·head refl))
+    back-1 : List·Memᴰ 0 (w16 .ba .acks)
+    back-1 = rw (later .acks-16) (List·Memᴰ·head refl)
 
-    back-0 : List·Memᴰ x0 (w16 .ba .acks)
-    back-0 = rw (c .acks-16) (List·Memᴰ·head refl)
-
-    in-time-1 : length (w15 .a .given) < 1 + 2 ^ 30
-    in-time-1 = omega (arith, two (w15 .a .given) (c .given-15))
-
-    in-time-0 : length (w16 .a .given) < 0 + 2 ^ 30
-    in-time-0 = omega (arith, two (w16 .a .given) (c .given-16))
-
-    to-16 : Run w9 w16
-    unfolding w16
-    to-16 = _then_ {X = w15} {Y = w16} to-15 (at-a (Acked {W = w15} 1 0 x1 back-1 in-time-1))
-
-    to-17 : Run w9 w17
+    back-0 : List·Memᴰ 4294967295 (w17 .ba .acks)
     unfolding w17
-    to-17 = _then_ {X = w16} {Y = w17} to-16 (at-a (Acked {W = w16} 1 0 x0 back-0 in-time-0))
+    back-0 = rw (later .acks-16) (List·Memᴰ·tail (List·Memᴰ·head refl))
 
-    returned-0 : Returned w9 0 w17 to-17
-    unfolding w17 to-17
-    returned-0 = now {W = w16} to-16 1 0 x0 back-0 in-time-0 refl (c .over-0) (c .accepted-16)
+    in-time-1 : TimelyAck 0 (w16 .a) (w16 .b)
+    in-time-1 = record {
+      acked = record { message = p1; member = rw (later .all-16) (List·Memᴰ·head refl); numbered = refl };
+      timely = omega (arith, two (w16 .a .given) (later .given-16));
+    }
 
-    returned-1 : Returned w9 1 w17 to-17
-    unfolding w16 w17 to-16 to-17
-    returned-1 = earlier {W = w16} {X = w17} {r = to-16} (at-a (Acked {W = w16} 1 0 x0 back-0 in-time-0)) (now {W = w15} to-15 1 0 x1 back-1 in-time-1 refl (c .over-1) (c .accepted-15))
+    in-time-0 : TimelyAck 4294967295 (w17 .a) (w17 .b)
+    unfolding w17
+    in-time-0 = record {
+      acked = record { message = p0; member = rw (later .all-16) (List·Memᴰ·tail (List·Memᴰ·head refl)); numbered = refl };
+      timely = omega (arith, two (w17 .a .given) (later .given-16));
+    }
 
-    each : (i : ℕ) → Open w9 i → Returned w9 i w17 to-17
+    to-17 : Run w10 w17
+    unfolding w17
+    to-17 = _then_ {X = w16} {Y = w17} to-16 (at-a (Acked {W = w16} 1 0 0 back-1 in-time-1))
+
+    to-18 : Run w10 w18
+    unfolding w18
+    to-18 = _then_ {X = w17} {Y = w18} to-17 (at-a (Acked {W = w17} 1 0 4294967295 back-0 in-time-0))
+
+    returned-0 : Returned w10 0 w18 to-18
+    unfolding w17 w18 to-18
+    returned-0 = now {W = w17} to-17 1 0 4294967295 back-0 in-time-0 (later .number-0) (later .over-0) (later .accepted-17)
+
+    returned-1 : Returned w10 1 w18 to-18
+    unfolding w17 w18 to-17 to-18
+    returned-1 = earlier {W = w17} {X = w18} {r = to-17} (at-a (Acked {W = w17} 1 0 4294967295 back-0 in-time-0)) (now {W = w16} to-16 1 0 0 back-1 in-time-1 (later .number-1) (later .over-1) (later .accepted-16))
+
+    each : (i : ℕ) → Open w10 i → Returned w10 i w18 to-18
     each i o = go (ℕ-discrete i 0)
       where
         small : i < 2
-        small = omega (arith, o .given, two (w9 .a .given) (c .given-9))
+        small = omega (arith, o .given, two (w10 .a .given) (c .given-10))
 
-        go : Dec (i ≡ 0) → Returned w9 i w17 to-17
+        go : Dec (i ≡ 0) → Returned w10 i w18 to-18
         go (yes e) = rw e returned-0
         go (no e) = let one : i ≡ 1 = omega (arith, small) in rw one returned-1
 
     pub met : Met sa ra sb rb
-    unfolding w0
+    unfolding w0 w17 w18
     met = record {
-      resent = w9;
-      ended = w17;
+      resent = w10;
+      ended = w18;
       fresh-ends = fresh 4294967295 65536 65536 sa ra sb rb (omega arith) fresh-ok fresh-ok ha hra hsb hb;
-      first = to-9;
-      second = to-17;
-      quiet = two (w17 .a .given) (c .given-17) ∙ sym (two (w9 .a .given) (c .given-9));
-      open-0 = record { given = omega (arith, two (w9 .a .given) (c .given-9)); in-table = omega (arith, two (w9 .a .given) (c .given-9), c .table-9); unreceived = sent-unreceived (statusOf w9 0) 1 (c .over-9-0) };
-      open-1 = record { given = omega (arith, two (w9 .a .given) (c .given-9)); in-table = omega (arith, two (w9 .a .given) (c .given-9), c .table-9); unreceived = sent-unreceived (statusOf w9 1) 1 (c .over-9-1) };
-      over-0 = c .over-9-0;
-      over-1 = c .over-9-1;
+      first = to-10;
+      second = to-18;
+      arrived = w12;
+      between = to-12;
+      unqueued = c .waits-10;
+      queued = c .waits-12;
+      quiet = two (w18 .a .given) (later .given-16) ∙ sym (two (w10 .a .given) (c .given-10));
+      open-0 = record { given = omega (arith, two (w10 .a .given) (c .given-10)); in-table = omega (arith, two (w10 .a .given) (c .given-10), c .table-10); unreceived = sent-unreceived (statusOf w10 0) 1 (c .over-10-0) };
+      open-1 = record { given = omega (arith, two (w10 .a .given) (c .given-10)); in-table = omega (arith, two (w10 .a .given) (c .given-10), c .table-10); unreceived = sent-unreceived (statusOf w10 1) 1 (c .over-10-1) };
+      over-0 = c .over-10-0;
+      over-1 = c .over-10-1;
       returned = each;
-      copies = c .copies-17;
-      accepted = c .all-17;
-      emptied = c .table-17;
-      nothing = c .none-17;
-      given = c .given-17;
-      out = c .out-17 ∙ (λ d. record { kind = msgs.Data; bytes = get-put-same rb 64512 (7 ∷ []) (omega (arith, hb)) d } ∷ finish ∷ []);
+      copies = later .copies-16;
+      accepted = later .all-16;
+      emptied = later .table-18;
+      nothing = later .none-16;
+      given = later .given-16;
+      out = later .out-16 ∙ (λ d. record { kind = msgs.Data; bytes = get-put-same rb 64512 (7 ∷ []) (omega (arith, hb)) d } ∷ finish ∷ []);
     }
 
 -- the theorem says of this run that its table is emptied

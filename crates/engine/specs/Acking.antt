@@ -11,14 +11,14 @@ use Rattle.engine.specs.declared.state.SentReliableStatus.the-variants.{
 use Rattle.engine.specs.declared.state.SentReliable.{SentReliable}
 use Rattle.engine.specs.declared.state.Sending.{Sending}
 use Rattle.engine.specs.Queue.{requeued}
-use Rattle.engine.specs.Table.{inTable, packetOf}
-use mathlib.Core.Path.{_≡_, ap, _∙_}
+use Rattle.engine.specs.Table.{inTable, lookedAt, packetOf}
+use mathlib.Core.Path.{_≡_, refl, ap, _∙_}
 use mathlib.Core.List.{List, [], _∷_}
 use native.Mathlib.Omega.{arith}
+use borrow.Table.Steps.{cases}
 use Rattle.seq.specs.declared.Seq.{Seq}
-use Rattle.seq.specs.Numbers.{minus}
 use Rattle.engine.specs.Ring.{window, window-step, window-none, window-length, nextCell}
-use Rattle.engine.specs.Packets.{noPacket, isReceived, Settled}
+use Rattle.engine.specs.Packets.{noPacket, packets, isReceived, Settled}
 use Rattle.engine.specs.declared.acking.Front.{Front}
 use Rattle.refusal.specs.declared.verdict.Verdict.{Verdict}
 use Rattle.refusal.specs.declared.verdict.Verdict.the-variants.{Pass}
@@ -27,12 +27,11 @@ use Rattle.link.specs.Limit.{markAcked}
 use Rattle.engine.specs.declared.state.State.{State}
 use Rattle.engine.specs.declared.answer.Changed.{Changed}
 use Rattle.engine.specs.Rows.{rowOf}
-use Rattle.engine.specs.Decide.{soundb}
+use Rattle.engine.specs.Decide.{soundb, sound}
 use Rattle.engine.specs.Gates.{timedVerdict}
 use Rattle.engine.specs.Answer.{changedBy}
-use Rattle.engine.specs.Sound.{Shaped}
-use Rattle.engine.specs.Decided.{sound}
-use Rattle.engine.specs.InTable.{packet-short, sum-small}
+use Rattle.engine.specs.Sound.{Sound, Shaped}
+use Rattle.engine.specs.InTable.{placed, packet-short, sum-small}
 use Rattle.engine.specs.Sizes.{PACKETS}
 use Rattle.engine.specs.Fields.{withStatus, withNext, withPackets, withTotals, withEnds, withParts}
 
@@ -74,11 +73,7 @@ sweepFrom (p ∷ ps) last held =
 
 unfoldable pub sweepOf : Sending → Front
 unfolding sweepFrom
-sweepOf tx =
-    sweepFrom
-    (window PACKETS noPacket (tx .«txed_packets») (minus (tx .«tx_seq» .0) (tx .«txed_count» % 2 ^ 32) % PACKETS) (tx .«txed_count»))
-    (tx .«txed_last_consumed»)
-    (tx .«txed_unconsumable»)
+sweepOf tx = sweepFrom (packets tx) (tx .«txed_last_consumed») (tx .«txed_unconsumable»)
 
 unfoldable pub sweptTx : Sending → Sending
 unfolding sweepOf
@@ -92,19 +87,23 @@ sweptTx tx =
 
 -- not "on ack, the acked place holds another number" (18)
 unfoldable pub placeOk : Sending → ℕ → Bool
-placeOk tx a = cond (inTable tx a) (eqb (packetOf tx a .seq .0) a) true
+placeOk tx a = cond (inTable tx a) (eqb (lookedAt tx a .seq .0) a) true
+
+-- what the code asks: that the number's cell holds it
+unfoldable pub cellOk : Sending → ℕ → Bool
+cellOk tx a = cond (inTable tx a) (eqb (packetOf tx a .seq .0) a) true
 
 unfoldable pub ackVerdict : State → ℕ → ℕ → ℕ → Verdict
 ackVerdict s slot time a = timedVerdict s slot time (gate (placeOk (s .tx) a) 18 Pass)
 
 -- "First, a mark at or before a is cleared; any other mark makes the zero-estimate flag true. Let back = next number − a. If 1 ≤
--- back ≤ packet count, the packet at count − back is looked at" (`placed` of the state's InTable: it is in the number's cell)
+-- back ≤ packet count, the packet at count − back is looked at"
 unfoldable pub ackedRow : State → ℕ → ℕ → ℕ → LinkRow
 ackedRow s slot time a =
-    cond (inTable (s .tx) a) (settledRow (markAcked (rowOf s slot) a) (packetOf (s .tx) a) slot time) (markAcked (rowOf s slot) a)
+    cond (inTable (s .tx) a) (settledRow (markAcked (rowOf s slot) a) (lookedAt (s .tx) a) slot time) (markAcked (rowOf s slot) a)
 
 unfoldable pub ackedTx : State → ℕ → ℕ → Sending
-ackedTx s slot a = cond (inTable (s .tx) a) (settledTx (s .tx) slot a (packetOf (s .tx) a)) (s .tx)
+ackedTx s slot a = cond (inTable (s .tx) a) (settledTx (s .tx) slot a (lookedAt (s .tx) a)) (s .tx)
 
 -- "Last, while packets remain .."
 unfoldable pub ackedState : State → ℕ → ℕ → ℕ → State
@@ -141,8 +140,46 @@ module _ (cells : List SentReliable) (at left : ℕ) (last : Seq) (held : ℕ) w
 
 -- what waits to be consumed stays small
 pub ack-fits : (s : State) (slot time a : ℕ) → Shaped s → a < 2 ^ 32 → ackVerdict s slot time a ≡ Pass → inTable (s .tx) a ≡ true
-    → s .tx .«txed_unconsumable» + packetOf (s .tx) a .len < 2 ^ 32
+    → s .tx .«txed_unconsumable» + lookedAt (s .tx) a .len < 2 ^ 32
 unfolding ackVerdict timedVerdict
 ack-fits s slot time a shaped h e held =
-    let fine = sound s shaped (gate-pass (soundb s) _ _ e .0) in
+    let fine = sound s (gate-pass (soundb s) _ _ e .0) in
     omega (arith, packet-short s shaped fine a h held, sum-small s shaped fine Settled, fine .unconsumable)
+
+-- how many packets there are moves in the sweep alone
+settled-count : (st : SentReliableStatus) (tx : Sending) (slot a : ℕ) (p : SentReliable) → settledTxAs st tx slot a p .«txed_count» ≡ tx .«txed_count»
+unfolding settledTxAs receivedTx requeued
+settled-count (Sent flight) tx slot a p = cases (eqb (flight .slot) slot) (λ t. simp t) (λ t. simp t)
+settled-count Received tx slot a p = refl
+settled-count (ResendQueued link) tx slot a p = refl
+
+pub acked-count : (s : State) (slot a : ℕ) → ackedTx s slot a .«txed_count» ≡ s .tx .«txed_count»
+unfolding ackedTx
+acked-count s slot a =
+    cases (inTable (s .tx) a)
+    (λ t. simp t (settled-count (lookedAt (s .tx) a .status) (s .tx) slot a (lookedAt (s .tx) a)))
+    (λ t. simp t)
+
+-- in a sound state both ask the same
+pub place-same : (s : State) (a : ℕ) → Shaped s → a < 2 ^ 32 → Sound s → cellOk (s .tx) a ≡ placeOk (s .tx) a
+unfolding cellOk placeOk
+place-same s a shaped h fine =
+    cases (inTable (s .tx) a)
+    (λ t. simp t (ap (λ p. eqb (p .seq .0) a) (placed (s .tx) a (shaped .next-u32) h (fine .packet-count) t .here)))
+    (λ t. simp t)
+
+pub ack-verdict-same : (s : State) (slot time a : ℕ) → Shaped s → a < 2 ^ 32 → timedVerdict s slot time (gate (cellOk (s .tx) a) 18 Pass) ≡ ackVerdict s slot time a
+unfolding ackVerdict timedVerdict
+ack-verdict-same s slot time a shaped h =
+    cases (soundb s)
+    (λ t. let e = place-same s a shaped h (sound s t) in simp e)
+    (λ t. simp t)
+
+-- an ack that passes is given a sound state
+pub ack-sound : (s : State) (slot time a : ℕ) → ackVerdict s slot time a ≡ Pass → Sound s
+unfolding ackVerdict timedVerdict
+ack-sound s slot time a e = sound s (gate-pass (soundb s) _ _ e .0)
+
+-- .. and the packet that it looks at is in the number's cell
+pub ack-cell : (s : State) (slot time a : ℕ) → Shaped s → a < 2 ^ 32 → ackVerdict s slot time a ≡ Pass → inTable (s .tx) a ≡ true → packetOf (s .tx) a ≡ lookedAt (s .tx) a
+ack-cell s slot time a shaped h e t = placed (s .tx) a (shaped .next-u32) h (ack-sound s slot time a e .packet-count) t .here

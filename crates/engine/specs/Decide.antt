@@ -1,93 +1,248 @@
--- What `is_sound` computes. That it decides Sound, the paper's paragraph, is proved in Decided. Assumes nothing.
-use mathlib.Core.Path.{_≡_, refl, ap}
-use mathlib.Core.Bool.{Bool, true, false, cond, not, _&&_}
-use mathlib.Core.List.{List}
-use Prim.Native.Nat.{ℕ, zero, suc, _+_, _-_, _%_, _^_, _≤_, _<_}
+-- Whether a state is sound: `soundb` is true just of the states that Sound describes, since it decides that very record, clause by
+-- clause. Refusal 1 asks it. Assumes nothing.
+use Rattle.engine.specs.Ring.{window-length}
+use Rattle.engine.specs.declared.state.Receiving.{Receiving}
+use Rattle.engine.specs.declared.state.RxCell.{RxCell}
+use mathlib.Core.Path.{_≡_, refl, ap, ap₂}
+use mathlib.Core.Bool.{Bool, true, false, not}
+use mathlib.Core.List.{List, [], _∷_}
+use Prim.Native.Nat.{ℕ, zero, suc, _≤_, _<_, _%_}
 use native.Mathlib.Nat.{not-suc-le-zero}
 use native.Mathlib.Omega.{arith}
-use lib.Dec.{eqb, leb}
-use lib.ListN.{getD}
-use Rattle.seq.specs.Numbers.{minus}
-use Rattle.link.specs.declared.row.LinkRow.{LinkRow}
-use Rattle.link.specs.Sizes.{rowWithin, MAX_TIME}
-use Rattle.link.specs.Row.{noRow}
-use Rattle.engine.specs.declared.roster.Roster.{Roster}
-use Rattle.engine.specs.declared.state.Sending.{Sending}
+use borrow.Author.Tests.{ltb-true, leb-true, eqb-true, not-true, lt-ltb, le-leb, eq-eqb}
+use lib.Dec.{eqb, leb, ltb}
+use lib.ListN.{length, getD}
+use Rattle.seq.specs.declared.Seq.{Seq}
+use Rattle.seq.specs.Numbers.{seqOf, plus}
+use Rattle.link.specs.Sizes.{maxPingWithin, pingWithin, MAX_TIME, ACKS}
+use Rattle.engine.specs.declared.state.Flushed.{Flushed}
+use Rattle.engine.specs.declared.state.Flushed.the-variants.{Unflushed, FlushedAt}
+use Rattle.engine.specs.declared.state.SentReliableStatus.{SentReliableStatus}
+use Rattle.engine.specs.declared.state.SentReliableStatus.the-variants.{Sent, Received, ResendQueued}
+use Rattle.engine.specs.declared.state.Held.{Held}
+use Rattle.engine.specs.declared.state.Held.the-variants.{Nothing, Message}
 use Rattle.engine.specs.declared.state.State.{State}
-use Rattle.engine.specs.Packets.{noPacket, isReceived}
-use Rattle.engine.specs.Received.{expectedAt}
-use Rattle.engine.specs.Roster.{rosterOf, livesBefore}
-use Rattle.engine.specs.Tally.{tallyOf}
-use Rattle.engine.specs.CellTally.{cellTallyOf}
+use Rattle.engine.specs.Packets.{firstOf, packets, queue, isReceived, queuedOf, SentOn, Outstanding, Settled, sumOf}
+use Rattle.engine.specs.Received.{cellView, expectedAt, isFull, isReadyKind, bytesIn, noCell}
+use Rattle.engine.specs.Tally.{lengthOk}
+use Rattle.engine.specs.Sound.{rowAt, packetAt, cellAt, SentHere, FlushedBy, SentBy, ReadyKind, LengthWithin, Sound}
 use Rattle.engine.specs.Sizes.{SLOTS, PACKETS, CELLS, MAX_RECV_BUFFER}
+use Rattle.refusal.specs.Tests.{false-true}
 
-unfoldable pub firstOk : Sending → Bool
-firstOk tx =
-    cond (eqb (tx .«txed_count») 0) true
-    (not (isReceived (getD (tx .«txed_packets») (minus (tx .«tx_seq» .0) (tx .«txed_count» % 2 ^ 32) % PACKETS) noPacket .status)))
+-- ---- decisions of any fact
 
--- n rows from the slot j on
-unfoldable pub rowOk : LinkRow → ℕ → ℕ → Bool
-rowOk row sum time = eqb (row .«txed_unacked_data») sum && rowWithin row time
+-- a test that says the fact
+unfoldable by-test : {A : Type 0} (b : Bool) → (b ≡ true → A) → (A → b ≡ true) → Dec A
+by-test true f g = yes (f refl)
+by-test false f g = no (λ a. false-true (g a))
 
-unfoldable pub rowsFrom : List LinkRow → List ℕ → ℕ → ℕ → ℕ → Bool
-unfolding rowOk
-rowsFrom links on time j zero = true
-rowsFrom links on time j (suc n) = rowOk (getD links j noRow) (getD on j 0) time && rowsFrom links on time (j + 1) n
+unfoldable same : {A B : Type 0} → Dec A → (A → B) → (B → A) → Dec B
+same (yes a) f g = yes (f a)
+same (no n) f g = no (λ b. n (g b))
 
--- no live link of the first n slots has the identity of one below it
-unfoldable pub distinctBelow : Roster → ℕ → Bool
-distinctBelow r zero = true
-distinctBelow r (suc n) = cond (getD (r .live) n false && livesBefore r n (getD (r .ids) n 0)) false (distinctBelow r n)
+unfoldable both : {A B : Type 0} → Dec A → Dec B → Dec (A × B)
+both (yes a) (yes b) = yes (a, b)
+both (yes a) (no n) = no (λ p. n (p .1))
+both (no n) d = no (λ p. n (p .0))
 
-unfoldable pub sendingb : State → Bool
-sendingb s =
-    let t = tallyOf (s .tx) (rosterOf (s .links)) (s .time) in
-    t .ok
-    && (firstOk (s .tx)
-    && ((eqb (t .queued) (s .tx .«resend_count») && leb (s .tx .«resend_count») PACKETS)
-    && (eqb (t .unacked) (s .tx .«txed_unacked») && eqb (t .unconsumable) (s .tx .«txed_unconsumable»))))
+unfoldable given : {A B : Type 0} → Dec A → Dec B → Dec (A → B)
+given (yes a) (yes b) = yes (λ x. b)
+given (yes a) (no n) = no (λ f. n (f a))
+given (no n) d = yes (λ a. absurd (n a))
 
-unfoldable pub receivingb : State → Bool
-receivingb s =
-    let t = cellTallyOf CELLS (s .rx) in
-    t .ok
-    && ((eqb (t .size) (s .rx .«rxed_reliable_size») && leb (s .rx .«rxed_reliable_size») (s .rx .«recv_buffer»))
-    && (leb (expectedAt (s .rx)) CELLS && (leb 1 (s .rx .«recv_buffer») && leb (s .rx .«recv_buffer») MAX_RECV_BUFFER)))
+-- a fact of every number below n
+pub below-suc : {P : ℕ → Type 0} (n : ℕ) → ((i : ℕ) → i < n → P i) → P n → (i : ℕ) → i < suc n → P i
+below-suc n f p i h = elim (at-most n i) [
+  | yes e ↦ rw e p
+  | no ne ↦ f i (omega arith)
+]
+  where
+    at-most : (n i : ℕ) → Dec (i ≡ n)
+    at-most n i = by-test (eqb i n) (eqb-true i n) (eq-eqb i n)
 
-unfoldable pub linksb : State → Bool
-linksb s =
-    rowsFrom (s .links) (tallyOf (s .tx) (rosterOf (s .links)) (s .time) .on) (s .time) 0 SLOTS
-    && (distinctBelow (rosterOf (s .links)) SLOTS && leb (s .time) MAX_TIME)
+unfoldable below : (n : ℕ) {P : ℕ → Type 0} → ((i : ℕ) → Dec (P i)) → Dec ((i : ℕ) → i < n → P i)
+unfolding same both
+below zero d = yes (λ i h. absurd (not-suc-le-zero h))
+below (suc n) d = same (both (below n d) (d n)) (λ p. below-suc n (p .0) (p .1)) (λ f. (λ i h. f i (omega arith), f n (omega arith)))
 
+-- ---- decisions of the facts that Sound is made of
+
+unfoldable eq? : (m n : ℕ) → Dec (m ≡ n)
+unfolding by-test
+eq? m n = by-test (eqb m n) (eqb-true m n) (eq-eqb m n)
+
+unfoldable le? : (m n : ℕ) → Dec (m ≤ n)
+unfolding by-test
+le? m n = by-test (leb m n) (leb-true m n) (le-leb m n)
+
+unfoldable lt? : (m n : ℕ) → Dec (m < n)
+unfolding by-test
+lt? m n = by-test (ltb m n) (ltb-true m n) (lt-ltb m n)
+
+unfoldable true? : (b : Bool) → Dec (b ≡ true)
+unfolding by-test
+true? b = by-test b (λ e. e) (λ e. e)
+
+unfoldable false? : (b : Bool) → Dec (b ≡ false)
+unfolding by-test
+false? b = by-test (not b) (not-true b) (λ e. ap not e)
+
+unfoldable seq? : (a b : Seq) → Dec (a ≡ b)
+unfolding same eq?
+seq? a b = same (eq? (a .0) (b .0)) (ap seqOf) (ap (λ (n : Seq). n .0))
+
+unfoldable seqs? : (xs ys : List Seq) → Dec (xs ≡ ys)
+unfolding same both seq?
+seqs? [] [] = yes refl
+seqs? [] (y ∷ ys) = no (λ e. let z : 0 ≡ suc (length ys) = ap length e in omega arith)
+seqs? (x ∷ xs) [] = no (λ e. let z : suc (length xs) ≡ 0 = ap length e in omega arith)
+seqs? (x ∷ xs) (y ∷ ys) = same (both (seq? x y) (seqs? xs ys)) (λ p. ap₂ (λ (a : Seq) (l : List Seq). a ∷ l) (p .0) (p .1)) (λ e. (cc, cc))
+
+unfoldable nothing? : (h : Held) → Dec (h ≡ Nothing)
+nothing? Nothing = yes refl
+nothing? (Message msg len) = no (λ e. false-true (ap (λ h. not (isFull h)) e))
+
+unfoldable here? : (s : State) (st : SentReliableStatus) → Dec (SentHere s st)
+unfolding same both lt? true? eq?
+here? s (Sent flight) =
+    same (both (lt? (flight .slot) SLOTS) (both (true? (rowAt s (flight .slot) .live)) (eq? (rowAt s (flight .slot) .«link_id») (flight .link))))
+    (λ p. (p .0, p .1 .0, p .1 .1)) (λ h. (h .0, (h .1, h .2)))
+here? s Received = yes tt
+here? s (ResendQueued link) = yes tt
+
+unfoldable flushed? : (time : ℕ) (f : Flushed) → Dec (FlushedBy time f)
+unfolding le?
+flushed? time Unflushed = yes tt
+flushed? time (FlushedAt at) = le? at time
+
+unfoldable by? : (time : ℕ) (st : SentReliableStatus) → Dec (SentBy time st)
+unfolding both le? flushed?
+by? time (Sent flight) = both (le? (flight .sent) time) (flushed? time (flight .flushed))
+by? time Received = yes tt
+by? time (ResendQueued link) = yes tt
+
+unfoldable ready? : (h : Held) → Dec (ReadyKind h)
+unfolding true?
+ready? Nothing = yes tt
+ready? (Message msg len) = true? (isReadyKind msg)
+
+unfoldable within? : (h : Held) → Dec (LengthWithin h)
+unfolding true?
+within? Nothing = yes tt
+within? (Message msg len) = true? (lengthOk msg len)
+
+-- every cell of a list, gone through once
+pub cells-cons : (c : RxCell) (cs : List RxCell) → LengthWithin (c .held) → ((k : ℕ) → k < length cs → LengthWithin (getD cs k noCell .held))
+    → (k : ℕ) → k < length (c ∷ cs) → LengthWithin (getD (c ∷ cs) k noCell .held)
+cells-cons c cs p f zero h = p
+cells-cons c cs p f (suc k) h = f k (omega arith)
+
+unfoldable cells? : (cs : List RxCell) → Dec ((k : ℕ) → k < length cs → LengthWithin (getD cs k noCell .held))
+unfolding same both within?
+cells? [] = yes (λ k h. absurd (not-suc-le-zero h))
+cells? (c ∷ cs) = same (both (within? (c .held)) (cells? cs)) (λ p. cells-cons c cs (p .0) (p .1)) (λ f. (f 0 (omega arith), λ k h. f (suc k) (omega arith)))
+
+pub in-view : (rx : Receiving) (k : ℕ) → k < CELLS → k < length (cellView CELLS rx)
+in-view rx k h = omega (arith, window-length CELLS noCell (rx .«rxed_reliable») (rx .«rx_oldest» .0 % CELLS) CELLS)
+
+pub view-in : (rx : Receiving) (k : ℕ) → k < length (cellView CELLS rx) → k < CELLS
+view-in rx k h = omega (arith, window-length CELLS noCell (rx .«rxed_reliable») (rx .«rx_oldest» .0 % CELLS) CELLS)
+
+-- ---- Sound
+
+-- a fact of every packet, of every live link, and of every two live links
+unfoldable packets? : (s : State) {P : ℕ → Type 0} → ((i : ℕ) → Dec (P i)) → Dec ((i : ℕ) → i < s .tx .«txed_count» → P i)
+unfolding below
+packets? s d = below (s .tx .«txed_count») d
+
+unfoldable links? : (s : State) {P : ℕ → Type 0} → ((j : ℕ) → Dec (P j)) → Dec ((j : ℕ) → j < SLOTS → rowAt s j .live ≡ true → P j)
+unfolding below given true?
+links? s d = below SLOTS (λ j. given (true? (rowAt s j .live)) (d j))
+
+-- the same record in the order of a decision
+unfoldable pub sound? : (s : State) → Dec (Sound s)
+unfolding same both given eq? le? lt? true? false? seq? seqs? nothing? here? by? ready? cells? below packets? links?
+sound? s =
+    same
+    (both (packets? s (λ i. seq? (packetAt s i .seq) (seqOf (plus (firstOf (s .tx)) i))))
+    (both (given (lt? 0 (s .tx .«txed_count»)) (false? (isReceived (packetAt s 0 .status))))
+    (both (packets? s (λ i. here? s (packetAt s i .status)))
+    (both (seqs? (queue (s .tx)) (queuedOf (packets (s .tx))))
+    (both (links? s (λ j. eq? (rowAt s j .«txed_unacked_data») (sumOf (SentOn j) (packets (s .tx)))))
+    (both (eq? (s .tx .«txed_unacked») (sumOf Outstanding (packets (s .tx))))
+    (both (eq? (s .tx .«txed_unconsumable») (sumOf Settled (packets (s .tx))))
+    (both (le? (s .rx .«rxed_reliable_size») (s .rx .«recv_buffer»))
+    (both (eq? (s .rx .«rxed_reliable_size») (bytesIn (cellView CELLS (s .rx))))
+    (both (links? s (λ i. links? s (λ j. given (eq? (rowAt s i .«link_id») (rowAt s j .«link_id»)) (eq? i j))))
+    (both (below (expectedAt (s .rx)) (λ k. ready? (cellAt s k)))
+    (both (given (lt? 0 (expectedAt (s .rx))) (true? (isFull (cellAt s 0))))
+    (both (given (lt? (expectedAt (s .rx)) CELLS) (nothing? (cellAt s (expectedAt (s .rx)))))
+    (both (le? (expectedAt (s .rx)) CELLS)
+    (both (packets? s (λ i. by? (s .time) (packetAt s i .status)))
+    (both (links? s (λ j. true? (pingWithin (rowAt s j .«current_ping_sent») (s .time))))
+    (both (le? (s .tx .«txed_count») PACKETS)
+    (both (le? (s .tx .«resend_count») PACKETS)
+    (both (links? s (λ j. le? (rowAt s j .«ack_count») ACKS))
+    (both (packets? s (λ i. true? (lengthOk (packetAt s i .msg) (packetAt s i .len))))
+    (both (same (cells? (cellView CELLS (s .rx))) (λ f k h. f k (in-view (s .rx) k h)) (λ f k h. f k (view-in (s .rx) k h)))
+    (both (le? 1 (s .rx .«recv_buffer»))
+    (both (le? (s .rx .«recv_buffer») MAX_RECV_BUFFER)
+    (both (le? (s .time) MAX_TIME)
+    (both (links? s (λ j. le? (rowAt s j .roundtrip) MAX_TIME))
+    (links? s (λ j. true? (maxPingWithin (rowAt s j .«max_ping»)))))))))))))))))))))))))))))
+    (λ t. record {
+      consecutive = t .0;
+      first = t .1 .0;
+      sent = t .1 .1 .0;
+      queued = t .1 .1 .1 .0;
+      link-unacked = t .1 .1 .1 .1 .0;
+      unacked = t .1 .1 .1 .1 .1 .0;
+      unconsumable = t .1 .1 .1 .1 .1 .1 .0;
+      untaken-within = t .1 .1 .1 .1 .1 .1 .1 .0;
+      untaken = t .1 .1 .1 .1 .1 .1 .1 .1 .0;
+      identities = λ i j hi hj li lj. t .1 .1 .1 .1 .1 .1 .1 .1 .1 .0 i hi li j hj lj;
+      ready = t .1 .1 .1 .1 .1 .1 .1 .1 .1 .1 .0;
+      oldest = t .1 .1 .1 .1 .1 .1 .1 .1 .1 .1 .1 .0;
+      held = t .1 .1 .1 .1 .1 .1 .1 .1 .1 .1 .1 .1 .0;
+      near = t .1 .1 .1 .1 .1 .1 .1 .1 .1 .1 .1 .1 .1 .0;
+      sent-by = t .1 .1 .1 .1 .1 .1 .1 .1 .1 .1 .1 .1 .1 .1 .0;
+      pinged-by = t .1 .1 .1 .1 .1 .1 .1 .1 .1 .1 .1 .1 .1 .1 .1 .0;
+      packet-count = t .1 .1 .1 .1 .1 .1 .1 .1 .1 .1 .1 .1 .1 .1 .1 .1 .0;
+      queue-count = t .1 .1 .1 .1 .1 .1 .1 .1 .1 .1 .1 .1 .1 .1 .1 .1 .1 .0;
+      ack-count = t .1 .1 .1 .1 .1 .1 .1 .1 .1 .1 .1 .1 .1 .1 .1 .1 .1 .1 .0;
+      packet-length = t .1 .1 .1 .1 .1 .1 .1 .1 .1 .1 .1 .1 .1 .1 .1 .1 .1 .1 .1 .0;
+      cell-length = t .1 .1 .1 .1 .1 .1 .1 .1 .1 .1 .1 .1 .1 .1 .1 .1 .1 .1 .1 .1 .0;
+      buffer-set = t .1 .1 .1 .1 .1 .1 .1 .1 .1 .1 .1 .1 .1 .1 .1 .1 .1 .1 .1 .1 .1 .0;
+      buffer-within = t .1 .1 .1 .1 .1 .1 .1 .1 .1 .1 .1 .1 .1 .1 .1 .1 .1 .1 .1 .1 .1 .1 .0;
+      time-within = t .1 .1 .1 .1 .1 .1 .1 .1 .1 .1 .1 .1 .1 .1 .1 .1 .1 .1 .1 .1 .1 .1 .1 .0;
+      trip-within = t .1 .1 .1 .1 .1 .1 .1 .1 .1 .1 .1 .1 .1 .1 .1 .1 .1 .1 .1 .1 .1 .1 .1 .1 .0;
+      max-ping-within = t .1 .1 .1 .1 .1 .1 .1 .1 .1 .1 .1 .1 .1 .1 .1 .1 .1 .1 .1 .1 .1 .1 .1 .1 .1;
+    })
+    (λ h. (h .consecutive, (h .first, (h .sent, (h .queued, (h .link-unacked, (h .unacked, (h .unconsumable, (h .untaken-within, (h .untaken, (λ i hi li j hj lj. h .identities i j hi hj li lj, (h .ready, (h .oldest, (h .held, (h .near, (h .sent-by, (h .pinged-by, (h .packet-count, (h .queue-count, (h .ack-count, (h .packet-length, (h .cell-length, (h .buffer-set, (h .buffer-within, (h .time-within, (h .trip-within, h .max-ping-within))))))))))))))))))))))))))
+
+abbrev yes? : {A : Type 0} → Dec A → Bool
+yes? (yes a) = true
+yes? (no n) = false
+
+-- not "the state handed in is not sound" (1)
 unfoldable pub soundb : State → Bool
-unfolding sendingb receivingb linksb
-soundb s = leb (s .tx .«txed_count») PACKETS && (sendingb s && (receivingb s && linksb s))
+unfolding sound?
+soundb s = yes? (sound? s)
 
 -- ---- laws
 
-module _ (links : List LinkRow) (on : List ℕ) (time : ℕ) where
-  pub rows-step : (j n : ℕ) → 0 < n → rowsFrom links on time j n ≡ (rowOk (getD links j noRow) (getD on j 0) time && rowsFrom links on time (j + 1) (n - 1))
-  unfolding rowsFrom
-  rows-step j zero h = absurd (not-suc-le-zero h)
-  rows-step j (suc n) h =
-      let e : n ≡ suc n - 1 = omega arith in
-      ap (λ m. rowOk (getD links j noRow) (getD on j 0) time && rowsFrom links on time (j + 1) m) e
+yes-true : {A : Type 0} (d : Dec A) → yes? d ≡ true → A
+yes-true (yes a) e = a
+yes-true (no n) e = false-true e
 
-  pub rows-none : (j n : ℕ) → n ≤ 0 → rowsFrom links on time j n ≡ true
-  unfolding rowsFrom
-  rows-none j zero h = refl
-  rows-none j (suc n) h = absurd (not-suc-le-zero h)
+true-yes : {A : Type 0} (d : Dec A) → A → yes? d ≡ true
+true-yes (yes a) h = refl
+true-yes (no n) h = absurd (n h)
 
-pub distinct-step : (r : Roster) (n : ℕ) → 0 < n
-    → distinctBelow r n ≡ cond (getD (r .live) (n - 1) false && livesBefore r (n - 1) (getD (r .ids) (n - 1) 0)) false (distinctBelow r (n - 1))
-unfolding distinctBelow
-distinct-step r zero h = absurd (not-suc-le-zero h)
-distinct-step r (suc n) h =
-    let e : n ≡ suc n - 1 = omega arith in
-    ap (λ m. cond (getD (r .live) m false && livesBefore r m (getD (r .ids) m 0)) false (distinctBelow r m)) e
+pub sound : (s : State) → soundb s ≡ true → Sound s
+unfolding soundb
+sound s e = yes-true (sound? s) e
 
-pub distinct-none : (r : Roster) (n : ℕ) → n ≤ 0 → distinctBelow r n ≡ true
-unfolding distinctBelow
-distinct-none r zero h = refl
-distinct-none r (suc n) h = absurd (not-suc-le-zero h)
+pub sound-true : (s : State) → Sound s → soundb s ≡ true
+unfolding soundb
+sound-true s h = true-yes (sound? s) h

@@ -1,7 +1,7 @@
--- What `is_sound` computes decides Sound: the test holds of a state just if it is sound. Assumes nothing.
+-- The code's passes find just what Sound says: `found-same`. Assumes nothing.
 use mathlib.Core.Path.{_≡_, refl, sym, ap, _∙_}
 use mathlib.Core.Bool.{true, false, not, _&&_}
-use Prim.Native.Nat.{ℕ, _+_, _*_, _%_, _^_, _≤_, _<_}
+use Prim.Native.Nat.{ℕ, _+_, _*_, _%_, _≤_, _<_}
 use native.Mathlib.Decide.{ℕ-discrete}
 use native.Mathlib.Omega.{arith}
 use borrow.Author.Tests.{ltb-true, ltb-false, leb-true, eqb-true, eqb-false, not-true, le-leb, eq-eqb, ne-eqb}
@@ -9,24 +9,25 @@ use lib.Dec.{eqb, leb, ltb}
 use lib.ListN.{length, getD, take, getD-replicate}
 use lib.Seq.{length-take-le}
 use borrow.Table.Steps.{cases}
-use Rattle.seq.specs.Numbers.{plus, minus}
+use Rattle.seq.specs.Numbers.{plus}
 use Rattle.seq.specs.Laws.{minus-lt}
 use Rattle.engine.specs.declared.state.SentReliable.{SentReliable}
 use Rattle.engine.specs.declared.state.State.{State}
 use Rattle.engine.specs.declared.packets.Tally.{Tally}
 use Rattle.engine.specs.declared.received.CellTally.{CellTally}
-use Rattle.engine.specs.Ring.{window, window-length, window-at}
+use Rattle.engine.specs.Ring.{window-length, window-at}
 use Rattle.engine.specs.Packets.{noPacket, firstOf, packets, isReceived, queuedOf, Pick, SentOn, Outstanding, Settled, sumOf}
 use Rattle.engine.specs.Received.{cellView, expectedAt, isFull, bytesIn, noCell}
 use Rattle.engine.specs.Roster.{rosterOf}
 use Rattle.engine.specs.Tally.{noTally, tallyOf}
 use Rattle.engine.specs.CellTally.{cellOk, cellTallyOf}
-use Rattle.engine.specs.Decide.{firstOk, rowsFrom, distinctBelow, sendingb, receivingb, linksb, soundb}
+use Rattle.engine.specs.Found.{firstOk, rowsFrom, distinctBelow, sendingb, receivingb, linksb, foundSound}
+use Rattle.engine.specs.Decide.{soundb, sound, sound-true}
 use Rattle.engine.specs.Sound.{rowAt, packetAt, cellAt, LengthWithin, Sound, Shaped}
 use Rattle.engine.specs.DecidedTables.{distinct-apart, apart-distinct, rows-each, rows-all, RowFine, row-fine, fine-row, cellsOk, cells-tally, zero-plus, bytes-tally, cells-each, cells-all, bytes-le, cell-length, cell-ready, cell-oldest, cell-expected, cell-decided}
 use Rattle.engine.specs.DecidedPackets.{Good, eachOk, passOf, each-tally, queued-tally, total, sum-tally, sum-le, each-good, each-queue, good-each}
 use Rattle.engine.specs.Sizes.{PACKETS, SLOTS, CELLS, DATA_BYTES, MAX_RECV_BUFFER}
-use Rattle.refusal.specs.Tests.{split, join}
+use Rattle.refusal.specs.Tests.{split, join, same-test}
 use Rattle.link.specs.Sizes.{MAX_TIME}
 
 -- the state's two passes
@@ -48,16 +49,10 @@ view-full : (s : State) → length (cellView CELLS (s .rx)) ≡ CELLS
 view-full s = window-length CELLS noCell (s .rx .«rxed_reliable») (s .rx .«rx_oldest» .0 % CELLS) CELLS
 
 module _ (s : State) (few : s .tx .«txed_count» ≤ PACKETS) where
-  -- a count of at most 64 is no more than a number can be
-  count-whole : s .tx .«txed_count» % 2 ^ 32 ≡ s .tx .«txed_count»
-  count-whole = omega arith
-
   -- the packets' pass goes through the packet table
   found-pass : found s ≡ passOf s (packets (s .tx)) (firstOf (s .tx)) noTally
   unfolding tallyOf
-  found-pass =
-      ap (λ (c : ℕ). passOf s (window PACKETS noPacket (s .tx .«txed_packets») (minus (s .tx .«tx_seq» .0) c % PACKETS) (s .tx .«txed_count»)) (minus (s .tx .«tx_seq» .0) c) noTally)
-      count-whole
+  found-pass = refl
 
   -- it finds whether each is as it asks ..
   found-ok : found s .ok ≡ eachOk s (packets (s .tx)) (firstOf (s .tx)) 0
@@ -86,13 +81,12 @@ module _ (s : State) (few : s .tx .«txed_count» ≤ PACKETS) where
 
   -- the first packet is in the cell of the first number
   first-at : 0 < s .tx .«txed_count»
-      → packetAt s 0 ≡ getD (s .tx .«txed_packets») (minus (s .tx .«tx_seq» .0) (s .tx .«txed_count» % 2 ^ 32) % PACKETS) noPacket
+      → packetAt s 0 ≡ getD (s .tx .«txed_packets») (firstOf (s .tx) % PACKETS) noPacket
   first-at h =
       let at = firstOf (s .tx) % PACKETS in
       let e : (at + 0) % PACKETS ≡ at = omega arith in
       window-at PACKETS noPacket (s .tx .«txed_packets») at (s .tx .«txed_count») 0 (omega arith) h
       ∙ ap (λ k. getD (s .tx .«txed_packets») k noPacket) e
-      ∙ ap (λ c. getD (s .tx .«txed_packets») (minus (s .tx .«tx_seq» .0) c % PACKETS) noPacket) (sym count-whole)
 
   -- the test of the first packet says that it isn't Received
   first-sound : firstOk (s .tx) ≡ true → 0 < s .tx .«txed_count» → isReceived (packetAt s 0 .status) ≡ false
@@ -100,7 +94,7 @@ module _ (s : State) (few : s .tx .«txed_count» ≤ PACKETS) where
   first-sound e h =
       let n : eqb (s .tx .«txed_count») 0 ≡ false = ne-eqb (s .tx .«txed_count») 0 (λ q. omega arith) in
       ap (λ (p : SentReliable). isReceived (p .status)) (first-at h)
-      ∙ not-true (isReceived (getD (s .tx .«txed_packets») (minus (s .tx .«tx_seq» .0) (s .tx .«txed_count» % 2 ^ 32) % PACKETS) noPacket .status)) (simp n at e)
+      ∙ not-true (isReceived (getD (s .tx .«txed_packets») (firstOf (s .tx) % PACKETS) noPacket .status)) (simp n at e)
 
   -- .. and back
   sound-first : (0 < s .tx .«txed_count» → isReceived (packetAt s 0 .status) ≡ false) → firstOk (s .tx) ≡ true
@@ -146,8 +140,8 @@ record FoundWhole (s : State) : Type 0 where
   distinct : distinctBelow (rosterOf (s .links)) SLOTS ≡ true
   time-within : s .time ≤ MAX_TIME
 
-found-whole : (s : State) → soundb s ≡ true → FoundWhole s
-unfolding soundb sendingb receivingb linksb
+found-whole : (s : State) → foundSound s ≡ true → FoundWhole s
+unfolding foundSound sendingb receivingb linksb
 found-whole s e =
     let a = split (leb (s .tx .«txed_count») PACKETS) (sendingb s && (receivingb s && linksb s)) e in
     let b = split (sendingb s) (receivingb s && linksb s) (a .1) in
@@ -184,8 +178,8 @@ found-whole s e =
     }
 
 -- a state that passes the test is sound
-pub sound : (s : State) → Shaped s → soundb s ≡ true → Sound s
-sound s sh e =
+found-sound : (s : State) → Shaped s → foundSound s ≡ true → Sound s
+found-sound s sh e =
     let t = found-whole s e in
     let ps = packets (s .tx) in
     let each : eachOk s ps (firstOf (s .tx)) 0 ≡ true = sym (found-ok s (t .few)) ∙ t .each in
@@ -197,14 +191,14 @@ sound s sh e =
     rw z at (cells-each (cellView CELLS (s .rx)) 0 (expectedAt (s .rx)) (sym (cells-found-ok s) ∙ t .cells) k (omega (arith, view-full s))) in
     let lengths : (k : ℕ) → k < CELLS → LengthWithin (cellAt s k) = λ k h. cell-length (cellAt s k) k (expectedAt (s .rx)) (cell k h) in
     let apart = distinct-apart s SLOTS (omega arith) (t .distinct) in
-    let row : (j : ℕ) → j < SLOTS → RowFine (rowAt s j) (getD (found s .on) j 0) (s .time) =
+    let row : (j : ℕ) → j < SLOTS → rowAt s j .live ≡ true → RowFine (rowAt s j) (getD (found s .on) j 0) (s .time) =
     λ j h. row-fine (rowAt s j) (getD (found s .on) j 0) (s .time) (rows-each (s .links) (found s .on) (s .time) 0 SLOTS (t .rows) j (omega arith) (omega arith)) in
     record {
       consecutive = λ i h. good i h .number;
       first = first-sound s (t .few) (t .first);
       sent = λ i h. good i h .here;
       queued = ap (λ n. take n (s .tx .«resend_queue»)) count ∙ each-queue s ps (firstOf (s .tx)) 0 (sh .queue-full) (omega (arith, packets-length s, t .few)) each;
-      link-unacked = λ j h. row j h .sums ∙ found-on s (t .few) j h good;
+      link-unacked = λ j h l. row j h l .sums ∙ found-on s (t .few) j h good;
       unacked = sym (t .unacked) ∙ found-total s (t .few) Outstanding refl good;
       unconsumable = sym (t .unconsumable) ∙ found-total s (t .few) Settled refl good;
       untaken-within = t .size-within;
@@ -220,23 +214,23 @@ sound s sh e =
       held = λ h. cell-expected (cellAt s (expectedAt (s .rx))) (expectedAt (s .rx)) (cell (expectedAt (s .rx)) h);
       near = t .near;
       sent-by = λ i h. good i h .timed;
-      pinged-by = λ j h. row j h .pinged;
+      pinged-by = λ j h l. row j h l .pinged;
       packet-count = t .few;
       queue-count = t .queue-few;
-      ack-count = λ j h. row j h .acks;
+      ack-count = λ j h l. row j h l .acks;
       packet-length = λ i h. good i h .fits;
       cell-length = lengths;
       buffer-set = t .buffer-set;
       buffer-within = t .buffer-within;
       time-within = t .time-within;
-      trip-within = λ j h. row j h .trip;
-      max-ping-within = λ j h. row j h .limit;
+      trip-within = λ j h l. row j h l .trip;
+      max-ping-within = λ j h l. row j h l .limit;
     }
 
 -- a sound state passes the test
-pub sound-decided : (s : State) → Shaped s → Sound s → soundb s ≡ true
-unfolding soundb sendingb receivingb linksb
-sound-decided s sh h =
+sound-found : (s : State) → Shaped s → Sound s → foundSound s ≡ true
+unfolding foundSound sendingb receivingb linksb
+sound-found s sh h =
     let few = h .packet-count in
     let ps = packets (s .tx) in
     let good : AllGood s = λ i l. record { number = h .consecutive i l; fits = h .packet-length i l; here = h .sent i l; timed = h .sent-by i l } in
@@ -267,13 +261,17 @@ sound-decided s sh h =
     (rows-all (s .links) (found s .on) (s .time) 0 SLOTS
     (λ j p q.
     let l : j < SLOTS = omega arith in
-    fine-row (rowAt s j) (getD (found s .on) j 0) (s .time) (record {
-      sums = h .link-unacked j l ∙ sym (found-on s few j l good);
-      trip = h .trip-within j l;
-      limit = h .max-ping-within j l;
-      pinged = h .pinged-by j l;
-      acks = h .ack-count j l;
+    fine-row (rowAt s j) (getD (found s .on) j 0) (s .time) (λ live. record {
+      sums = h .link-unacked j l live ∙ sym (found-on s few j l good);
+      trip = h .trip-within j l live;
+      limit = h .max-ping-within j l live;
+      pinged = h .pinged-by j l live;
+      acks = h .ack-count j l live;
     })))
     (join
     (apart-distinct s SLOTS (omega arith) (λ i j p q li lj same. omega (arith, h .identities i j (omega arith) q li lj same)))
     (le-leb _ _ (h .time-within))))))
+
+-- the test and the decision are one
+pub found-same : (s : State) → Shaped s → foundSound s ≡ soundb s
+found-same s sh = same-test (foundSound s) (soundb s) (λ e. sound-true s (found-sound s sh e)) (λ e. sound-found s sh (sound s e))

@@ -26,7 +26,7 @@ use Rattle.engine.specs.Received.{noCell, isFull, isReadyKind, heldBytes
 use Rattle.engine.specs.Roster.{rosterOf, livesIn, livesBefore}
 use Rattle.engine.specs.Tally.{lengthOk}
 use Rattle.engine.specs.CellTally.{cellOk, cellWeighed, cellTallyFrom}
-use Rattle.engine.specs.Decide.{rowOk, rowsFrom, distinctBelow}
+use Rattle.engine.specs.Found.{rowOk, rowsFrom, distinctBelow}
 use Rattle.engine.specs.Sound.{rowAt, ReadyKind, LengthWithin}
 use Rattle.engine.specs.Sizes.{SLOTS, DATA_BYTES}
 use Rattle.refusal.specs.Tests.{false-true, split, join}
@@ -156,13 +156,13 @@ pub record RowFine (row : LinkRow) (sum time : ℕ) : Type 0 where
   pub pinged : pingWithin (row .«current_ping_sent») time ≡ true
   pub acks : row .«ack_count» ≤ ACKS
 
--- the test of a row says that
+-- the test of a live row says that
 module _ (row : LinkRow) (sum time : ℕ) where
-  pub row-fine : rowOk row sum time ≡ true → RowFine row sum time
+  pub row-fine : rowOk row sum time ≡ true → row .live ≡ true → RowFine row sum time
   unfolding rowOk rowWithin
-  row-fine e =
+  row-fine e l =
       let p = pingWithin (row .«current_ping_sent») time in
-      let e1 = split (eqb (row .«txed_unacked_data») sum) (rowWithin row time) e in
+      let e1 = split (eqb (row .«txed_unacked_data») sum) (rowWithin row time) (simp l at e) in
       let e2 = split (leb (row .roundtrip) MAX_TIME) (maxPingWithin (row .«max_ping») && (p && leb (row .«ack_count») ACKS)) (e1 .1) in
       let e3 = split (maxPingWithin (row .«max_ping»)) (p && leb (row .«ack_count») ACKS) (e2 .1) in
       let e4 = split p (leb (row .«ack_count») ACKS) (e3 .1) in
@@ -175,11 +175,15 @@ module _ (row : LinkRow) (sum time : ℕ) where
       }
 
   -- .. and back
-  pub fine-row : RowFine row sum time → rowOk row sum time ≡ true
+  pub fine-row : (row .live ≡ true → RowFine row sum time) → rowOk row sum time ≡ true
   unfolding rowOk rowWithin
-  fine-row f =
-      join (eq-eqb (row .«txed_unacked_data») sum (f .sums))
-      (join (le-leb (row .roundtrip) MAX_TIME (f .trip)) (join (f .limit) (join (f .pinged) (le-leb (row .«ack_count») ACKS (f .acks)))))
+  fine-row g =
+      cases (row .live)
+      (λ l.
+      let f = g l in
+      simp l (join (eq-eqb (row .«txed_unacked_data») sum (f .sums))
+      (join (le-leb (row .roundtrip) MAX_TIME (f .trip)) (join (f .limit) (join (f .pinged) (le-leb (row .«ack_count») ACKS (f .acks)))))))
+      (λ l. simp l)
 
 -- ---- lengths
 

@@ -3,8 +3,8 @@
 -- empty part. Taking Data lowers the untaken bytes and raises the taken-and-untold count; taking SendFinish moves neither. Taking an
 -- ack removes the link's oldest. A Consumed is due when the taken-and-untold count is above `recv_buffer` / 10, rounded down." Ready
 -- is what lies before the next expected number; N is the cell count. Assumes nothing.
-use mathlib.Core.Path.{_≡_, refl, _∙_, ap, sym}
-use mathlib.Core.Bool.{cond, Bool, not, _&&_, true}
+use mathlib.Core.Path.{_≡_, refl, sym, ap, ap₂, _∙_}
+use mathlib.Core.Bool.{Bool, true, false, cond, not, _&&_}
 use Prim.Native.Nat.{ℕ, _%_, _≤_, _+_, _-_, zero, suc, _^_, _<_, _/_}
 use native.Mathlib.Omega.{arith}
 use lib.Dec.{eqb, ltb}
@@ -12,14 +12,15 @@ use lib.ListN.{getD, length, take, drop, set}
 use Rattle.seq.specs.declared.Seq.{Seq}
 use Rattle.msg.specs.declared.reliable.ReliableMsg.{ReliableMsg}
 use Rattle.msg.specs.declared.reliable.ReliableMsg.the-variants.{Data, Consumed, SendFinish, ReceiveClose, ReceiveFinish}
-use Rattle.refusal.specs.Refusals.{refuse, numberOf}
+use Rattle.refusal.specs.Answers.{Told, success, refused, toldBy, flag}
+use Rattle.msg.specs.Reliable.{kindOf}
 use Rattle.refusal.specs.declared.verdict.Verdict.{Verdict}
 use Rattle.refusal.specs.declared.verdict.Verdict.the-variants as verdicts
 use Rattle.engine.specs.declared.state.Held.{Held}
 use Rattle.engine.specs.declared.state.Held.the-variants as helds
 use Rattle.engine.specs.declared.state.Receiving.{Receiving}
 use Rattle.engine.specs.declared.state.State.{State}
-use Rattle.engine.specs.Received.{noCell, isFull, isReadyKind}
+use Rattle.engine.specs.Received.{noCell, isFull, isReadyKind, heldBytes}
 use Rattle.engine.specs.Sound.{Sound, LengthWithin, cellAt, Shaped}
 use Rattle.engine.specs.DecidedTables.{length-le, length-none}
 use Rattle.refusal.specs.Verdicts.{gate, gate-pass}
@@ -27,20 +28,18 @@ use Rattle.refusal.specs.Tests.{false-true}
 use Rattle.engine.specs.Cells.{cellOf}
 use Rattle.engine.specs.declared.handing_out.HandOut.{HandOut}
 use Rattle.engine.specs.declared.handing_out.HandOut.the-variants.{Message, No}
-use mathlib.Core.List.{List, []}
+use mathlib.Core.List.{List, [], _∷_}
 use borrow.Author.Tests.{eqb-true}
-use Rattle.engine.specs.Decided.{sound}
-use Rattle.engine.specs.Decide.{soundb}
+use Rattle.engine.specs.Decide.{soundb, sound}
 use Rattle.engine.specs.Stores.{cellStart}
 use native.Mathlib.Nat.{not-suc-le-zero}
 use borrow.Table.Steps.{cases}
 use Rattle.seq.specs.Numbers.{seqOf, plus}
-use Rattle.engine.specs.Rows.{rowOf}
+use Rattle.engine.specs.Rows.{rowOf, slotOk}
 use Rattle.engine.specs.declared.handing_out.TakeResult.{TakeResult}
 use Rattle.link.specs.declared.acks.OldestAck.{OldestAck}
 use Rattle.link.specs.declared.acks.OldestAck.the-variants as oldest
 use Rattle.link.specs.Acks.{oldestAck, ackTaken}
-use Rattle.engine.specs.Gates.{slotVerdict}
 use Rattle.engine.specs.declared.handing_out.TakeAck.{TakeAck}
 use Rattle.engine.specs.declared.handing_out.TakeAck.the-variants as tellings
 use Rattle.engine.specs.declared.handing_out.TakeAckResult.{TakeAckResult}
@@ -60,20 +59,28 @@ unfoldable pub readyOf : ℕ → Receiving → Held
 unfolding cellOf
 readyOf N rx = cond (eqb (rx .«rx_oldest» .0) (rx .«rx_seq» .0)) helds.Nothing (cellOf N rx (rx .«rx_oldest» .0))
 
--- the paper's number of an answer
-abbrev pub handOutNumber : HandOut → ℕ
-handOutNumber (Message msg seq len) = 0
-handOutNumber (No e) = numberOf e
+-- not "nothing to take" (19)
+abbrev pub isReady : Receiving → Bool
+isReady rx = isFull (readyOf CELLS rx)
 
--- "answering kind, number and length"; 19: "nothing to take"
-abbrev pub handOutAs : Verdict → Held → Seq → HandOut
-handOutAs verdicts.Pass helds.Nothing seq = No (refuse 19 tt)
-handOutAs verdicts.Pass (helds.Message msg len) seq = Message msg seq len
-handOutAs (verdicts.No e) held seq = No e
+-- the message that a cell holds; that of an empty one is never asked
+abbrev pub msgIn : Held → ReliableMsg
+msgIn helds.Nothing = Data
+msgIn (helds.Message msg len) = msg
+
+-- "answering kind, number and length"
+abbrev pub handOutTold : HandOut → Told
+handOutTold (Message msg seq len) = success (kindOf msg ∷ seq .0 ∷ len ∷ [])
+handOutTold (No e) = refused e
+
+-- the kind, number and length of the oldest ready message
+abbrev pub readyValues : Receiving → List ℕ
+readyValues rx = kindOf (msgIn (readyOf CELLS rx)) ∷ rx .«rx_oldest» .0 ∷ heldBytes (readyOf CELLS rx) ∷ []
 
 unfoldable pub handOutBy : Verdict → Receiving → HandOut
 unfolding readyOf
-handOutBy verdict rx = handOutAs verdict (readyOf CELLS rx) (rx .«rx_oldest»)
+handOutBy verdicts.Pass rx = Message (msgIn (readyOf CELLS rx)) (rx .«rx_oldest») (heldBytes (readyOf CELLS rx))
+handOutBy (verdicts.No e) rx = No e
 
 -- the data bytes of a message
 abbrev pub dataLength : ReliableMsg → ℕ → ℕ
@@ -86,9 +93,9 @@ readyBytes (helds.Message msg len) = dataLength msg len
 -- ---- showing: a part carries no number, so a second call tells which it is
 
 unfoldable pub showVerdict : State → ℕ → Verdict
-showVerdict s store = gate (soundb s) 1 (gate (eqb store RECEIVED_BYTES) 2 verdicts.Pass)
+showVerdict s store = gate (soundb s) 1 (gate (eqb store RECEIVED_BYTES) 2 (gate (isReady (s .rx)) 19 verdicts.Pass))
 
--- what is shown: the answer that taking would give, or 1, 2 or 19
+-- what is shown: the answer that taking would give, but for 9
 unfoldable pub showingOf : State → ℕ → HandOut
 unfolding showVerdict handOutBy
 showingOf s store = handOutBy (showVerdict s store) (s .rx)
@@ -98,15 +105,28 @@ abbrev pub partAs : HandOut → List ℕ → List ℕ
 partAs (Message msg seq len) store = take (dataLength msg len) (drop (cellStart CELLS (seq .0)) store)
 partAs (No e) store = []
 
+-- where the part lies, by block and place, of a store that lies somewhere: "from the cell's start"; an empty one at the store's
+abbrev pub placeAs : HandOut → ℕ × ℕ → ℕ × ℕ
+placeAs (Message msg seq len) at = (at .0, cellStart CELLS (seq .0) + at .1)
+placeAs (No e) at = at
+
+unfoldable pub shownAt : State → ℕ → ℕ × ℕ → ℕ × ℕ
+unfolding showingOf
+shownAt s store at = placeAs (showingOf s store) at
+
 unfoldable pub shownOf : State → List ℕ → List ℕ
 unfolding showingOf
 shownOf s store = partAs (showingOf s (length store)) store
 
 -- ---- taking
 
--- 9: "a total would pass 2^32 − 1", the taken-and-untold count; 19 is left to the answer
+-- 9: "a total would pass 2^32 − 1", the taken-and-untold count
 unfoldable pub takeVerdict : State → Verdict
-takeVerdict s = gate (soundb s) 1 (gate (fits (s .rx .«rxed_reliable_consumed») (readyBytes (readyOf CELLS (s .rx))) MAX_TOTAL) 9 verdicts.Pass)
+takeVerdict s =
+    gate (soundb s) 1
+    (gate (fits (s .rx .«rxed_reliable_consumed») (readyBytes (readyOf CELLS (s .rx))) MAX_TOTAL) 9
+    (gate (isReady (s .rx)) 19
+    verdicts.Pass))
 
 -- the oldest number stands for nothing that is ready, and is before the next expected
 unfoldable pub canSkip : ℕ → Receiving → Bool
@@ -144,19 +164,31 @@ takeOf s = let answer = handOutBy (takeVerdict s) (s .rx) in record { answer = a
 
 -- ---- taking an ack
 
--- the paper's number of an answer
-abbrev pub takeAckNumber : TakeAck → ℕ
-takeAckNumber (tellings.Number seq) = 0
-takeAckNumber (tellings.No e) = numberOf e
+-- not "nothing to take" (19)
+abbrev pub isWaiting : OldestAck → Bool
+isWaiting oldest.Nothing = false
+isWaiting (oldest.Number seq) = true
 
--- the link's oldest; 19: "nothing to take"
+unfoldable pub takeAckVerdict : State → ℕ → Verdict
+takeAckVerdict s slot = gate (soundb s) 1 (gate (slotOk s slot) 4 (gate (isWaiting (oldestAck (rowOf s slot))) 19 verdicts.Pass))
+
+-- the number that is acked; where none waits it is never asked
+abbrev pub ackIn : OldestAck → Seq
+ackIn oldest.Nothing = seqOf 0
+ackIn (oldest.Number seq) = seq
+
+-- the link's oldest
+abbrev pub takeAckTold : TakeAck → Told
+takeAckTold (tellings.Number seq) = success (seq .0 ∷ [])
+takeAckTold (tellings.No e) = refused e
+
 abbrev pub ackAs : Verdict → OldestAck → TakeAck
-ackAs verdicts.Pass oldest.Nothing = tellings.No (refuse 19 tt)
-ackAs verdicts.Pass (oldest.Number seq) = tellings.Number seq
+ackAs verdicts.Pass ack = tellings.Number (ackIn ack)
 ackAs (verdicts.No e) ack = tellings.No e
 
 unfoldable pub ackAnswer : State → ℕ → TakeAck
-ackAnswer s slot = ackAs (slotVerdict s slot) (oldestAck (rowOf s slot))
+unfolding takeAckVerdict
+ackAnswer s slot = ackAs (takeAckVerdict s slot) (oldestAck (rowOf s slot))
 
 unfoldable pub takenAckState : State → ℕ → State
 takenAckState s slot = withRow s slot (ackTaken (rowOf s slot))
@@ -171,26 +203,61 @@ takeAckOf s slot = record { answer = ackAnswer s slot; state = takenAckBy (ackAn
 
 -- ---- whether a Consumed is due
 
--- the paper's number of an answer
-abbrev pub dueNumber : Due → ℕ
-dueNumber (dues.Is b) = 0
-dueNumber (dues.No e) = numberOf e
+abbrev pub dueTold : Due → Told
+dueTold (dues.Is due) = success (flag due ∷ [])
+dueTold (dues.No e) = refused e
+
+abbrev pub dueVerdict : State → Verdict
+dueVerdict s = gate (soundb s) 1 verdicts.Pass
+
+abbrev pub isDue : State → Bool
+isDue s = ltb (s .rx .«recv_buffer» / 10) (s .rx .«rxed_reliable_consumed»)
+
+abbrev pub dueBy : Verdict → State → Due
+dueBy verdicts.Pass s = dues.Is (isDue s)
+dueBy (verdicts.No e) s = dues.No e
 
 unfoldable pub dueOf : State → Due
-dueOf s = cond (soundb s) (dues.Is (ltb (s .rx .«recv_buffer» / 10) (s .rx .«rxed_reliable_consumed»))) (dues.No (refuse 1 tt))
+dueOf s = dueBy (dueVerdict s) s
 
 -- ---- laws
 
--- what an answer that is no refusal says
-pub record Handed (v : Verdict) (held : Held) (seq : Seq) (msg : ReliableMsg) (n : Seq) (len : ℕ) : Type 0 where
-  pub passed : v ≡ verdicts.Pass
-  pub ready : held ≡ helds.Message msg len
-  pub number : seq ≡ n
+-- what each answer tells
 
-pub handed : (v : Verdict) (held : Held) (seq : Seq) (msg : ReliableMsg) (n : Seq) (len : ℕ) → handOutAs v held seq ≡ Message msg n len → Handed v held seq msg n len
-handed verdicts.Pass helds.Nothing seq msg n len e = let z : _≡_ {A = ℕ} 0 1 = cc in absurd (omega arith)
-handed verdicts.Pass (helds.Message msg₁ len₁) seq msg n len e = record { passed = refl; ready = cc; number = cc }
-handed (verdicts.No e₁) held seq msg n len e = let z : _≡_ {A = ℕ} 0 1 = cc in absurd (omega arith)
+handed-told : (v : Verdict) (rx : Receiving) → handOutTold (handOutBy v rx) ≡ toldBy v (readyValues rx)
+unfolding handOutBy
+handed-told verdicts.Pass rx = refl
+handed-told (verdicts.No e) rx = refl
+
+pub hand-told : {r : HandOut} (v w : Verdict) (rx : Receiving) → r ≡ handOutBy v rx → v ≡ w → handOutTold r ≡ toldBy w (readyValues rx)
+hand-told v w rx e same = ap handOutTold e ∙ handed-told v rx ∙ ap (λ x. toldBy x (readyValues rx)) same
+
+ack-told : (v : Verdict) (ack : OldestAck) → takeAckTold (ackAs v ack) ≡ toldBy v (ackIn ack .0 ∷ [])
+ack-told verdicts.Pass ack = refl
+ack-told (verdicts.No e) ack = refl
+
+pub answer-told : (s : State) (slot : ℕ) → takeAckTold (ackAnswer s slot) ≡ toldBy (takeAckVerdict s slot) (ackIn (oldestAck (rowOf s slot)) .0 ∷ [])
+unfolding ackAnswer
+answer-told s slot = ack-told (takeAckVerdict s slot) (oldestAck (rowOf s slot))
+
+-- what an answer that is no refusal says
+pub record Handed (v : Verdict) (rx : Receiving) (msg : ReliableMsg) (n : Seq) (len : ℕ) : Type 0 where
+  pub passed : v ≡ verdicts.Pass
+  pub ready : isReady rx ≡ true → readyOf CELLS rx ≡ helds.Message msg len
+  pub number : rx .«rx_oldest» ≡ n
+
+ready-is : (held : Held) (msg : ReliableMsg) (len : ℕ) → msgIn held ≡ msg → heldBytes held ≡ len → isFull held ≡ true → held ≡ helds.Message msg len
+ready-is helds.Nothing msg len m l e = false-true e
+ready-is (helds.Message msg₁ len₁) msg len m l e = ap₂ (λ (a : ReliableMsg) (b : ℕ). helds.Message a b) m l
+
+pub handed : (v : Verdict) (rx : Receiving) (msg : ReliableMsg) (n : Seq) (len : ℕ) → handOutBy v rx ≡ Message msg n len → Handed v rx msg n len
+unfolding handOutBy
+handed verdicts.Pass rx msg n len e =
+    let m : msgIn (readyOf CELLS rx) ≡ msg = cc in
+    let l : heldBytes (readyOf CELLS rx) ≡ len = cc in
+    let o : rx .«rx_oldest» ≡ n = cc in
+    record { passed = refl; ready = ready-is (readyOf CELLS rx) msg len m l; number = o }
+handed (verdicts.No e₁) rx msg n len e = let z : _≡_ {A = ℕ} 0 1 = cc in absurd (omega arith)
 
 data-length-le : (msg : ReliableMsg) (len : ℕ) → dataLength msg len ≤ len
 data-length-le msg len = cases (isData msg) (λ t. simp t (omega arith)) (λ t. simp t (omega arith))
@@ -216,10 +283,11 @@ pub shown-within : (s : State) (store : ℕ) (msg : ReliableMsg) (seq : Seq) (le
     → cellStart CELLS (seq .0) + dataLength msg len ≤ store
 unfolding showingOf showVerdict handOutBy
 shown-within s store msg seq len shape e =
-    let h = handed (showVerdict s store) (readyOf CELLS (s .rx)) (s .rx .«rx_oldest») msg seq len e in
+    let h = handed (showVerdict s store) (s .rx) msg seq len e in
     let e1 = gate-pass (soundb s) _ _ (h .passed) in
     let e2 = gate-pass (eqb store RECEIVED_BYTES) _ _ (e1 .1) in
-    omega (arith, eqb-true store RECEIVED_BYTES (e2 .0), ready-short s msg len (sound s shape (e1 .0)) (h .ready))
+    let e19 = gate-pass (isReady (s .rx)) _ _ (e2 .1) in
+    omega (arith, eqb-true store RECEIVED_BYTES (e2 .0), ready-short s msg len (sound s (e1 .0)) (h .ready (e19 .0)))
 
 -- a part named by its start and its end
 pub part-same : (start len : ℕ) (store : List ℕ) → take (start + len - start) (drop start store) ≡ take len (drop start store)
@@ -239,14 +307,26 @@ unfolding skipped
 skip-end N zero rx h = refl
 skip-end N (suc k) rx h = absurd (not-suc-le-zero h)
 
--- the taken-and-untold count stays a total
-pub taken-fits : (s : State) (msg : ReliableMsg) (seq : Seq) (len : ℕ) → handOutBy (takeVerdict s) (s .rx) ≡ Message msg seq len → s .rx .«rxed_reliable_consumed» + dataLength msg len < 2 ^ 32
-unfolding takeVerdict handOutBy
-taken-fits s msg seq len e =
-    let h = handed (takeVerdict s) (readyOf CELLS (s .rx)) (s .rx .«rx_oldest») msg seq len e in
+-- a message that is taken was ready, in a sound state, and the taken-and-untold count stays a total
+pub record Taking (s : State) (msg : ReliableMsg) (seq : Seq) (len : ℕ) : Type 0 where
+  pub fine : Sound s
+  pub ready : readyOf CELLS (s .rx) ≡ helds.Message msg len
+  pub number : s .rx .«rx_oldest» ≡ seq
+  pub total : s .rx .«rxed_reliable_consumed» + dataLength msg len < 2 ^ 32
+
+pub taking : (s : State) (msg : ReliableMsg) (seq : Seq) (len : ℕ) → handOutBy (takeVerdict s) (s .rx) ≡ Message msg seq len → Taking s msg seq len
+unfolding takeVerdict
+taking s msg seq len e =
+    let h = handed (takeVerdict s) (s .rx) msg seq len e in
     let e1 = gate-pass (soundb s) _ _ (h .passed) in
     let e9 = gate-pass (fits (s .rx .«rxed_reliable_consumed») (readyBytes (readyOf CELLS (s .rx))) MAX_TOTAL) _ _ (e1 .1) in
-    rw (ap readyBytes (h .ready)) at (total-fits (s .rx .«rxed_reliable_consumed») (readyBytes (readyOf CELLS (s .rx))) (e9 .0))
+    let e19 = gate-pass (isReady (s .rx)) _ _ (e9 .1) in
+    record {
+      fine = sound s (e1 .0);
+      ready = h .ready (e19 .0);
+      number = h .number;
+      total = rw (ap readyBytes (h .ready (e19 .0))) at (total-fits (s .rx .«rxed_reliable_consumed») (readyBytes (readyOf CELLS (s .rx))) (e9 .0));
+    }
 
 -- a ready message's data bytes are all that its cell counts
 pub data-all : (msg : ReliableMsg) (len : ℕ) → isReadyKind msg ≡ true → lengthOk msg len ≡ true → dataLength msg len ≡ len

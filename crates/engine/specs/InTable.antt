@@ -5,14 +5,16 @@ use Prim.Native.Nat.{ℕ, _+_, _-_, _%_, _^_, _≤_, _<_, _∣_}
 use native.Mathlib.Nat.{dvd-mul-right, mod-add-mod, mod-mod-of-dvd}
 use native.Mathlib.Omega.{arith}
 use lib.Dec.{leb}
-use lib.ListN.{getD}
+use lib.ListN.{length, getD}
 use borrow.Author.Tests.{leb-true}
 use Rattle.seq.specs.Numbers.{minus}
+use mathlib.Core.List.{List}
+use Rattle.engine.specs.declared.state.SentReliable.{SentReliable}
 use Rattle.engine.specs.declared.state.Sending.{Sending}
 use Rattle.engine.specs.declared.state.State.{State}
-use Rattle.engine.specs.Ring.{window-at, window-length}
+use Rattle.engine.specs.Ring.{window, refilled, refill-window, window-at, window-length}
 use Rattle.engine.specs.Packets.{noPacket, firstOf, packets, Pick, SentOn, sumOf}
-use Rattle.engine.specs.Table.{inTable, packetOf}
+use Rattle.engine.specs.Table.{inTable, place, lookedAt, packetOf, withTable}
 use Rattle.engine.specs.Sound.{Sound, Shaped, packetAt, rowAt}
 use Rattle.engine.specs.DecidedTables.{length-le}
 use Rattle.engine.specs.DecidedPackets.{sum-le}
@@ -22,10 +24,6 @@ use Rattle.refusal.specs.Tests.{split}
 -- 64 divides 2^32, so that a number's cell survives the wrap
 pub cells-divide : PACKETS ∣ 2 ^ 32
 cells-divide = dvd-mul-right PACKETS 67108864
-
--- the place of a number that the table holds
-unfoldable pub place : Sending → ℕ → ℕ
-place tx n = tx .«txed_count» - minus (tx .«tx_seq» .0) n
 
 -- over bare numbers: the cell that is `count − back` past the first's is the cell `back` before the next number's
 cell-of-place : (t count back : ℕ) → count ≤ PACKETS → 1 ≤ back → back ≤ count → ((t + (2 ^ 32 - count)) % PACKETS + (count - back)) % PACKETS ≡ (t + (2 ^ 32 - back)) % PACKETS
@@ -45,11 +43,11 @@ cell-wraps t k = mod-mod-of-dvd _ (t + (2 ^ 32 - k)) cells-divide
 pub record Placed (tx : Sending) (n : ℕ) : Type 0 where
   pub back-low : 1 ≤ minus (tx .«tx_seq» .0) n
   pub back-high : minus (tx .«tx_seq» .0) n ≤ tx .«txed_count»
-  pub here : packetOf tx n ≡ getD (packets tx) (place tx n) noPacket
+  pub here : packetOf tx n ≡ lookedAt tx n
 
 -- the packet at count − back is the one in the number's cell
 pub placed : (tx : Sending) (n : ℕ) → tx .«tx_seq» .0 < 2 ^ 32 → n < 2 ^ 32 → tx .«txed_count» ≤ PACKETS → inTable tx n ≡ true → Placed tx n
-unfolding inTable packetOf place
+unfolding inTable packetOf lookedAt place
 placed tx n ht hn c e =
     let t = tx .«tx_seq» .0 in
     let b = split (leb 1 (minus t n)) (leb (minus t n) (tx .«txed_count»)) e in
@@ -70,17 +68,25 @@ placed tx n ht hn c e =
           ∙ sym (window-at PACKETS noPacket (tx .«txed_packets») (firstOf tx % PACKETS) (tx .«txed_count») (tx .«txed_count» - minus t n) at (omega arith));
     }
 
+-- other packets in the places of the table's own are the table's packets
+pub table-packets : (tx : Sending) (ps : List SentReliable) → length ps ≡ tx .«txed_count» → tx .«txed_count» ≤ PACKETS → length (tx .«txed_packets») ≡ PACKETS
+    → packets (withTable tx ps) ≡ ps
+unfolding withTable
+table-packets tx ps long few full =
+    let cells = refilled PACKETS (tx .«txed_packets») (firstOf tx % PACKETS) ps in
+    ap (window PACKETS noPacket cells (firstOf tx % PACKETS)) (sym long)
+    ∙ refill-window PACKETS noPacket (tx .«txed_packets») (firstOf tx % PACKETS) ps (omega arith) full (omega arith)
+
 -- ---- what a sound state says
 
 module _ (s : State) (shaped : Shaped s) (sound : Sound s) where
   -- a packet of the table has at most 1,024 bytes
-  pub packet-short : (n : ℕ) → n < 2 ^ 32 → inTable (s .tx) n ≡ true → packetOf (s .tx) n .len ≤ DATA_BYTES
-  unfolding place
+  pub packet-short : (n : ℕ) → n < 2 ^ 32 → inTable (s .tx) n ≡ true → lookedAt (s .tx) n .len ≤ DATA_BYTES
+  unfolding place lookedAt
   packet-short n h e =
       let p = placed (s .tx) n (shaped .next-u32) h (sound .packet-count) e in
       let i = place (s .tx) n in
-      let g = length-le (packetAt s i .msg) (packetAt s i .len) (sound .packet-length i (omega (arith, p .back-low, p .back-high))) in
-      omega (arith, ap (λ q. q .len) (p .here), g)
+      length-le (packetAt s i .msg) (packetAt s i .len) (sound .packet-length i (omega (arith, p .back-low, p .back-high)))
 
   -- sums over the table are small
   pub sum-small : (k : Pick) → sumOf k (packets (s .tx)) ≤ SENT_BYTES
@@ -88,5 +94,5 @@ module _ (s : State) (shaped : Shaped s) (sound : Sound s) where
       let n = window-length PACKETS noPacket (s .tx .«txed_packets») (firstOf (s .tx) % PACKETS) (s .tx .«txed_count») in
       omega (arith, sum-le k (packets (s .tx)) (λ i h. sound .packet-length i (omega arith)), n, sound .packet-count)
 
-  pub row-small : (j : ℕ) → j < SLOTS → rowAt s j .«txed_unacked_data» ≤ SENT_BYTES
-  row-small j h = omega (arith, sound .link-unacked j h, sum-small (SentOn j))
+  pub row-small : (j : ℕ) → j < SLOTS → rowAt s j .live ≡ true → rowAt s j .«txed_unacked_data» ≤ SENT_BYTES
+  row-small j h l = omega (arith, sound .link-unacked j h l, sum-small (SentOn j))

@@ -7,8 +7,9 @@ pub mod Received
 pub mod Roster
 pub mod Tally
 pub mod CellTally
-pub mod Decide
+pub mod Found
 pub mod Sound
+pub mod Decide
 pub mod Rows
 pub mod Answer
 pub mod Queue
@@ -16,7 +17,6 @@ pub mod DecidedTables
 pub mod DecidedPackets
 pub mod Decided
 pub mod Table
-pub mod Mapped
 pub mod Gates
 pub mod InTable
 pub mod Stores

@@ -1,23 +1,27 @@
 -- Document 01, "Links. Adding uses the lowest empty slot. .. Confirming, blocking, noting a ping and setting the limit mark to any
 -- number are plain changes of a row (P)", and "Pong". Assumes nothing.
-use mathlib.Core.Path.{_≡_, ap}
-use mathlib.Core.Bool.{Bool, false, cond, not, _&&_}
+use mathlib.Core.Path.{_≡_, refl, sym, ap, ap₂, _∙_}
+use mathlib.Core.Bool.{Bool, true, false, cond, not, _&&_, _||_}
+use mathlib.Core.List.{List, [], _∷_}
 use Prim.Native.Nat.{ℕ, zero, suc, _+_, _-_, _≤_, _<_}
+use native.Mathlib.Numerals.{add-one}
 use native.Mathlib.Omega.{arith}
-use lib.Dec.{leb, ltb}
-use lib.ListN.{getD}
+use lib.Dec.{eqb, leb, ltb}
+use lib.ListN.{length, getD, drop, drop-of-length-le}
+use lib.Seq.{drop-cons}
+use borrow.Author.Tests.{eq-eqb}
 use borrow.Table.Steps.{cases}
-use Rattle.refusal.specs.Refusals.{numberOf}
+use Rattle.refusal.specs.Answers.{Told, success, refused, toldBy}
+use Rattle.refusal.specs.Tests.{false-true}
 use Rattle.refusal.specs.declared.verdict.Verdict.{Verdict}
 use Rattle.refusal.specs.declared.verdict.Verdict.the-variants as verdicts
 use Rattle.refusal.specs.Verdicts.{gate}
 use Rattle.link.specs.declared.row.MaxPing.{MaxPing}
-use Rattle.link.specs.Row.{freshRow, confirmed, blockedRow}
+use Rattle.link.specs.Row.{noRow, freshRow, confirmed, blockedRow}
 use Rattle.link.specs.Sizes.{maxPingWithin, MAX_TIME}
 use Rattle.engine.specs.declared.state.State.{State}
-use Rattle.engine.specs.declared.roster.Roster.{Roster}
+use Rattle.link.specs.declared.row.LinkRow.{LinkRow}
 use Rattle.engine.specs.Decide.{soundb}
-use Rattle.engine.specs.Roster.{rosterOf, livesBefore}
 use Rattle.engine.specs.Rows.{rowOf}
 use Rattle.engine.specs.declared.links.AddAnswer.{AddAnswer}
 use Rattle.engine.specs.declared.links.AddAnswer.the-variants.{Slot, No}
@@ -34,28 +38,33 @@ use Rattle.engine.specs.Fields.{withRow, withTime}
 
 -- ---- adding
 
--- the lowest slot without a link among n from j on, or the one after them
-unfoldable pub lowestEmpty : Roster → ℕ → ℕ → ℕ
-lowestEmpty r j zero = j
-lowestEmpty r j (suc n) = cond (getD (r .live) j false) (lowestEmpty r (j + 1) n) j
+-- "the lowest empty slot", where the first of the rows has this one; past them all, where every slot has a link
+unfoldable pub lowestEmpty : List LinkRow → ℕ → ℕ
+lowestEmpty [] slot = slot
+lowestEmpty (row ∷ rows) slot = cond (row .live) (lowestEmpty rows (suc slot)) slot
 
 abbrev pub lowestIn : State → ℕ
-lowestIn s = lowestEmpty (rosterOf (s .links)) 0 SLOTS
+lowestIn s = lowestEmpty (s .links) 0
+
+-- "the identity belongs to a live link"
+unfoldable pub isTaken : List LinkRow → ℕ → Bool
+isTaken [] id = false
+isTaken (row ∷ rows) id = (row .live && eqb (row .«link_id») id) || isTaken rows id
 
 -- "1", "3, .. adding among them" (a round trip or `max_ping` above 2^56; a link is added at no time of its own), "no empty link
 -- slot" (5), "the identity belongs to a live link" (6)
-unfoldable pub addVerdict : State → ℕ → ℕ → ℕ → MaxPing → Verdict
-addVerdict s slot id roundtrip max =
+unfoldable pub addVerdict : State → ℕ → ℕ → MaxPing → Verdict
+addVerdict s id roundtrip max =
     gate (soundb s) 1
     (gate (leb roundtrip MAX_TIME && maxPingWithin max) 3
-    (gate (ltb slot SLOTS) 5
-    (gate (not (livesBefore (rosterOf (s .links)) SLOTS id)) 6
+    (gate (ltb (lowestIn s) SLOTS) 5
+    (gate (not (isTaken (s .links) id)) 6
     verdicts.Pass)))
 
--- the paper's number of an answer
-abbrev pub addNumber : AddAnswer → ℕ
-addNumber (Slot slot) = 0
-addNumber (No e) = numberOf e
+-- the answer is the slot
+abbrev pub addTold : AddAnswer → Told
+addTold (Slot slot) = success (slot ∷ [])
+addTold (No e) = refused e
 
 abbrev pub addedBy : Verdict → ℕ → State → State → Added
 addedBy verdicts.Pass slot s next = record { answer = Slot slot; state = next }
@@ -64,7 +73,7 @@ addedBy (verdicts.No e) slot s next = record { answer = No e; state = s }
 unfoldable pub addOf : State → ℕ → ℕ → MaxPing → Bool → Bool → Added
 unfolding addVerdict
 addOf s id roundtrip max blocked unconfirmed =
-    addedBy (addVerdict s (lowestIn s) id roundtrip max) (lowestIn s) s
+    addedBy (addVerdict s id roundtrip max) (lowestIn s) s
     (withRow s (lowestIn s) (freshRow id roundtrip max blocked unconfirmed))
 
 -- ---- plain changes of a row
@@ -88,21 +97,54 @@ pongOf s slot time = changedBy (timedVerdict s slot time verdicts.Pass) s (withT
 
 -- ---- laws
 
-module _ (r : Roster) (j : ℕ) where
-  -- one slot less to look at
-  pub lowest-step : j < SLOTS → lowestEmpty r j (SLOTS - j) ≡ cond (getD (r .live) j false) (lowestEmpty r (j + 1) (SLOTS - (j + 1))) j
-  unfolding lowestEmpty
-  lowest-step h = ap (lowestEmpty r j) (let e : SLOTS - j ≡ suc (SLOTS - (j + 1)) = omega arith in e)
+pub added-told : (v : Verdict) (slot : ℕ) (s next : State) → addTold (addedBy v slot s next .answer) ≡ toldBy v (slot ∷ [])
+added-told verdicts.Pass slot s next = refl
+added-told (verdicts.No e) slot s next = refl
 
-  pub lowest-none : SLOTS ≤ j → lowestEmpty r j (SLOTS - j) ≡ j
+-- the rows from j on are row j and those after it
+module _ (rows : List LinkRow) (j : ℕ) where
+  pub lowest-step : (slot : ℕ) → j < length rows → lowestEmpty (drop j rows) slot ≡ cond (getD rows j noRow .live) (lowestEmpty (drop (j + 1) rows) (slot + 1)) slot
   unfolding lowestEmpty
-  lowest-none h = ap (lowestEmpty r j) (let e : SLOTS - j ≡ zero = omega arith in e)
+  lowest-step slot h =
+      ap (λ l. lowestEmpty l slot) (drop-cons rows j noRow h)
+      ∙ ap₂ (λ i k. cond (getD rows j noRow .live) (lowestEmpty (drop i rows) k) slot) (sym (add-one j)) (sym (add-one slot))
 
--- the slot that is found among n from j on is empty
-pub lowest-empty : (r : Roster) (j n : ℕ) → lowestEmpty r j n < j + n → getD (r .live) (lowestEmpty r j n) false ≡ false
+  pub lowest-none : (slot : ℕ) → length rows ≤ j → lowestEmpty (drop j rows) slot ≡ slot
+  unfolding lowestEmpty
+  lowest-none slot h = rw (drop-of-length-le rows h)
+
+  pub taken-step : (id : ℕ) → j < length rows
+      → isTaken (drop j rows) id ≡ ((getD rows j noRow .live && eqb (getD rows j noRow .«link_id») id) || isTaken (drop (j + 1) rows) id)
+  unfolding isTaken
+  taken-step id h = rw (add-one, drop-cons rows j noRow)
+
+  pub taken-none : (id : ℕ) → length rows ≤ j → isTaken (drop j rows) id ≡ false
+  unfolding isTaken
+  taken-none id h = rw (drop-of-length-le rows h)
+
+-- the slot that is found is that of an empty row
+pub lowest-empty : (rows : List LinkRow) (slot : ℕ) → lowestEmpty rows slot < slot + length rows → getD rows (lowestEmpty rows slot - slot) noRow .live ≡ false
 unfolding lowestEmpty
-lowest-empty r j zero h = absurd (omega arith)
-lowest-empty r j (suc n) h =
-    cases (getD (r .live) j false)
-    (λ t. simp t (lowest-empty r (j + 1) n (omega (arith, simp t at h))))
-    (λ t. simp t)
+lowest-empty [] slot h = absurd (omega arith)
+lowest-empty (row ∷ rows) slot h =
+    cases (row .live)
+    (λ t.
+    let rest = lowest-empty rows (suc slot) (omega (arith, simp t at h)) in
+    let low : suc slot ≤ lowestEmpty rows (suc slot) = lowest-from rows (suc slot) in
+    let k : lowestEmpty rows (suc slot) - slot ≡ suc (lowestEmpty rows (suc slot) - suc slot) = omega arith in
+    simp (t, k) rest)
+    (λ t. let z : slot - slot ≡ 0 = omega arith in simp (t, z))
+  where
+    lowest-from : (rows : List LinkRow) (slot : ℕ) → slot ≤ lowestEmpty rows slot
+    lowest-from [] slot = omega arith
+    lowest-from (row ∷ rows) slot = cases (row .live) (λ t. simp t (omega (arith, lowest-from rows (suc slot)))) (λ t. simp t (omega arith))
+
+-- an identity that is not taken is no live row's
+pub taken-nowhere : (rows : List LinkRow) (id j : ℕ) → isTaken rows id ≡ false → j < length rows → getD rows j noRow .live ≡ true → getD rows j noRow .«link_id» ≡ id → ⊥
+unfolding isTaken
+taken-nowhere [] id j e h l q = omega arith
+taken-nowhere (row ∷ rows) id zero e h l q = false-true (sym e ∙ simp (l, eq-eqb (row .«link_id») id q))
+taken-nowhere (row ∷ rows) id (suc j) e h l q =
+    cases (row .live && eqb (row .«link_id») id)
+    (λ t. false-true (sym e ∙ simp t))
+    (λ t. taken-nowhere rows id j (simp t at e) (omega arith) l q)

@@ -1,50 +1,75 @@
 -- The resend queue made anew: "the queue stays oldest first". Assumes nothing.
-use mathlib.Core.Path.{_≡_, ap}
+use mathlib.Core.Path.{_≡_, sym, ap, ap₂, _∙_}
 use mathlib.Core.Bool.{cond}
-use mathlib.Core.List.{List, [], _∷_}
-use Prim.Native.Nat.{ℕ, _+_, _-_, _%_, _^_, _≤_, _<_}
-use lib.Dec.{ltb}
-use lib.ListN.{getD, set}
-use Rattle.seq.specs.Numbers.{minus}
+use mathlib.Core.List.{List, [], _∷_, _++_, append-nil, append-assoc}
+use Prim.Native.Nat.{ℕ, suc, _+_, _≤_}
+use native.Mathlib.Numerals.{add-one}
+use native.Mathlib.Omega.{arith}
+use borrow.Table.Steps.{cases}
+use lib.ListN.{length, set, take, drop, length-set, take-append-drop}
+use lib.Seq.{take-suc-set, drop-set-lt, drop-drop, length-take-le, take-append-seam}
+use Rattle.seq.specs.declared.Seq.{Seq}
 use Rattle.engine.specs.declared.state.SentReliable.{SentReliable}
 use Rattle.engine.specs.declared.state.Sending.{Sending}
 use Rattle.engine.specs.declared.queue.Gathered.{Gathered}
-use Rattle.engine.specs.Ring.{window, window-step, window-none, nextCell}
-use Rattle.engine.specs.Packets.{noPacket, isQueued}
+use Rattle.engine.specs.Packets.{packets, queue, isQueued, queuedOf}
 use Rattle.engine.specs.Sizes.{PACKETS}
 use Rattle.engine.specs.Fields.{withQueue}
 
--- a queue of 64 places with a packet's number, where it is queued
-unfoldable pub putIn : Gathered → SentReliable → Gathered
-putIn g p =
-    cond (isQueued (p .status))
-    (cond (ltb (g .count) PACKETS) (record { numbers = set (g .numbers) (g .count) (p .seq); count = g .count + 1 }) g)
-    g
-
--- .. and with those of a list of packets
-unfoldable pub gatherFrom : List SentReliable → Gathered → Gathered
-unfolding putIn
-gatherFrom [] g = g
-gatherFrom (p ∷ ps) g = gatherFrom ps (putIn g p)
-
-unfoldable pub gatherOf : Sending → Gathered
-unfolding gatherFrom
-gatherOf tx =
-    gatherFrom
-    (window PACKETS noPacket (tx .«txed_packets») (minus (tx .«tx_seq» .0) (tx .«txed_count» % 2 ^ 32) % PACKETS) (tx .«txed_count»))
-    (record { numbers = tx .«resend_queue»; count = 0 })
-
+-- the queue lists the numbers of the ResendQueued packets, oldest first; the places past them are as they were
 unfoldable pub requeued : Sending → Sending
-unfolding gatherOf
-requeued tx = withQueue tx (gatherOf tx .numbers) (gatherOf tx .count)
+requeued tx =
+    let numbers = queuedOf (packets tx) in
+    withQueue tx (numbers ++ drop (length numbers) (tx .«resend_queue»)) (length numbers)
+
+-- what the code gathers of one packet: its number behind the others, where it is queued
+unfoldable pub putIn : Gathered → SentReliable → Gathered
+putIn g p = cond (isQueued (p .status)) (record { numbers = set (g .numbers) (g .count) (p .seq); count = g .count + 1 }) g
 
 -- ---- laws
 
-pub gather-step : (cells : List SentReliable) (at left : ℕ) (g : Gathered) → 0 < left
-    → gatherFrom (window PACKETS noPacket cells at left) g ≡ gatherFrom (window PACKETS noPacket cells (nextCell PACKETS at) (left - 1)) (putIn g (getD cells at noPacket))
-unfolding gatherFrom
-gather-step cells at left g h = ap (λ ps. gatherFrom ps g) (window-step PACKETS noPacket cells at left h)
+-- the queue is just that list
+pub requeued-queue : (tx : Sending) → queue (requeued tx) ≡ queuedOf (packets tx)
+unfolding requeued
+requeued-queue tx = take-append-seam (queuedOf (packets tx)) (drop (length (queuedOf (packets tx))) (tx .«resend_queue»))
 
-pub gather-none : (cells : List SentReliable) (at left : ℕ) (g : Gathered) → left ≤ 0 → gatherFrom (window PACKETS noPacket cells at left) g ≡ g
-unfolding gatherFrom
-gather-none cells at left g h = ap (λ ps. gatherFrom ps g) (window-none PACKETS noPacket cells at left h)
+-- what is gathered, with what the rest of the packets will add, is the whole list; behind it the old queue stands
+pub record Gathering (old all : List Seq) (g : Gathered) (rest : List SentReliable) : Type 0 where
+  pub front : take (g .count) (g .numbers) ++ queuedOf rest ≡ all
+  pub back : drop (g .count) (g .numbers) ≡ drop (g .count) old
+  pub full : length (g .numbers) ≡ PACKETS
+  pub room : g .count + length rest ≤ PACKETS
+
+module _ (old all : List Seq) (g : Gathered) where
+  -- a packet is put in
+  pub gather-turn : (p : SentReliable) (rest : List SentReliable) → Gathering old all g (p ∷ rest) → Gathering old all (putIn g p) rest
+  unfolding putIn queuedOf
+  gather-turn p rest h =
+      cases (isQueued (p .status))
+      (λ q.
+      let longer : take (suc (g .count)) (set (g .numbers) (g .count) (p .seq)) ≡ take (g .count) (g .numbers) ++ (p .seq ∷ []) =
+      take-suc-set (g .numbers) (g .count) (p .seq) (omega (arith, h .room, h .full)) in
+      let all-same : take (g .count) (g .numbers) ++ (p .seq ∷ queuedOf rest) ≡ all = simp q at (h .front) in
+      simp q (record {
+        front = rw add-one (ap (λ (l : List Seq). l ++ queuedOf rest) longer ∙ append-assoc (take (g .count) (g .numbers)) (p .seq ∷ []) (queuedOf rest) ∙ all-same);
+        back =
+            drop-set-lt (g .count + 1) (g .numbers) (g .count) (p .seq) (omega arith)
+            ∙ sym (drop-drop 1 (g .count) (g .numbers))
+            ∙ ap (drop 1) (h .back)
+            ∙ drop-drop 1 (g .count) old;
+        full = length-set (g .numbers) (g .count) (p .seq) ∙ h .full;
+        room = omega (arith, h .room);
+      }))
+      (λ q.
+      let same : take (g .count) (g .numbers) ++ queuedOf rest ≡ all = simp q at (h .front) in
+      simp q (record { front = same; back = h .back; full = h .full; room = omega (arith, h .room) }))
+
+  -- no packet is left
+  pub gather-end : Gathering old all g [] → g ≡ record { numbers = all ++ drop (length all) old; count = length all }
+  unfolding queuedOf
+  gather-end h =
+      let whole : take (g .count) (g .numbers) ≡ all = sym (append-nil (take (g .count) (g .numbers))) ∙ h .front in
+      let long : g .count ≡ length all = sym (length-take-le (g .count) (g .numbers) (omega (arith, h .room, h .full))) ∙ ap length whole in
+      ap₂ (λ (n : List Seq) (c : ℕ). record { numbers = n; count = c })
+      (sym (take-append-drop (g .count) (g .numbers)) ∙ ap₂ (λ (a b : List Seq). a ++ b) whole (h .back ∙ ap (λ n. drop n old) long))
+      long

@@ -2,14 +2,14 @@
 -- nothing.
 use mathlib.Core.Path.{_≡_, refl, sym, ap, _∙_}
 use mathlib.Core.Bool.{cond}
-use mathlib.Core.List.{List, [], _∷_, _++_}
+use mathlib.Core.List.{List, [], _∷_, _++_, map}
 use Prim.Native.Nat.{ℕ, zero, suc, _+_, _-_, _%_, _≤_, _<_}
 use native.Mathlib.Nat.{not-suc-le-zero, mod-lt, mod-eq-of-lt, mod-self, mod-add-mod, add-mod-right, mod-eq-sub-mod}
 use native.Mathlib.Omega.{arith}
 use borrow.Table.Steps.{cases}
 use borrow.Author.Tests.{ltb-true, ltb-false}
 use lib.Dec.{ltb}
-use lib.ListN.{length, getD, set, drop}
+use lib.ListN.{length, getD, set, drop, length-set}
 use lib.Seq.{getD-set-same, getD-set-other}
 
 -- the cell after another, going round
@@ -21,6 +21,12 @@ unfoldable pub window : {A : Type 0} → ℕ → A → List A → ℕ → ℕ �
 unfolding nextCell
 window N d cells at zero = []
 window N d cells at (suc n) = getD cells at d ∷ window N d cells (nextCell N at) n
+
+-- the cells from `at` on, going round, with the elements of a list in them; every other cell as it was
+unfoldable pub refilled : {A : Type 0} → ℕ → List A → ℕ → List A → List A
+unfolding nextCell
+refilled N cells at [] = cells
+refilled N cells at (x ∷ xs) = refilled N (set cells at x) (nextCell N at) xs
 
 -- ---- laws: going round
 
@@ -166,3 +172,57 @@ module _ {A : Type 0} (N : ℕ) (d : A) (cells : List A) where
       window-drop (nextCell N at) n k (next-cell-lt N at (omega arith)) (omega arith)
       ∙ ap (λ a. window N d cells a (n - k)) (past-next N at k h)
       ∙ ap (window N d cells ((at + suc k) % N)) f
+
+-- ---- laws: what is refilled
+
+module _ {A : Type 0} (N : ℕ) (d : A) where
+  pub refill-length : (cells : List A) (at : ℕ) (xs : List A) → length (refilled N cells at xs) ≡ length cells
+  unfolding refilled
+  refill-length cells at [] = refl
+  refill-length cells at (x ∷ xs) = refill-length (set cells at x) (nextCell N at) xs ∙ length-set cells at x
+
+  -- a cell past the list's is as it was
+  pub refill-out : (cells : List A) (at m : ℕ) (xs : List A) → at < N → length xs ≤ m → m < N
+      → getD (refilled N cells at xs) ((at + m) % N) d ≡ getD cells ((at + m) % N) d
+  unfolding refilled
+  refill-out cells at m [] h g l = refl
+  refill-out cells at zero (x ∷ xs) h g l = absurd (omega arith)
+  refill-out cells at (suc m) (x ∷ xs) h g l =
+      ap (λ k. getD (refilled N (set cells at x) (nextCell N at) xs) k d) (sym (past-next N at m h))
+      ∙ refill-out (set cells at x) (nextCell N at) m xs (next-cell-lt N at (omega arith)) (omega arith) (omega arith)
+      ∙ ap (λ k. getD (set cells at x) k d) (past-next N at m h)
+      ∙ getD-set-other cells at ((at + suc m) % N) x d (λ e. elsewhere N at m h l (sym e))
+
+  -- what was filled in is seen
+  pub refill-window : (cells : List A) (at : ℕ) (xs : List A) → at < N → length cells ≡ N → length xs ≤ N
+      → window N d (refilled N cells at xs) at (length xs) ≡ xs
+  unfolding refilled window
+  refill-window cells at [] h c l = refl
+  refill-window cells at (x ∷ xs) h c l =
+      let after = refilled N (set cells at x) (nextCell N at) xs in
+      let head : getD after at d ≡ x =
+      ap (λ k. getD after k d) (sym (last-cell N at h))
+      ∙ refill-out (set cells at x) (nextCell N at) (N - 1) xs (next-cell-lt N at (omega arith)) (omega arith) (omega arith)
+      ∙ ap (λ k. getD (set cells at x) k d) (last-cell N at h)
+      ∙ getD-set-same cells at x d (omega arith) in
+      let tail : window N d after (nextCell N at) (length xs) ≡ xs =
+      refill-window (set cells at x) (nextCell N at) xs (next-cell-lt N at (omega arith)) (length-set cells at x ∙ c) (omega arith) in
+      simp (head, tail)
+
+-- each of n cells from `at` on is changed in its place: what a loop over them does in a turn
+module _ {A : Type 0} (N : ℕ) (d : A) (f : A → A) where
+  pub change-step : (cells : List A) (at n : ℕ) → at < N → 0 < n → n ≤ N
+      → refilled N cells at (map f (window N d cells at n))
+      ≡ refilled N (set cells at (f (getD cells at d))) (nextCell N at) (map f (window N d (set cells at (f (getD cells at d))) (nextCell N at) (n - 1)))
+  unfolding refilled
+  change-step cells at n h g l =
+      let new = set cells at (f (getD cells at d)) in
+      let rest : window N d cells (nextCell N at) (n - 1) ≡ window N d new (nextCell N at) (n - 1) =
+      sym (ap (λ k. window N d (set cells k (f (getD cells at d))) (nextCell N at) (n - 1)) (sym (last-cell N at h))
+      ∙ window-set-out N d cells (nextCell N at) (n - 1) (N - 1) (f (getD cells at d)) (next-cell-lt N at (omega arith)) (omega arith) (omega arith)) in
+      ap (λ ps. refilled N cells at (map f ps)) (window-step N d cells at n g)
+      ∙ ap (λ ps. refilled N new (nextCell N at) (map f ps)) rest
+
+  pub change-none : (cells : List A) (at n : ℕ) → n ≤ 0 → refilled N cells at (map f (window N d cells at n)) ≡ cells
+  unfolding refilled
+  change-none cells at n h = ap (λ ps. refilled N cells at (map f ps)) (window-none N d cells at n h)

@@ -1,9 +1,9 @@
 -- Document 01, "Send. Takes the next number, copies data to its own cell and no other byte, records Sent with time, slot and
 -- identity; `txed_unacked`, `txed_unconsumed` and the link's unacked bytes grow by the data length. The answer is the number. A
 -- Consumed reduces the taken-and-untold count by its amount (P)." Assumes nothing.
-use mathlib.Core.Path.{_≡_}
+use mathlib.Core.Path.{_≡_, refl}
 use mathlib.Core.Bool.{Bool, not, _&&_, _||_}
-use mathlib.Core.List.{List}
+use mathlib.Core.List.{List, [], _∷_}
 use Prim.Native.Nat.{ℕ, _+_, _-_, _%_, _^_, _≤_, _<_}
 use lib.Dec.{eqb, leb, ltb}
 use lib.ListN.{length, set}
@@ -11,7 +11,7 @@ use borrow.Author.Tests.{eqb-true, leb-true, ltb-true}
 use Rattle.seq.specs.Numbers.{seqOf, plus}
 use Rattle.msg.specs.declared.reliable.ReliableMsg.{ReliableMsg}
 use Rattle.msg.specs.Reliable.{isKind, countOf, MSG_CONSUMED, MSG_SEND_FINISH}
-use Rattle.refusal.specs.Refusals.{numberOf}
+use Rattle.refusal.specs.Answers.{Told, success, refused, toldBy}
 use Rattle.refusal.specs.declared.verdict.Verdict.{Verdict}
 use Rattle.refusal.specs.declared.verdict.Verdict.the-variants as verdicts
 use Rattle.refusal.specs.Verdicts.{gate, gate-pass}
@@ -89,12 +89,11 @@ sentState s slot time msg len =
     (toldRx (s .rx) msg)
     time
 
--- the paper's number of an answer
-abbrev pub sendNumber : SendAnswer → ℕ
-sendNumber (Number seq) = 0
-sendNumber (No e) = numberOf e
-
 -- "The answer is the number."
+abbrev pub sendTold : SendAnswer → Told
+sendTold (Number seq) = success (seq .0 ∷ [])
+sendTold (No e) = refused e
+
 abbrev pub sentBy : Verdict → State → State → SendResult
 sentBy verdicts.Pass s next = record { answer = Number (s .tx .«tx_seq»); state = next }
 sentBy (verdicts.No e) s next = record { answer = No e; state = s }
@@ -109,7 +108,13 @@ unfolding sendVerdict
 sendStore s store slot time msg bytes =
     storeBy (sendVerdict s (length store) slot time msg (length bytes)) store (copied store (cellStart PACKETS (s .tx .«tx_seq» .0)) bytes)
 
--- ---- laws: what an accepted message says of its state
+-- ---- laws
+
+pub sent-told : (v : Verdict) (s next : State) → sendTold (sentBy v s next .answer) ≡ toldBy v (s .tx .«tx_seq» .0 ∷ [])
+sent-told verdicts.Pass s next = refl
+sent-told (verdicts.No e) s next = refl
+
+-- what an accepted message says of its state
 
 pub record Room (s : State) (slot : ℕ) (msg : ReliableMsg) (len : ℕ) : Type 0 where
   pub places : s .tx .«txed_count» < PACKETS

@@ -15,7 +15,11 @@ use Rattle.link.specs.Row.{noRow}
 use Rattle.engine.specs.declared.slowness.SlowLinks.{SlowLinks}
 use lib.Dec.{eqb}
 use borrow.Table.Steps.{cases}
-use Rattle.refusal.specs.Refusals.{refuse, numberOf}
+use Rattle.refusal.specs.Refusals.{refuse}
+use Rattle.refusal.specs.Answers.{Told, success, refused, toldBy}
+use Rattle.refusal.specs.Verdicts.{gate}
+use Rattle.refusal.specs.declared.verdict.Verdict.{Verdict}
+use Rattle.refusal.specs.declared.verdict.Verdict.the-variants.{Pass}
 use Rattle.engine.specs.declared.slowness.SlowAnswer.{SlowAnswer}
 use Rattle.engine.specs.declared.slowness.SlowAnswer.the-variants.{Listed, No}
 use Rattle.engine.specs.Sizes.{SLOTS}
@@ -58,16 +62,26 @@ unfoldable pub noteIn : SlowLinks → ℕ → LinkRow → SlowLinks
 noteIn old slot row = cond (overLink row) (found (set (old .slots) (old .count) slot) (old .count + 1)) old
 
 -- "another length gives 4, the only refusal here"
+abbrev pub slowVerdict : List LinkRow → Verdict
+slowVerdict rows = gate (eqb (length rows) SLOTS) 4 Pass
+
+-- the slots listed
+abbrev pub slowTold : SlowAnswer → Told
+slowTold (Listed found) = success (take (found .count) (found .slots))
+slowTold (No e) = refused e
+
 unfoldable pub slowLinksOf : List LinkRow → SlowAnswer
 unfolding slowOf
 slowLinksOf rows = cond (eqb (length rows) SLOTS) (Listed (slowOf rows)) (No (refuse 4 tt))
 
--- the paper's number of an answer
-abbrev pub slowNumber : SlowAnswer → ℕ
-slowNumber (Listed found) = 0
-slowNumber (No e) = numberOf e
-
 -- ---- laws
+
+pub slow-told : (rows : List LinkRow) → slowTold (slowLinksOf rows) ≡ toldBy (slowVerdict rows) (slowSlots rows)
+unfolding slowLinksOf slowOf
+slow-told rows =
+    cases (eqb (length rows) SLOTS)
+    (λ t. simp t (ap success (take-append-seam (slowSlots rows) (replicate (SLOTS - length (slowSlots rows)) 0))))
+    (λ t. simp t)
 
 -- the rows from i on are row i and those after it
 pub all-slow-step : (rows : List LinkRow) (i : ℕ) → i < length rows

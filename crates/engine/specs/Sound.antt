@@ -1,5 +1,6 @@
--- Document 01: "Sound means: ..", clause by clause in the paper's order. `is_sound` decides it (Decided). A clause over "every
--- packet" or "every row" names it by its place: i from the oldest packet, j the slot, k numbers past the oldest. Assumes nothing.
+-- Document 01: "Sound means: ..", clause by clause in the paper's order. Refusal 1 asks just this (Decide). A clause over "every
+-- packet" or "each link" names it by its place: i from the oldest packet, j the slot of a live link, k numbers past the oldest. An
+-- empty slot has no link, and nothing is asked of what its row holds. Assumes nothing.
 use mathlib.Core.Path.{_≡_}
 use mathlib.Core.Bool.{true, false}
 use Prim.Native.Nat.{ℕ, _^_, _≤_, _<_}
@@ -69,7 +70,7 @@ pub record Sound (s : State) : Type 0 where
   -- "the resend queue lists each ResendQueued number once, oldest first"
   pub queued : queue (s .tx) ≡ queuedOf (packets (s .tx))
   -- "each link's unacked bytes are the sum of its Sent data"
-  pub link-unacked : (j : ℕ) → j < SLOTS → rowAt s j .«txed_unacked_data» ≡ sumOf (SentOn j) (packets (s .tx))
+  pub link-unacked : (j : ℕ) → j < SLOTS → rowAt s j .live ≡ true → rowAt s j .«txed_unacked_data» ≡ sumOf (SentOn j) (packets (s .tx))
   -- "`txed_unacked` is the sum of Sent and ResendQueued data; `txed_unconsumable` that of Received data"
   pub unacked : s .tx .«txed_unacked» ≡ sumOf Outstanding (packets (s .tx))
   pub unconsumable : s .tx .«txed_unconsumable» ≡ sumOf Settled (packets (s .tx))
@@ -88,18 +89,18 @@ pub record Sound (s : State) : Type 0 where
   pub near : expectedAt (s .rx) ≤ CELLS
   -- "send, flush and ping times are at most the last accepted time"
   pub sent-by : (i : ℕ) → i < s .tx .«txed_count» → SentBy (s .time) (packetAt s i .status)
-  pub pinged-by : (j : ℕ) → j < SLOTS → pingWithin (rowAt s j .«current_ping_sent») (s .time) ≡ true
+  pub pinged-by : (j : ℕ) → j < SLOTS → rowAt s j .live ≡ true → pingWithin (rowAt s j .«current_ping_sent») (s .time) ≡ true
   -- "counts, lengths and times are within their sizes"
   pub packet-count : s .tx .«txed_count» ≤ PACKETS
   pub queue-count : s .tx .«resend_count» ≤ PACKETS
-  pub ack-count : (j : ℕ) → j < SLOTS → rowAt s j .«ack_count» ≤ ACKS
+  pub ack-count : (j : ℕ) → j < SLOTS → rowAt s j .live ≡ true → rowAt s j .«ack_count» ≤ ACKS
   pub packet-length : (i : ℕ) → i < s .tx .«txed_count» → lengthOk (packetAt s i .msg) (packetAt s i .len) ≡ true
   pub cell-length : (k : ℕ) → k < CELLS → LengthWithin (cellAt s k)
   pub buffer-set : 1 ≤ s .rx .«recv_buffer»
   pub buffer-within : s .rx .«recv_buffer» ≤ MAX_RECV_BUFFER
   pub time-within : s .time ≤ MAX_TIME
-  pub trip-within : (j : ℕ) → j < SLOTS → rowAt s j .roundtrip ≤ MAX_TIME
-  pub max-ping-within : (j : ℕ) → j < SLOTS → maxPingWithin (rowAt s j .«max_ping») ≡ true
+  pub trip-within : (j : ℕ) → j < SLOTS → rowAt s j .live ≡ true → rowAt s j .roundtrip ≤ MAX_TIME
+  pub max-ping-within : (j : ℕ) → j < SLOTS → rowAt s j .live ≡ true → maxPingWithin (rowAt s j .«max_ping») ≡ true
 
 -- what the types of a state's fields say of it: the arrays' lengths and the numbers' ranges
 pub record Shaped (s : State) : Type 0 where

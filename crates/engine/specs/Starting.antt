@@ -1,18 +1,26 @@
 -- Document 01: "A fresh state takes a starting number, the same for sending and receiving; `txed_last_consumed` is that less one
 -- (P), all else empty, zero or false." Refusal 21: "receive buffer 0 or above 65,536". Assumes nothing.
-use mathlib.Core.Bool.{false, _&&_}
+use mathlib.Core.Path.{_≡_, refl}
+use mathlib.Core.Bool.{true, false, _&&_}
 use Prim.Native.Nat.{ℕ}
+use native.Mathlib.Omega.{arith}
+use borrow.Author.Tests.{le-leb}
+use borrow.Table.Steps.{cases}
 use lib.Dec.{leb}
 use lib.ListN.{replicate}
 use Rattle.seq.specs.Numbers.{seqOf, minus}
 use Rattle.link.specs.Row.{emptyRow}
+use Rattle.refusal.specs.declared.Refusal.{Refusal}
 use Rattle.refusal.specs.declared.verdict.Verdict.{Verdict}
-use Rattle.refusal.specs.declared.verdict.Verdict.the-variants.{Pass}
+use Rattle.refusal.specs.declared.verdict.Verdict.the-variants.{Pass, No}
+use Rattle.refusal.specs.Tests.{join}
 use Rattle.refusal.specs.Verdicts.{gate}
 use Rattle.engine.specs.declared.state.Sending.{Sending}
 use Rattle.engine.specs.declared.state.Receiving.{Receiving}
 use Rattle.engine.specs.declared.state.State.{State}
 use Rattle.engine.specs.declared.answer.Changed.{Changed}
+use Rattle.engine.specs.declared.answer.Outcome.the-variants as outcomes
+use Rattle.engine.specs.Decide.{soundb, sound}
 use Rattle.engine.specs.Packets.{noPacket}
 use Rattle.engine.specs.Received.{noCell}
 use Rattle.engine.specs.Answer.{changedBy}
@@ -53,3 +61,31 @@ freshVerdict buffer = gate (leb 1 buffer && leb buffer MAX_RECV_BUFFER) 21 Pass
 unfoldable pub freshOf : ℕ → ℕ → Changed
 unfolding freshVerdict freshState
 freshOf start buffer = changedBy (freshVerdict buffer) (freshState start buffer) (freshState start buffer)
+
+-- ---- laws
+
+-- "Each returns its number alone": the state that comes with refusal 21 has the refused setting, and is none that a call takes
+pub refused-unsound : (start buffer : ℕ) (e : Refusal) → freshVerdict buffer ≡ No e → soundb (freshState start buffer) ≡ false
+unfolding freshVerdict freshState freshRx
+refused-unsound start buffer e v =
+    cases (soundb (freshState start buffer))
+    (λ t.
+    let h = sound (freshState start buffer) t in
+    let ok : (leb 1 buffer && leb buffer MAX_RECV_BUFFER) ≡ true = join (le-leb 1 buffer (h .buffer-set)) (le-leb buffer MAX_RECV_BUFFER (h .buffer-within)) in
+    let z : _≡_ {A = Verdict} Pass (No e) = simp ok at v in
+    let z′ : _≡_ {A = ℕ} 0 1 = cc in
+    absurd (omega arith))
+    (λ t. t)
+
+-- where a fresh state is refused, what comes with the refusal is not sound
+abbrev pub Usable : Changed → Type 0
+Usable r = (e : Refusal) → r .outcome ≡ outcomes.No e → soundb (r .state) ≡ false
+
+pub fresh-usable : (start buffer : ℕ) → Usable (freshOf start buffer)
+unfolding freshOf
+fresh-usable start buffer e h = by-verdict (freshVerdict buffer) refl h
+  where
+    by-verdict : (v : Verdict) → freshVerdict buffer ≡ v → changedBy v (freshState start buffer) (freshState start buffer) .outcome ≡ outcomes.No e
+        → soundb (changedBy v (freshState start buffer) (freshState start buffer) .state) ≡ false
+    by-verdict Pass w h = let z : _≡_ {A = ℕ} 0 1 = cc in absurd (omega arith)
+    by-verdict (No f) w h = refused-unsound start buffer f w

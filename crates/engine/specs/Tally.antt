@@ -7,7 +7,7 @@ use Prim.Native.Nat.{ℕ, _+_, _-_, _%_, _^_, _≤_, _<_}
 use lib.Dec.{eqb, leb}
 use lib.ListN.{getD, set}
 use Rattle.seq.specs.declared.Seq.{Seq}
-use Rattle.seq.specs.Numbers.{seqOf, plus, minus}
+use Rattle.seq.specs.Numbers.{seqOf, plus}
 use Rattle.msg.specs.declared.reliable.ReliableMsg.{ReliableMsg}
 use Rattle.engine.specs.declared.state.Flushed.{Flushed}
 use Rattle.engine.specs.declared.state.Flushed.the-variants.{Unflushed, FlushedAt}
@@ -18,7 +18,7 @@ use Rattle.engine.specs.declared.state.Sending.{Sending}
 use Rattle.engine.specs.declared.roster.Roster.{Roster}
 use Rattle.engine.specs.declared.packets.Tally.{Tally}
 use Rattle.engine.specs.Ring.{window, window-step, window-none, nextCell}
-use Rattle.engine.specs.Packets.{isData, noPacket}
+use Rattle.engine.specs.Packets.{isData, noPacket, firstOf, packets}
 use Rattle.engine.specs.Roster.{livesIn}
 use Rattle.engine.specs.Sizes.{PACKETS, SLOTS, DATA_BYTES}
 
@@ -74,9 +74,7 @@ noTally = record { ok = true; on = 0 ∷ 0 ∷ 0 ∷ 0 ∷ 0 ∷ 0 ∷ 0 ∷ 0 �
 
 unfoldable pub tallyOf : Sending → Roster → ℕ → Tally
 unfolding tallyFrom
-tallyOf tx roster time =
-    let first = minus (tx .«tx_seq» .0) (tx .«txed_count» % 2 ^ 32) in
-    tallyFrom (tx .«resend_queue») roster time (window PACKETS noPacket (tx .«txed_packets») (first % PACKETS) (tx .«txed_count»)) first noTally
+tallyOf tx roster time = tallyFrom (tx .«resend_queue») roster time (packets tx) (firstOf tx) noTally
 
 -- ---- laws
 

@@ -13,7 +13,9 @@ use Rattle.engine.specs.Queue.{requeued}
 use Rattle.engine.specs.Rows.{rowOf}
 use Rattle.engine.specs.Answer.{changedBy}
 use Rattle.engine.specs.Gates.{slotVerdict}
-use Rattle.engine.specs.Fields.{withStatus, withPackets, withRow, withTx}
+use Rattle.engine.specs.Fields.{withStatus, withRow, withTx}
+use Rattle.engine.specs.Packets.{packets}
+use Rattle.engine.specs.Table.{withTable}
 
 -- "Its Sent packets become ResendQueued, remembering the identity"
 unfoldable pub unconfirmedAs : SentReliableStatus → ℕ → SentReliable → SentReliable
@@ -28,13 +30,17 @@ unconfirmedPacket slot p = unconfirmedAs (p .status) slot p
 unfoldable pub unconfirmedState : State → ℕ → State
 unconfirmedState s slot =
     withTx (withRow s slot (unconfirmedRow (rowOf s slot)))
-    (requeued (withPackets (s .tx) (map (unconfirmedPacket slot) (s .tx .«txed_packets»))))
+    (requeued (withTable (s .tx) (map (unconfirmedPacket slot) (packets (s .tx)))))
 
 unfoldable pub unconfirmOf : State → ℕ → Changed
 unfolding unconfirmedState
 unconfirmOf s slot = changedBy (slotVerdict s slot) s (unconfirmedState s slot)
 
 -- "Removing unconfirms, then empties the slot."
-unfoldable pub removeOf : State → ℕ → Changed
+unfoldable pub removedState : State → ℕ → State
 unfolding unconfirmedState
-removeOf s slot = changedBy (slotVerdict s slot) s (withRow (unconfirmedState s slot) slot emptyRow)
+removedState s slot = withRow (unconfirmedState s slot) slot emptyRow
+
+unfoldable pub removeOf : State → ℕ → Changed
+unfolding removedState
+removeOf s slot = changedBy (slotVerdict s slot) s (removedState s slot)

@@ -7,12 +7,12 @@ use crate::queue::requeue;
 use crate::ring::next_cell;
 use crate::rows::row_of;
 use crate::rows::with_row;
-use crate::sizes::PACKET_ROUND;
 use crate::sizes::PACKETS;
 use crate::state::Sending;
 use crate::state::SentReliable;
 use crate::state::SentReliableStatus;
 use crate::state::State;
+use crate::table::first_cell;
 use crate::table::in_table;
 use crate::table::packet_of;
 use crate::table::with_packet;
@@ -23,8 +23,12 @@ use refusal::Verdict;
 use refusal::gate;
 use seq::Seq;
 ghost use mathlib.Core.Path.{_≡_};
-ghost use Prim.Native.Nat.{_+_, _<_, _^_};
-ghost use Rattle.engine.specs.Acking.{settledRow, receivedTx, settledTx, sweepOf, sweptTx, placeOk, ackVerdict, ackedRow, ackedTx, ackOf};
+ghost use mathlib.Core.List.{[]};
+ghost use Prim.Native.Nat.{_+_, _≤_, _<_, _^_};
+ghost use Rattle.refusal.specs.Answers.{toldBy};
+ghost use Rattle.engine.specs.Answer.{outcomeTold};
+ghost use Rattle.engine.specs.Acking.{settledRow, receivedTx, settledTx, sweepOf, sweptTx, cellOk, ackVerdict, ackedRow, ackedTx, ackOf};
+ghost use Rattle.engine.specs.Sizes.{PACKETS};
 
 // The row, where the packet was Sent over its slot.
 fn settle_row(row: LinkRow, p: SentReliable, slot: u8, time: u64) -> LinkRow
@@ -58,7 +62,7 @@ fn received_tx(tx: Sending, seq: Seq, p: SentReliable) -> Sending
 
 // The sending half, by the packet's status.
 fn settle_tx(tx: Sending, slot: u8, seq: Seq, p: SentReliable) -> Sending
-    requires { ⌜ tx .«txed_unconsumable» + p .len < 2 ^ 32 ⌝ }
+    requires { ⌜ (tx .«txed_unconsumable» + p .len < 2 ^ 32) × (tx .«txed_count» ≤ PACKETS) ⌝ }
     ensures { λ r. ⌜ r ≡ settledTx tx slot (seq .0) p ⌝ }
 {
     let status = p.status;
@@ -82,13 +86,13 @@ struct Front {
 }
 
 fn swept(tx: Sending) -> Front
+    requires { ⌜ tx .«txed_count» ≤ PACKETS ⌝ }
     ensures { λ r. ⌜ r ≡ sweepOf tx ⌝ }
 {
     let mut left = tx.txed_count;
     let mut last = tx.txed_last_consumed;
     let mut held = tx.txed_unconsumable;
-    let first = tx.tx_seq.sub((left % 0x1_0000_0000) as u32);
-    let mut at = (first.0 % PACKET_ROUND) as usize;
+    let mut at = first_cell(tx);
     while 0 < left {
         let p = tx.txed_packets[at];
         let status = p.status;
@@ -105,6 +109,7 @@ fn swept(tx: Sending) -> Front
 
 // Drops the Received packets at the front.
 fn sweep(tx: Sending) -> Sending
+    requires { ⌜ tx .«txed_count» ≤ PACKETS ⌝ }
     ensures { λ r. ⌜ r ≡ sweptTx tx ⌝ }
 {
     let w = swept(tx);
@@ -118,7 +123,7 @@ fn sweep(tx: Sending) -> Sending
 
 // The acked place, where there is one, holds the acked number.
 fn place_ok(tx: Sending, seq: Seq) -> bool
-    ensures { λ r. ⌜ r ≡ placeOk tx (seq .0) ⌝ }
+    ensures { λ r. ⌜ r ≡ cellOk tx (seq .0) ⌝ }
 {
     if !in_table(tx, seq) {
         return true;
@@ -137,6 +142,7 @@ fn ack_verdict(s: State, slot: u8, time: u64, seq: Seq) -> Verdict
 
 // The link's row: the mark's step comes first, and a flag that it sets counts in this ack.
 fn acked_row(s: State, slot: u8, time: u64, seq: Seq) -> LinkRow
+    requires { ⌜ ackVerdict s slot time (seq .0) ≡ Verdict.Pass ⌝ }
     ensures { λ r. ⌜ r ≡ ackedRow s slot time (seq .0) ⌝ }
 {
     let row = row_of(s, slot).mark_acked(seq);
@@ -162,6 +168,7 @@ fn acked_tx(s: State, slot: u8, time: u64, seq: Seq) -> Sending
 
 pub fn ack(s: State, slot: u8, time: u64, seq: Seq) -> Changed
     ensures { λ r. ⌜ r ≡ ackOf s slot time (seq .0) ⌝ }
+    ensures { λ r. ⌜ outcomeTold (r .outcome) ≡ toldBy (ackVerdict s slot time (seq .0)) [] ⌝ }
 {
     let verdict = ack_verdict(s, slot, time, seq);
     match verdict {

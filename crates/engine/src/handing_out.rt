@@ -2,9 +2,10 @@
 use crate::cells::cell_of;
 use crate::cells::is_full;
 use crate::cells::with_cell;
-use crate::gates::slot_verdict;
 use crate::packets::is_data;
+use crate::received::held_bytes;
 use crate::rows::row_of;
+use crate::rows::slot_ok;
 use crate::rows::with_row;
 use crate::sizes::CELL_ROUND;
 use crate::sizes::CELLS;
@@ -25,7 +26,11 @@ use refusal::Verdict;
 use refusal::gate;
 use seq::Seq;
 ghost use mathlib.Core.Path.{_≡_};
-ghost use Rattle.engine.specs.HandingOut.{readyOf, handOutAs, handOutBy, dataLength, readyBytes, showVerdict, showingOf, shownOf, takeVerdict, canSkip, passedBy, skipped, takenRx, takenState, takeOf, ackAs, ackAnswer, takenAckState, takeAckOf, dueOf};
+ghost use Rattle.engine.specs.HandingOut.{readyOf, msgIn, readyValues, handOutTold, handOutBy, dataLength, readyBytes, showVerdict, showingOf, shownAt, shownOf, takeVerdict, canSkip, passedBy, skipped, takenRx, takenState, takeOf, isWaiting, ackIn, takeAckVerdict, takeAckTold, ackAnswer, takenAckState, takeAckOf, isDue, dueVerdict, dueTold, dueOf};
+ghost use mathlib.Core.List.{[], _∷_};
+ghost use Rattle.refusal.specs.Answers.{toldBy, flag};
+ghost use Rattle.link.specs.Acks.{oldestAck};
+ghost use Rattle.engine.specs.Rows.{rowOf};
 ghost use Rattle.engine.specs.Sizes.{CELLS};
 ghost use lib.ListN.{length};
 ghost use Prim.Native.Nat.{_+_, _<_, _^_};
@@ -46,16 +51,17 @@ fn oldest_ready(rx: Receiving) -> Held
     cell_of(rx, rx.rx_oldest)
 }
 
-fn held_out(held: Held, seq: Seq) -> HandOut
-    ensures { λ r. ⌜ r ≡ handOutAs Verdict.Pass held seq ⌝ }
+// The message that a cell holds; that of an empty one is never asked.
+fn msg_in(held: Held) -> ReliableMsg
+    ensures { λ r. ⌜ r ≡ msgIn held ⌝ }
 {
     match held {
-        Held::Nothing => HandOut::No(Refusal::Nothing),
-        Held::Message(msg, len) => HandOut::Message(msg, seq, len),
+        Held::Nothing => ReliableMsg::Data,
+        Held::Message(msg, _) => msg,
     }
 }
 
-// The answer about the oldest ready message, after the refusals that come before 19.
+// The answer about the oldest ready message.
 fn hand_out(verdict: Verdict, rx: Receiving) -> HandOut
     ensures { λ r. ⌜ r ≡ handOutBy verdict rx ⌝ }
 {
@@ -63,7 +69,9 @@ fn hand_out(verdict: Verdict, rx: Receiving) -> HandOut
         Verdict::No(e) => HandOut::No(e),
         Verdict::Pass => {
             let held = oldest_ready(rx);
-            held_out(held, rx.rx_oldest)
+            let msg = msg_in(held);
+            let seq = rx.rx_oldest;
+            HandOut::Message(msg, seq, held_bytes(held))
         }
     }
 }
@@ -88,17 +96,17 @@ fn ready_bytes(held: Held) -> u32
 fn show_verdict(s: State, store: usize) -> Verdict
     ensures { λ r. ⌜ r ≡ showVerdict s store ⌝ }
 {
-    let sound = is_sound(s);
-    gate(
-        sound,
-        Refusal::Unsound,
-        gate(store == RECEIVED_BYTES, Refusal::StoreLength, Verdict::Pass),
-    )
+    let rx = s.rx;
+    let held = oldest_ready(rx);
+    let v19 = gate(is_full(held), Refusal::Nothing, Verdict::Pass);
+    let v2 = gate(store == RECEIVED_BYTES, Refusal::StoreLength, v19);
+    gate(is_sound(s), Refusal::Unsound, v2)
 }
 
 // What `show` shows: the message, its number and the length of its data, or why there is nothing to show.
 pub fn showing(s: State, store: &[u8]) -> HandOut
     ensures { λ r. ⌜ r ≡ showingOf s (length (now (store .entry))) ⌝ }
+    ensures { λ r. ⌜ handOutTold r ≡ toldBy (showVerdict s (length (now (store .entry)))) (readyValues (s .rx)) ⌝ }
 {
     let rx = s.rx;
     hand_out(show_verdict(s, store.len()), rx)
@@ -107,6 +115,7 @@ pub fn showing(s: State, store: &[u8]) -> HandOut
 // The part of the received store that holds the bytes of the oldest ready message.
 pub fn show(s: State, store: &[u8]) -> &[u8]
     ensures { λ r. ⌜ now r ≡ shownOf s (now (store .entry)) ⌝ }
+    ensures { λ r. ⌜ r .ptr ≡ shownAt s (length (now (store .entry))) (store .entry .ptr) ⌝ }
 {
     let answer = showing(s, store);
     match answer {
@@ -131,7 +140,8 @@ fn take_verdict(s: State) -> Verdict
     let held = oldest_ready(rx);
     let bytes = ready_bytes(held);
     let fits = sum_fits(rx.rxed_reliable_consumed, bytes as usize, MAX_TOTAL);
-    let v9 = gate(fits, Refusal::Total, Verdict::Pass);
+    let v19 = gate(is_full(held), Refusal::Nothing, Verdict::Pass);
+    let v9 = gate(fits, Refusal::Total, v19);
     gate(is_sound(s), Refusal::Unsound, v9)
 }
 
@@ -196,6 +206,7 @@ fn taken_state(s: State, bytes: u32) -> State
 // Takes the oldest ready message.
 pub fn take(s: State) -> TakeResult
     ensures { λ r. ⌜ r ≡ takeOf s ⌝ }
+    ensures { λ r. ⌜ handOutTold (r .answer) ≡ toldBy (takeVerdict s) (readyValues (s .rx)) ⌝ }
 {
     let rx = s.rx;
     let answer = hand_out(take_verdict(s), rx);
@@ -218,23 +229,45 @@ pub struct TakeAckResult {
     pub state: State,
 }
 
-fn ack_as(oldest: OldestAck) -> TakeAck
-    ensures { λ r. ⌜ r ≡ ackAs Verdict.Pass oldest ⌝ }
+fn is_waiting(oldest: OldestAck) -> bool
+    ensures { λ r. ⌜ r ≡ isWaiting oldest ⌝ }
 {
     match oldest {
-        OldestAck::Nothing => TakeAck::No(Refusal::Nothing),
-        OldestAck::Number(seq) => TakeAck::Number(seq),
+        OldestAck::Nothing => false,
+        OldestAck::Number(_) => true,
     }
 }
 
-// The link's oldest ack, after the refusals that come before 19.
+// The number that is acked; where none waits it is never asked.
+fn ack_in(oldest: OldestAck) -> Seq
+    ensures { λ r. ⌜ r ≡ ackIn oldest ⌝ }
+{
+    match oldest {
+        OldestAck::Nothing => Seq::ZERO,
+        OldestAck::Number(seq) => seq,
+    }
+}
+
+fn take_ack_verdict(s: State, slot: u8) -> Verdict
+    ensures { λ r. ⌜ r ≡ takeAckVerdict s slot ⌝ }
+{
+    let oldest = row_of(s, slot).oldest_ack();
+    let v19 = gate(is_waiting(oldest), Refusal::Nothing, Verdict::Pass);
+    let v4 = gate(slot_ok(s, slot), Refusal::Slot, v19);
+    gate(is_sound(s), Refusal::Unsound, v4)
+}
+
+// The link's oldest ack.
 fn ack_answer(s: State, slot: u8) -> TakeAck
     ensures { λ r. ⌜ r ≡ ackAnswer s slot ⌝ }
 {
-    let verdict = slot_verdict(s, slot);
+    let verdict = take_ack_verdict(s, slot);
     match verdict {
         Verdict::No(e) => TakeAck::No(e),
-        Verdict::Pass => ack_as(row_of(s, slot).oldest_ack()),
+        Verdict::Pass => {
+            let oldest = row_of(s, slot).oldest_ack();
+            TakeAck::Number(ack_in(oldest))
+        }
     }
 }
 
@@ -248,6 +281,7 @@ fn taken_ack_state(s: State, slot: u8) -> State
 // Takes the link's oldest ack.
 pub fn take_ack(s: State, slot: u8) -> TakeAckResult
     ensures { λ r. ⌜ r ≡ takeAckOf s slot ⌝ }
+    ensures { λ r. ⌜ takeAckTold (r .answer) ≡ toldBy (takeAckVerdict s slot) (ackIn (oldestAck (rowOf s slot)) .0 ∷ []) ⌝ }
 {
     let answer = ack_answer(s, slot);
     match answer {
@@ -267,6 +301,7 @@ pub enum Due {
 // Whether the other end is to be told what was taken.
 pub fn is_consume_ack_required(s: State) -> Due
     ensures { λ r. ⌜ r ≡ dueOf s ⌝ }
+    ensures { λ r. ⌜ dueTold r ≡ toldBy (dueVerdict s) (flag (isDue s) ∷ []) ⌝ }
 {
     if !is_sound(s) {
         return Due::No(Refusal::Unsound);

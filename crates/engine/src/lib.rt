@@ -66,7 +66,6 @@ pub use sizes::SLOTS;
 pub use slowness::SlowAnswer;
 pub use slowness::SlowLinks;
 pub use slowness::slow;
-pub use slowness::slow_links;
 pub use sound::is_sound;
 pub use starting::fresh;
 pub use state::Flushed;

@@ -3,7 +3,6 @@ use crate::answer::Changed;
 use crate::answer::change;
 use crate::gates::slot_verdict;
 use crate::gates::timed_verdict;
-use crate::roster::Roster;
 use crate::rows::row_of;
 use crate::rows::with_row;
 use crate::rows::with_time;
@@ -23,7 +22,11 @@ use refusal::gate;
 use seq::Seq;
 ghost use mathlib.Core.Path.{_≡_};
 ghost use Prim.Native.Nat.{_≤_};
-ghost use Rattle.engine.specs.Links.{lowestEmpty, addVerdict, addOf, confirmOf, blockOf, pingOf, pongOf, markOf};
+ghost use mathlib.Core.List.{[], _∷_};
+ghost use Rattle.refusal.specs.Answers.{toldBy};
+ghost use Rattle.engine.specs.Answer.{outcomeTold};
+ghost use Rattle.engine.specs.Gates.{slotVerdict, timedVerdict};
+ghost use Rattle.engine.specs.Links.{lowestEmpty, lowestIn, isTaken, addVerdict, addTold, addOf, confirmOf, blockOf, pingOf, pongOf, markOf};
 ghost use Rattle.engine.specs.Sizes.{SLOTS};
 
 pub enum AddAnswer {
@@ -37,27 +40,43 @@ pub struct Added {
 }
 
 // The lowest slot without a link, or SLOTS.
-fn lowest_empty(roster: Roster) -> u8
-    ensures { λ r. ⌜ r ≡ lowestEmpty roster 0 SLOTS ⌝ }
+fn lowest_empty(links: [LinkRow; SLOTS]) -> u8
+    ensures { λ r. ⌜ r ≡ lowestEmpty links 0 ⌝ }
     ensures { λ r. ⌜ r ≤ SLOTS ⌝ }
 {
     let mut j: u8 = 0;
     while j < SLOT_END {
-        let at = j as usize;
-        if !roster.live[at] {
+        let row = links[j as usize];
+        if !row.live {
             return j;
         }
         j += 1;
     }
-    SLOT_END
+    j
+}
+
+// Whether the identity belongs to a live link.
+fn is_taken(links: [LinkRow; SLOTS], link_id: u64) -> bool
+    ensures { λ r. ⌜ r ≡ isTaken links «link_id» ⌝ }
+{
+    let mut j: usize = 0;
+    while j < SLOTS {
+        let row = links[j];
+        if both(row.live, row.link_id == link_id) {
+            return true;
+        }
+        j += 1;
+    }
+    false
 }
 
 fn add_verdict(s: State, slot: u8, link_id: u64, roundtrip: u64, max_ping: MaxPing) -> Verdict
-    ensures { λ r. ⌜ r ≡ addVerdict s slot «link_id» roundtrip «max_ping» ⌝ }
+    requires { ⌜ slot ≡ lowestIn s ⌝ }
+    ensures { λ r. ⌜ r ≡ addVerdict s «link_id» roundtrip «max_ping» ⌝ }
 {
     let sound = is_sound(s);
     let links = s.links;
-    let taken = Roster::of(links).lives_before(SLOTS, link_id);
+    let taken = is_taken(links, link_id);
     let timed = both(roundtrip <= MAX_TIME, max_ping_within(max_ping));
     let known = gate(!taken, Refusal::Identity, Verdict::Pass);
     let room = gate(slot < SLOT_END, Refusal::NoSlot, known);
@@ -74,9 +93,10 @@ pub fn add(
     unconfirmed: bool,
 ) -> Added
     ensures { λ r. ⌜ r ≡ addOf s «link_id» roundtrip «max_ping» blocked unconfirmed ⌝ }
+    ensures { λ r. ⌜ addTold (r .answer) ≡ toldBy (addVerdict s «link_id» roundtrip «max_ping») (lowestIn s ∷ []) ⌝ }
 {
     let links = s.links;
-    let slot = lowest_empty(Roster::of(links));
+    let slot = lowest_empty(links);
     let verdict = add_verdict(s, slot, link_id, roundtrip, max_ping);
     match verdict {
         Verdict::No(e) => Added {
@@ -95,6 +115,7 @@ pub fn add(
 
 pub fn confirm(s: State, slot: u8) -> Changed
     ensures { λ r. ⌜ r ≡ confirmOf s slot ⌝ }
+    ensures { λ r. ⌜ outcomeTold (r .outcome) ≡ toldBy (slotVerdict s slot) [] ⌝ }
 {
     let verdict = slot_verdict(s, slot);
     let row = row_of(s, slot).confirm();
@@ -103,6 +124,7 @@ pub fn confirm(s: State, slot: u8) -> Changed
 
 pub fn block(s: State, slot: u8, blocked: bool) -> Changed
     ensures { λ r. ⌜ r ≡ blockOf s slot blocked ⌝ }
+    ensures { λ r. ⌜ outcomeTold (r .outcome) ≡ toldBy (slotVerdict s slot) [] ⌝ }
 {
     let verdict = slot_verdict(s, slot);
     let row = row_of(s, slot).block(blocked);
@@ -112,6 +134,7 @@ pub fn block(s: State, slot: u8, blocked: bool) -> Changed
 // Sets the limit mark to any number.
 pub fn mark(s: State, slot: u8, seq: Seq) -> Changed
     ensures { λ r. ⌜ r ≡ markOf s slot seq ⌝ }
+    ensures { λ r. ⌜ outcomeTold (r .outcome) ≡ toldBy (slotVerdict s slot) [] ⌝ }
 {
     let verdict = slot_verdict(s, slot);
     let row = row_of(s, slot).mark(Limit::At(seq));
@@ -121,6 +144,7 @@ pub fn mark(s: State, slot: u8, seq: Seq) -> Changed
 // Notes that a ping was sent.
 pub fn ping(s: State, slot: u8, time: u64) -> Changed
     ensures { λ r. ⌜ r ≡ pingOf s slot time ⌝ }
+    ensures { λ r. ⌜ outcomeTold (r .outcome) ≡ toldBy (timedVerdict s slot time Verdict.Pass) [] ⌝ }
 {
     let verdict = timed_verdict(s, slot, time, Verdict::Pass);
     let row = row_of(s, slot).ping(time);
@@ -130,6 +154,7 @@ pub fn ping(s: State, slot: u8, time: u64) -> Changed
 // A pong arrived.
 pub fn pong(s: State, slot: u8, time: u64) -> Changed
     ensures { λ r. ⌜ r ≡ pongOf s slot time ⌝ }
+    ensures { λ r. ⌜ outcomeTold (r .outcome) ≡ toldBy (timedVerdict s slot time Verdict.Pass) [] ⌝ }
 {
     let verdict = timed_verdict(s, slot, time, Verdict::Pass);
     let row = row_of(s, slot).pong(time);

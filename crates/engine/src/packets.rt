@@ -15,8 +15,10 @@ use msg::ReliableMsg;
 use refusal::both;
 use seq::Seq;
 ghost use mathlib.Core.Path.{_≡_};
+ghost use Prim.Native.Nat.{_≤_};
 ghost use Rattle.engine.specs.Packets.{isData, isReceived, isQueued};
 ghost use Rattle.engine.specs.Tally.{lengthOk, flushedOk, statusOk, packetOk, weighed, tallyOf};
+ghost use Rattle.engine.specs.Sizes.{PACKETS};
 
 // What a pass has found: whether all was well, and the sums.
 pub(crate) struct Tally {
@@ -126,6 +128,7 @@ fn weigh(t: Tally, status: SentReliableStatus, len: u32, ok: bool) -> Tally
 
 // The whole table's tally, from its first packet on.
 pub(crate) fn tallied(tx: Sending, roster: Roster, time: u64) -> Tally
+    requires { ⌜ tx .«txed_count» ≤ PACKETS ⌝ }
     ensures { λ r. ⌜ r ≡ tallyOf tx roster time ⌝ }
 {
     let mut t = Tally {
@@ -136,7 +139,7 @@ pub(crate) fn tallied(tx: Sending, roster: Roster, time: u64) -> Tally
         queued: 0,
     };
     let mut left = tx.txed_count;
-    let mut n = tx.tx_seq.sub((left % 0x1_0000_0000) as u32);
+    let mut n = tx.tx_seq.sub(left as u32);
     let mut at = (n.0 % PACKET_ROUND) as usize;
     while 0 < left {
         let p = tx.txed_packets[at];

@@ -1,13 +1,18 @@
 // The resend queue, made anew from the table wherever a packet's status changed.
 use crate::packets::is_queued;
 use crate::ring::next_cell;
-use crate::sizes::PACKET_ROUND;
 use crate::sizes::PACKETS;
 use crate::state::Sending;
 use crate::state::SentReliable;
+use crate::table::first_cell;
 use seq::Seq;
 ghost use mathlib.Core.Path.{_≡_};
-ghost use Rattle.engine.specs.Queue.{putIn, gatherOf, requeued};
+ghost use mathlib.Core.List.{_++_};
+ghost use Prim.Native.Nat.{_≤_, _<_};
+ghost use lib.ListN.{length, drop};
+ghost use Rattle.engine.specs.Packets.{packets, queuedOf};
+ghost use Rattle.engine.specs.Queue.{putIn, requeued};
+ghost use Rattle.engine.specs.Sizes.{PACKETS};
 
 // The numbers gathered so far: the first count of these.
 struct Gathered {
@@ -15,17 +20,15 @@ struct Gathered {
     count: usize,
 }
 
-// With a packet's number, where it is queued. The test of count is for a table above its size.
+// With a packet's number behind the others, where it is queued.
 fn put(g: Gathered, p: SentReliable) -> Gathered
+    requires { ⌜ g .count < PACKETS ⌝ }
     ensures { λ r. ⌜ r ≡ putIn g p ⌝ }
 {
     let status = p.status;
     let seq = p.seq;
     let n = g.count;
     if !is_queued(status) {
-        return g;
-    }
-    if PACKETS <= n {
         return g;
     }
     let mut out = g;
@@ -36,13 +39,14 @@ fn put(g: Gathered, p: SentReliable) -> Gathered
 
 // The numbers of the ResendQueued packets, oldest first, over the old queue.
 fn gather(tx: Sending) -> Gathered
-    ensures { λ r. ⌜ r ≡ gatherOf tx ⌝ }
+    requires { ⌜ tx .«txed_count» ≤ PACKETS ⌝ }
+    ensures { λ r. ⌜ r .numbers ≡ queuedOf (packets tx) ++ drop (length (queuedOf (packets tx))) (tx .«resend_queue») ⌝ }
+    ensures { λ r. ⌜ r .count ≡ length (queuedOf (packets tx)) ⌝ }
 {
     let numbers = tx.resend_queue;
     let mut g = Gathered { numbers, count: 0 };
     let mut left = tx.txed_count;
-    let first = tx.tx_seq.sub((left % 0x1_0000_0000) as u32);
-    let mut at = (first.0 % PACKET_ROUND) as usize;
+    let mut at = first_cell(tx);
     while 0 < left {
         let p = tx.txed_packets[at];
         g = put(g, p);
@@ -54,6 +58,7 @@ fn gather(tx: Sending) -> Gathered
 
 // The sending half with its queue made anew.
 pub(crate) fn requeue(tx: Sending) -> Sending
+    requires { ⌜ tx .«txed_count» ≤ PACKETS ⌝ }
     ensures { λ r. ⌜ r ≡ requeued tx ⌝ }
 {
     let g = gather(tx);

@@ -51,7 +51,7 @@ fn cell_ok(held: Held, k: usize, expected: usize) -> bool
     }
 }
 
-fn held_bytes(held: Held) -> u32
+pub(crate) fn held_bytes(held: Held) -> u32
     ensures { λ r. ⌜ r ≡ heldBytes held ⌝ }
 {
     match held {

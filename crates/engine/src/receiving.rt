@@ -32,6 +32,9 @@ ghost use Rattle.engine.specs.Receiving.{receiveVerdict, effectTx, store
 ghost use Prim.Native.Nat.{_+_, _<_, _^_, _≤_};
 ghost use lib.ListN.{length};
 ghost use Rattle.msg.specs.Reliable.{countOf};
+ghost use mathlib.Core.List.{[]};
+ghost use Rattle.refusal.specs.Answers.{toldBy};
+ghost use Rattle.engine.specs.Answer.{outcomeTold};
 
 fn receive_verdict(
     s: State,
@@ -113,6 +116,7 @@ pub fn receive(
     payload: &[u8],
 ) -> Changed
     ensures { λ r. ⌜ r ≡ receiveOf s (length (now (store .entry))) slot msg (seq .0) (length (now (payload .entry))) ⌝ }
+    ensures { λ r. ⌜ outcomeTold (r .outcome) ≡ toldBy (receiveVerdict s (length (now (store .entry))) slot msg (seq .0) (length (now (payload .entry)))) [] ⌝ }
     ensures { λ _. ⌜ now (store .exit) ≡ receiveStore s (now (store .entry)) slot msg (seq .0) (now (payload .entry)) ⌝ }
 {
     let len = payload.len();

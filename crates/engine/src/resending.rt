@@ -17,7 +17,11 @@ use refusal::both;
 use refusal::gate;
 use seq::Seq;
 ghost use mathlib.Core.Path.{_≡_};
-ghost use Rattle.engine.specs.Resending.{lastLink, resendVerdict, resentState, resendOf};
+ghost use mathlib.Core.List.{[], _∷_};
+ghost use Rattle.refusal.specs.Answers.{toldBy};
+ghost use Rattle.msg.specs.Reliable.{kindOf, countOf};
+ghost use Rattle.engine.specs.Table.{lookedAt};
+ghost use Rattle.engine.specs.Resending.{lastLink, resendVerdict, resentState, resendTold, resendOf};
 
 pub enum ResendAnswer {
     // the message, and the length of its data
@@ -75,6 +79,7 @@ fn resent_state(s: State, slot: u8, time: u64, seq: Seq) -> State
 // Puts a queued packet on another link.
 pub fn resend(s: State, slot: u8, time: u64, seq: Seq) -> ResendResult
     ensures { λ r. ⌜ r ≡ resendOf s slot time (seq .0) ⌝ }
+    ensures { λ r. ⌜ resendTold (r .answer) ≡ toldBy (resendVerdict s slot time (seq .0)) (kindOf (lookedAt (s .tx) (seq .0) .msg) ∷ countOf (lookedAt (s .tx) (seq .0) .msg) ∷ lookedAt (s .tx) (seq .0) .len ∷ []) ⌝ }
 {
     let verdict = resend_verdict(s, slot, time, seq);
     match verdict {

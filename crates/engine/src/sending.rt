@@ -29,7 +29,9 @@ use seq::Seq;
 ghost use mathlib.Core.Path.{_≡_};
 ghost use Prim.Native.Nat.{_+_, _<_, _≤_, _^_};
 ghost use lib.ListN.{length};
-ghost use Rattle.engine.specs.Sending.{openOk, toldOk, totalsOk, sendVerdict, sentTx, toldRx, Room, sentState, sendOf, sendStore};
+ghost use Rattle.engine.specs.Sending.{openOk, toldOk, totalsOk, sendVerdict, sentTx, toldRx, Room, sentState, sendTold, sendOf, sendStore};
+ghost use mathlib.Core.List.{[], _∷_};
+ghost use Rattle.refusal.specs.Answers.{toldBy};
 ghost use Rattle.engine.specs.Sizes.{PACKETS};
 ghost use Rattle.msg.specs.Reliable.{countOf};
 
@@ -149,6 +151,7 @@ pub fn send(
     payload: &[u8],
 ) -> SendResult
     ensures { λ r. ⌜ r ≡ sendOf s (length (now (store .entry))) slot time msg (length (now (payload .entry))) ⌝ }
+    ensures { λ r. ⌜ sendTold (r .answer) ≡ toldBy (sendVerdict s (length (now (store .entry))) slot time msg (length (now (payload .entry)))) (s .tx .«tx_seq» .0 ∷ []) ⌝ }
     ensures { λ _. ⌜ now (store .exit) ≡ sendStore s (now (store .entry)) slot time msg (now (payload .entry)) ⌝ }
 {
     let len = payload.len();

@@ -1,14 +1,14 @@
-// Which links are listed as slow: of a state, and of a lent run of rows.
+// Which links of a lent run of rows are listed as slow.
 use crate::sizes::SLOT_END;
 use crate::sizes::SLOTS;
-use crate::state::State;
 use link::LinkRow;
 use refusal::Refusal;
 use refusal::both;
 ghost use mathlib.Core.Path.{_≡_};
 ghost use mathlib.Core.List.{[]};
 ghost use Prim.Native.Nat.{_<_};
-ghost use Rattle.engine.specs.Slowness.{slowIfConfirmed, allSlow, overSlots, listedIn, noteIn, slowOf, slowLinksOf};
+ghost use Rattle.engine.specs.Slowness.{slowIfConfirmed, allSlow, overSlots, listedIn, noteIn, slowSlots, slowOf, slowVerdict, slowTold, slowLinksOf};
+ghost use Rattle.refusal.specs.Answers.{toldBy};
 ghost use Rattle.engine.specs.Sizes.{SLOTS};
 
 // The slots that are listed, lowest first: the first count of these. The places past them are 0.
@@ -94,14 +94,6 @@ fn slow_rows(rows: [LinkRow; SLOTS]) -> SlowLinks
     list_over(rows)
 }
 
-// The slow links of a state, which need not be sound.
-pub fn slow_links(s: State) -> SlowLinks
-    ensures { λ r. ⌜ r ≡ slowOf (s .links) ⌝ }
-{
-    let rows = s.links;
-    slow_rows(rows)
-}
-
 pub enum SlowAnswer {
     Listed(SlowLinks),
     No(Refusal),
@@ -109,7 +101,7 @@ pub enum SlowAnswer {
 
 // The slow links of a lent run of rows, which is to be eight long.
 pub fn slow(rows: &[LinkRow]) -> SlowAnswer
-    ensures { λ r. ⌜ r ≡ slowLinksOf (now (rows .entry)) ⌝ }
+    ensures { λ r. ⌜ (r ≡ slowLinksOf (now (rows .entry))) × (slowTold r ≡ toldBy (slowVerdict (now (rows .entry))) (slowSlots (now (rows .entry)))) ⌝ }
 {
     if rows.len() != SLOTS {
         return SlowAnswer::No(Refusal::Slot);

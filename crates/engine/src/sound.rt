@@ -5,44 +5,51 @@ use crate::received::cells_tallied;
 use crate::roster::Roster;
 use crate::sizes::CELL_ROUND;
 use crate::sizes::MAX_RECV_BUFFER;
-use crate::sizes::PACKET_ROUND;
 use crate::sizes::PACKETS;
 use crate::sizes::SLOTS;
 use crate::state::Sending;
 use crate::state::State;
+use crate::table::first_cell;
 use link::LinkRow;
 use link::sizes::MAX_TIME;
 use refusal::both;
 ghost use mathlib.Core.Path.{_≡_};
-ghost use Rattle.engine.specs.Decide.{firstOk, rowOk, rowsFrom, distinctBelow, soundb};
-ghost use Rattle.engine.specs.Sizes.{SLOTS};
+ghost use Prim.Native.Nat.{_≤_};
+ghost use Rattle.engine.specs.Decide.{soundb};
+ghost use Rattle.engine.specs.Found.{firstOk, rowOk, rowsFrom, distinctBelow, foundSound};
+ghost use Rattle.engine.specs.Sizes.{SLOTS, PACKETS};
 
 // The first packet isn't Received.
 fn first_ok(tx: Sending) -> bool
+    requires { ⌜ tx .«txed_count» ≤ PACKETS ⌝ }
     ensures { λ r. ⌜ r ≡ firstOk tx ⌝ }
 {
-    let count = tx.txed_count;
-    if count == 0 {
+    if tx.txed_count == 0 {
         return true;
     }
-    let first = tx.tx_seq.sub((count % 0x1_0000_0000) as u32);
-    let at = (first.0 % PACKET_ROUND) as usize;
+    let at = first_cell(tx);
     let p = tx.txed_packets[at];
     let status = p.status;
     !is_received(status)
 }
 
-// Each link's unacked bytes are the sum of its Sent data, and its counts and times within their sizes.
+// A link's unacked bytes are the sum of its Sent data, and its counts and times within their sizes. An empty slot has no link.
+fn row_ok(row: LinkRow, sum: u32, time: u64) -> bool
+    ensures { λ r. ⌜ r ≡ rowOk row sum time ⌝ }
+{
+    if !row.live {
+        return true;
+    }
+    both(row.txed_unacked_data == sum, row.is_within(time))
+}
+
 fn rows_ok(links: [LinkRow; SLOTS], on: [u32; SLOTS], time: u64) -> bool
     ensures { λ r. ⌜ r ≡ rowsFrom links on time 0 SLOTS ⌝ }
 {
     let mut j: usize = 0;
     while j < SLOTS {
         let row = links[j];
-        if row.txed_unacked_data != on[j] {
-            return false;
-        }
-        if !row.is_within(time) {
+        if !row_ok(row, on[j], time) {
             return false;
         }
         j += 1;
@@ -66,9 +73,9 @@ fn distinct(roster: Roster) -> bool
     true
 }
 
-// Whether the state is sound. A count above PACKETS is told first: a pass goes through as many packets as the count says.
-pub fn is_sound(s: State) -> bool
-    ensures { λ r. ⌜ r ≡ soundb s ⌝ }
+// What the passes find. A count above PACKETS is told first: a pass goes through as many packets as the count says.
+fn found_sound(s: State) -> bool
+    ensures { λ r. ⌜ r ≡ foundSound s ⌝ }
 {
     let tx = s.tx;
     let rx = s.rx;
@@ -99,4 +106,11 @@ pub fn is_sound(s: State) -> bool
         sending,
         both(receiving, both(rows, both(alone, s.time <= MAX_TIME))),
     )
+}
+
+// Whether the state is sound.
+pub fn is_sound(s: State) -> bool
+    ensures { λ r. ⌜ r ≡ soundb s ⌝ }
+{
+    found_sound(s)
 }

@@ -21,7 +21,10 @@ use refusal::both;
 use refusal::gate;
 use seq::Seq;
 ghost use mathlib.Core.Path.{_≡_};
-ghost use Rattle.engine.specs.Starting.{freshTx, freshRx, freshState, freshOf};
+ghost use mathlib.Core.List.{[]};
+ghost use Rattle.refusal.specs.Answers.{toldBy};
+ghost use Rattle.engine.specs.Answer.{outcomeTold};
+ghost use Rattle.engine.specs.Starting.{freshTx, freshRx, freshState, freshVerdict, freshOf, Usable};
 
 fn fresh_tx(start: Seq) -> Sending
     ensures { λ r. ⌜ r ≡ freshTx (start .0) ⌝ }
@@ -71,9 +74,12 @@ fn fresh_state(start: Seq, recv_buffer: u32) -> State
     }
 }
 
-// A fresh state. Where it is refused, the state that comes with the refusal has the bad setting, so that every call refuses it.
+// A fresh state. Where it is refused, the state that comes with the refusal has the bad setting: it is not sound, and every call
+// refuses it.
 pub fn fresh(start: Seq, recv_buffer: u32) -> Changed
     ensures { λ r. ⌜ r ≡ freshOf (start .0) «recv_buffer» ⌝ }
+    ensures { λ r. ⌜ outcomeTold (r .outcome) ≡ toldBy (freshVerdict «recv_buffer») [] ⌝ }
+    ensures { λ r. ⌜ Usable r ⌝ }
 {
     let state = fresh_state(start, recv_buffer);
     let ok = both(1 <= recv_buffer, recv_buffer <= MAX_RECV_BUFFER);

@@ -22,8 +22,8 @@ use Rattle.engine.specs.declared.state.SentReliable.{SentReliable}
 use Rattle.engine.specs.declared.state.Sending.{Sending}
 use Rattle.engine.specs.declared.state.State.{State}
 use Rattle.engine.specs.Packets.{packets, isQueued, queuedOf, Pick, SentOn, Outstanding, Settled, weightAs, sumOf}
-use Rattle.engine.specs.Queue.{requeued, gatherOf}
-use Rattle.engine.specs.Table.{inTable, packetOf}
+use Rattle.engine.specs.Queue.{requeued, requeued-queue}
+use Rattle.engine.specs.Table.{inTable, lookedAt}
 use Rattle.engine.specs.InTable.{packet-short, sum-small}
 use Rattle.engine.specs.Rows.{rowOf, row-of}
 use Rattle.engine.specs.Sound.{Sound, Shaped, rowAt}
@@ -34,7 +34,7 @@ use Rattle.engine.specs.declared.state.InFlight.{InFlight}
 use Rattle.engine.specs.Sizes.{SLOTS, PACKETS}
 use Rattle.laws.specs.Passed.{changed-keeps, timed-passed}
 use Rattle.laws.specs.RowsKept.{rows-of, row-later, links-set, rows-set, apart-kept, here-same, row-sound, row-shaped}
-use Rattle.laws.specs.PacketsKept.{requeued-queue, requeued-count, requeued-long}
+use Rattle.laws.specs.PacketsKept.{requeued-count, requeued-long}
 use Rattle.laws.specs.PacketReplaced.{replaced, replaced-sum, replaced-queued}
 use Rattle.laws.specs.NearlySound.{Nearly, sound-nearly, withSent, nearly-sound, restated, restated-shaped, restated-nearly}
 use Rattle.laws.specs.RowAcks.{SameAcks, acked-acks, same-full}
@@ -42,7 +42,7 @@ use Rattle.laws.specs.RowChanged.{like-fine, mark-acked, bytes-fine, byt
 use Rattle.laws.specs.SweepKept.{swept-nearly, swept-first, swept-shaped}
 
 module _ (s : State) (slot time a : ℕ) (shaped : Shaped s) (sound : Sound s) (number : a < 2 ^ 32)
-    (later : s .time ≤ time) (top : time ≤ MAX_TIME) (small : slot < SLOTS) where
+    (later : s .time ≤ time) (top : time ≤ MAX_TIME) (small : slot < SLOTS) (lives : rowAt s slot .live ≡ true) where
   -- the state before the sweep is shaped, since the row keeps its waiting acks, and nearly sound
   abbrev Fits : LinkRow → Sending → Type 0
   Fits row tx =
@@ -68,18 +68,18 @@ module _ (s : State) (slot time a : ℕ) (shaped : Shaped s) (sound : Sound s) (
   marked-fine : RowFine marked (sums slot) time
   marked-fine =
       like-fine marked (rowOf s slot) (sums slot) time (mark-acked _ (rowOf s slot) a)
-      (rw (row-of s slot small) (row-later (rowAt s slot) (sums slot) (s .time) time later (rows-of s sound slot small)))
+      (rw (row-of s slot small) (row-later (rowAt s slot) (sums slot) (s .time) time later (rows-of s sound slot small lives)))
 
   only-marked : Fits marked (s .tx)
   only-marked =
-      let fine : RowFine marked (rowAt s slot .«txed_unacked_data») time = rw (sound .link-unacked slot small) marked-fine in
-      (λ same. row-shaped s slot marked time shaped (same-full s slot shaped marked same) (omega arith), sound-nearly _ (row-sound s slot marked time shaped sound small later top marked-live marked-id fine))
+      let fine : RowFine marked (rowAt s slot .«txed_unacked_data») time = rw (sound .link-unacked slot small lives) marked-fine in
+      (λ same. row-shaped s slot marked time shaped (same-full s slot shaped marked same) (omega arith), sound-nearly _ (row-sound s slot marked time shaped sound small lives later top marked-live marked-id fine))
 
   -- ---- the packet becomes Received
 
   module _ (held : inTable (s .tx) a ≡ true) where
     abbrev old : SentReliable
-    old = packetOf (s .tx) a
+    old = lookedAt (s .tx) a
 
     abbrev after : List SentReliable
     after = replaced (s .tx) a (withStatus old Received)
@@ -110,7 +110,7 @@ module _ (s : State) (slot time a : ℕ) (shaped : Shaped s) (sound : Sound s) (
               tt tt lists room
               (omega (arith, sound .unacked, sum-after Outstanding, counted))
               (omega (arith, sound .unconsumable, sum-after Settled, settled))
-              (rows-set (s .links) slot row sums (λ j. sumOf (SentOn j) after) (s .time) time inside later (rows-of s sound) fine
+              (rows-set (s .links) slot row sums (λ j. sumOf (SentOn j) after) (s .time) time inside later (rows-of s sound) (λ l. fine)
               (λ j l ne. omega (arith, sum-after (SentOn j), others j l ne)))
               (apart-kept (s .links) slot row inside small live id (sound .identities)),
         )
@@ -145,10 +145,10 @@ module _ (s : State) (slot time a : ℕ) (shaped : Shaped s) (sound : Sound s) (
         λ k. ap (λ st. weightAs k st (old .len)) e in
         let tx = receivedTx (s .tx) a old in
         let same : sums slot ≡ sumOf (SentOn slot) after = omega (arith, sum-after (SentOn slot), weighs (SentOn slot)) in
-        received-fits marked (gatherOf tx .numbers) (gatherOf tx .count) marked-live marked-id (rw same at marked-fine)
+        received-fits marked (requeued tx .«resend_queue») (requeued tx .«resend_count») marked-live marked-id (rw same at marked-fine)
         (λ j l ne. weighs (SentOn j))
         (weighs Outstanding) (weighs Settled)
-        (requeued-queue tx (sound .packet-count) (shaped .queue-full))
+        (requeued-queue tx)
         (requeued-count tx (sound .packet-count) (shaped .queue-full))
         (requeued-long tx (sound .packet-count) (shaped .queue-full))
 
@@ -168,7 +168,7 @@ module _ (s : State) (slot time a : ℕ) (shaped : Shaped s) (sound : Sound s) (
   unfolding ackedRow ackedTx
   acked-fits =
       cases (inTable (s .tx) a)
-      (λ t. simp t (settled-fits t (packetOf (s .tx) a .status) refl))
+      (λ t. simp t (settled-fits t (lookedAt (s .tx) a .status) refl))
       (λ f. simp f only-marked)
 
   acked-sound : Sound (ackedState s slot time a)
@@ -193,7 +193,7 @@ module _ (s : State) (slot time a : ℕ) (shaped : Shaped s) (sound : Sound s) (
       changed-keeps Sound (ackVerdict s slot time a) s (ackedState s slot time a) sound
       (λ e.
       let ok = timed-passed s slot time _ e in
-      acked-sound s slot time a shaped sound number (ok .0) (ok .1) (ok .2))
+      acked-sound s slot time a shaped sound number (ok .0) (ok .1) (ok .2) (ok .3))
 
   pub ack-shaped : Shaped (ackOf s slot time a .state)
   unfolding ackOf ackVerdict
@@ -201,4 +201,4 @@ module _ (s : State) (slot time a : ℕ) (shaped : Shaped s) (sound : Sound s) (
       changed-keeps Shaped (ackVerdict s slot time a) s (ackedState s slot time a) shaped
       (λ e.
       let ok = timed-passed s slot time _ e in
-      acked-shaped s slot time a shaped sound number (ok .0) (ok .1) (ok .2))
+      acked-shaped s slot time a shaped sound number (ok .0) (ok .1) (ok .2) (ok .3))

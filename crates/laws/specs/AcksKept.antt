@@ -1,5 +1,6 @@
 -- A link's waiting acks: one more or one less keeps a sound state sound. Assumes nothing.
 use mathlib.Core.Path.{_≡_, refl}
+use mathlib.Core.Bool.{true}
 use Prim.Native.Nat.{ℕ, _<_}
 use native.Mathlib.Omega.{arith}
 use lib.Dec.{eqb, ltb}
@@ -12,7 +13,7 @@ use Rattle.link.specs.Sizes.{ACKS}
 use Rattle.engine.specs.declared.state.State.{State}
 use Rattle.engine.specs.DecidedTables.{RowFine}
 use Rattle.engine.specs.Rows.{rowOf}
-use Rattle.engine.specs.Sound.{Sound, Shaped}
+use Rattle.engine.specs.Sound.{Sound, Shaped, rowAt}
 use Rattle.engine.specs.Fields.{withRow}
 use Rattle.engine.specs.Sizes.{SLOTS}
 use Rattle.laws.specs.RowsKept.{row-shaped, row-kept}
@@ -49,18 +50,18 @@ module _ (r : LinkRow) where
 
 module _ (s : State) (slot : ℕ) (shaped : Shaped s) where
   -- a repeated number
-  pub queued-sound : (seq : Seq) → Sound s → slot < SLOTS → Sound (withRow s slot (ackQueued (rowOf s slot) seq))
-  queued-sound seq sound small =
-      row-kept s slot (λ r. ackQueued r seq) (s .time) shaped sound small (omega arith) (sound .time-within)
+  pub queued-sound : (seq : Seq) → Sound s → slot < SLOTS → rowAt s slot .live ≡ true → Sound (withRow s slot (ackQueued (rowOf s slot) seq))
+  queued-sound seq sound small lives =
+      row-kept s slot (λ r. ackQueued r seq) (s .time) shaped sound small lives (omega arith) (sound .time-within)
       (λ r. queued-who r seq) (λ r sum. queued-fine r seq sum (s .time))
 
   pub queued-shaped : (seq : Seq) → Shaped (withRow s slot (ackQueued (rowOf s slot) seq))
   queued-shaped seq = row-shaped s slot (ackQueued (rowOf s slot) seq) (s .time) shaped (queued-full (rowOf s slot) seq (row-full s slot shaped)) (shaped .time-u64)
 
   -- an ack taken
-  pub taken-sound : Sound s → slot < SLOTS → Sound (withRow s slot (ackTaken (rowOf s slot)))
-  taken-sound sound small =
-      row-kept s slot ackTaken (s .time) shaped sound small (omega arith) (sound .time-within)
+  pub taken-sound : Sound s → slot < SLOTS → rowAt s slot .live ≡ true → Sound (withRow s slot (ackTaken (rowOf s slot)))
+  taken-sound sound small lives =
+      row-kept s slot ackTaken (s .time) shaped sound small lives (omega arith) (sound .time-within)
       taken-who (λ r sum. taken-fine r sum (s .time))
 
   pub taken-shaped : Shaped (withRow s slot (ackTaken (rowOf s slot)))

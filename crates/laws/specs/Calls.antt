@@ -8,15 +8,15 @@ use Rattle.seq.specs.declared.Seq.{Seq}
 use Rattle.msg.specs.declared.reliable.ReliableMsg.{ReliableMsg}
 use Rattle.link.specs.declared.row.MaxPing.{MaxPing}
 use Rattle.engine.specs.declared.state.State.{State}
-use Rattle.engine.specs.Answer.{outcomeNumber}
-use Rattle.engine.specs.Links.{addOf, addNumber, confirmOf, blockOf, markOf, pingOf, pongOf}
+use Rattle.engine.specs.Answer.{outcomeTold}
+use Rattle.engine.specs.Links.{addOf, addTold, confirmOf, blockOf, markOf, pingOf, pongOf}
 use Rattle.engine.specs.Unconfirming.{unconfirmOf, removeOf}
-use Rattle.engine.specs.Sending.{sendOf, sendStore, sendNumber}
+use Rattle.engine.specs.Sending.{sendOf, sendStore, sendTold}
 use Rattle.engine.specs.Flushing.{flushOf}
-use Rattle.engine.specs.Resending.{resendOf, resendNumber}
+use Rattle.engine.specs.Resending.{resendOf, resendTold}
 use Rattle.engine.specs.Acking.{ackOf}
 use Rattle.engine.specs.Receiving.{receiveOf, receiveStore}
-use Rattle.engine.specs.HandingOut.{handOutNumber, showingOf, takeOf, takeAckOf, takeAckNumber, dueOf, dueNumber}
+use Rattle.engine.specs.HandingOut.{handOutTold, showingOf, takeOf, takeAckOf, takeAckTold, dueOf, dueTold}
 
 pub data Call : Type 0 where
   Add : (id roundtrip : ℕ) (max : MaxPing) (blocked unconfirmed : Bool) → Call
@@ -41,23 +41,23 @@ withState h s = record { state = s; sent = h .sent; received = h .received }
 
 -- the paper's number of the call's answer
 abbrev pub number : Call → Holding → ℕ
-number (Add id roundtrip max blocked unconfirmed) h = addNumber (addOf (h .state) id roundtrip max blocked unconfirmed .answer)
-number (Remove slot) h = outcomeNumber (removeOf (h .state) slot .outcome)
-number (Confirm slot) h = outcomeNumber (confirmOf (h .state) slot .outcome)
-number (Unconfirm slot) h = outcomeNumber (unconfirmOf (h .state) slot .outcome)
-number (Block slot blocked) h = outcomeNumber (blockOf (h .state) slot blocked .outcome)
-number (Mark slot seq) h = outcomeNumber (markOf (h .state) slot seq .outcome)
-number (Ping slot time) h = outcomeNumber (pingOf (h .state) slot time .outcome)
-number (Pong slot time) h = outcomeNumber (pongOf (h .state) slot time .outcome)
-number (Flush slot time) h = outcomeNumber (flushOf (h .state) slot time .outcome)
-number (Send slot time msg bytes) h = sendNumber (sendOf (h .state) (length (h .sent)) slot time msg (length bytes) .answer)
-number (Resend slot time n) h = resendNumber (resendOf (h .state) slot time n .answer)
-number (Ack slot time n) h = outcomeNumber (ackOf (h .state) slot time n .outcome)
-number (Receive slot msg n bytes) h = outcomeNumber (receiveOf (h .state) (length (h .received)) slot msg n (length bytes) .outcome)
-number Show h = handOutNumber (showingOf (h .state) (length (h .received)))
-number Take h = handOutNumber (takeOf (h .state) .answer)
-number Due h = dueNumber (dueOf (h .state))
-number (TakeAck slot) h = takeAckNumber (takeAckOf (h .state) slot .answer)
+number (Add id roundtrip max blocked unconfirmed) h = addTold (addOf (h .state) id roundtrip max blocked unconfirmed .answer) .number
+number (Remove slot) h = outcomeTold (removeOf (h .state) slot .outcome) .number
+number (Confirm slot) h = outcomeTold (confirmOf (h .state) slot .outcome) .number
+number (Unconfirm slot) h = outcomeTold (unconfirmOf (h .state) slot .outcome) .number
+number (Block slot blocked) h = outcomeTold (blockOf (h .state) slot blocked .outcome) .number
+number (Mark slot seq) h = outcomeTold (markOf (h .state) slot seq .outcome) .number
+number (Ping slot time) h = outcomeTold (pingOf (h .state) slot time .outcome) .number
+number (Pong slot time) h = outcomeTold (pongOf (h .state) slot time .outcome) .number
+number (Flush slot time) h = outcomeTold (flushOf (h .state) slot time .outcome) .number
+number (Send slot time msg bytes) h = sendTold (sendOf (h .state) (length (h .sent)) slot time msg (length bytes) .answer) .number
+number (Resend slot time n) h = resendTold (resendOf (h .state) slot time n .answer) .number
+number (Ack slot time n) h = outcomeTold (ackOf (h .state) slot time n .outcome) .number
+number (Receive slot msg n bytes) h = outcomeTold (receiveOf (h .state) (length (h .received)) slot msg n (length bytes) .outcome) .number
+number Show h = handOutTold (showingOf (h .state) (length (h .received))) .number
+number Take h = handOutTold (takeOf (h .state) .answer) .number
+number Due h = dueTold (dueOf (h .state)) .number
+number (TakeAck slot) h = takeAckTold (takeAckOf (h .state) slot .answer) .number
 
 -- state and stores after the call
 abbrev pub next : Call → Holding → Holding

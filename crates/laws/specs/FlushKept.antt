@@ -15,7 +15,8 @@ use Rattle.engine.specs.declared.state.State.{State}
 use Rattle.engine.specs.Packets.{packets, isReceived, isQueued, Pick, SentOn, Outstanding, Settled, weightAs, sumOf}
 use Rattle.engine.specs.Gates.{timedVerdict}
 use Rattle.engine.specs.Sound.{Sound, Shaped, SentHere, FlushedBy, SentBy}
-use Rattle.engine.specs.Flushing.{flushedAs, flushedPacket, flushOf}
+use Rattle.engine.specs.Flushing.{flushedAs, flushedPacket, flushedState, flushOf}
+use Rattle.engine.specs.Table.{withTable}
 use Rattle.engine.specs.Fields.{withStatus, withFlushed, flushTime}
 use Rattle.laws.specs.RowsKept.{rows-of, row-later}
 use Rattle.laws.specs.Passed.{changed-keeps, timed-passed}
@@ -83,35 +84,35 @@ module _ (slot time : ℕ) where
   timed-kept before h (ResendQueued link) b = tt
 
 -- the rows, the queue and every sum stay
-abbrev flushedState : State → ℕ → ℕ → State
-flushedState s slot time = withStatuses s (flushedPacket slot time) (s .links) (s .tx .«resend_queue») (s .tx .«resend_count») time
+abbrev flushed : State → ℕ → ℕ → State
+flushed s slot time = withStatuses s (flushedPacket slot time) (s .links) (s .tx .«resend_queue») (s .tx .«resend_count») time
 
-flushed-sound : (s : State) (slot time : ℕ) → Shaped s → Sound s → s .time ≤ time → time ≤ MAX_TIME → Sound (flushedState s slot time)
+flushed-sound : (s : State) (slot time : ℕ) → Shaped s → Sound s → s .time ≤ time → time ≤ MAX_TIME → Sound (flushed s slot time)
 flushed-sound s slot time shaped sound later top =
-    let t = flushedState s slot time in
+    let t = flushed s slot time in
     let f = flushedPacket slot time in
     let g = flushStatus slot time in
     let same = restatused slot time in
     let ps = packets (s .tx) in
-    let after = packets-restatused f g same s (s .links) (s .tx .«resend_queue») (s .tx .«resend_count») time (shaped .packets-full) in
+    let after = packets-restatused f g same s (s .links) (s .tx .«resend_queue») (s .tx .«resend_count») time (shaped .packets-full) (sound .packet-count) in
     let sums : (j : ℕ) → sumOf (SentOn j) (packets (t .tx)) ≡ sumOf (SentOn j) ps =
     λ j. ap (sumOf (SentOn j)) after ∙ sum-mapped f (SentOn j) (weight-restatused f g same (SentOn j) (weight-kept slot time (SentOn j))) ps in
     let queue-kept = queued-mapped f (λ p. ap (λ (q : SentReliable). q .seq) (same p)) (λ p. ap (λ (q : SentReliable). isQueued (q .status)) (same p) ∙ queued-kept slot time (p .status)) ps in
     whole t
-    (sending-restatused f g same s (s .links) (s .tx .«resend_queue») (s .tx .«resend_count») time (shaped .packets-full) (sending-of s sound)
+    (sending-restatused f g same s (s .links) (s .tx .«resend_queue») (s .tx .«resend_count») time (shaped .packets-full) (sound .packet-count) (sending-of s sound)
     (here-kept slot time s t refl) (timed-kept slot time (s .time) later) (received-kept slot time) (weight-kept slot time Outstanding) (weight-kept slot time Settled)
     (sound .queued ∙ sym queue-kept) (sound .queue-count))
-    (λ j h. rw (sums j) (row-later _ _ (s .time) time later (rows-of s sound j h)))
+    (λ j h l. rw (sums j) (row-later _ _ (s .time) time later (rows-of s sound j h l)))
     (sound .identities) (receiving-of s sound) top
 
 pub flush-sound : (s : State) (slot time : ℕ) → Shaped s → Sound s → Sound (flushOf s slot time .state)
-unfolding flushOf
+unfolding flushOf flushedState withTable
 flush-sound s slot time shaped sound =
     changed-keeps Sound (timedVerdict s slot time Pass) s (flushedState s slot time) sound
     (λ e. let p = timed-passed s slot time Pass e in flushed-sound s slot time shaped sound (p .0) (p .1))
 
 pub flush-shaped : (s : State) (slot time : ℕ) → Shaped s → Shaped (flushOf s slot time .state)
-unfolding flushOf
+unfolding flushOf flushedState withTable
 flush-shaped s slot time shaped =
     changed-keeps Shaped (timedVerdict s slot time Pass) s (flushedState s slot time) shaped
     (λ e. shaped-restatused s (flushedPacket slot time) (s .links) (s .tx .«resend_queue») (s .tx .«resend_count») time shaped

@@ -4,6 +4,7 @@ pub mod Calls
 pub mod CellsKept
 pub mod CellsSeen
 pub mod FlushKept
+pub mod Learnt
 pub mod LinksKept
 pub mod MessageNumbers
 pub mod NearlySound

@@ -3,7 +3,7 @@
 use mathlib.Core.Path.{_≡_, refl, sym, ap, _∙_}
 use mathlib.Core.Bool.{Bool, true, false, not, _&&_}
 use mathlib.Core.List.{List, _∷_}
-use Prim.Native.Nat.{ℕ, zero, suc, _%_, _^_, _≤_, _<_}
+use Prim.Native.Nat.{ℕ, zero, suc, _-_, _%_, _^_, _≤_, _<_}
 use native.Mathlib.Omega.{arith}
 use lib.Dec.{leb, ltb}
 use lib.ListN.{length, getD, set, replicate, length-replicate, getD-replicate}
@@ -33,15 +33,14 @@ use Rattle.engine.specs.declared.state.State.{State}
 use Rattle.engine.specs.Ring.{window, window-length, nextCell, next-cell-lt}
 use Rattle.engine.specs.Packets.{noPacket, firstOf, packets, SentOn, sumOf, queuedOf}
 use Rattle.engine.specs.Received.{noCell, cellView, expectedAt, bytesIn}
-use Rattle.engine.specs.Roster.{rosterOf, livesBefore, lives-nowhere}
 use Rattle.engine.specs.Decide.{soundb}
-use Rattle.engine.specs.DecidedTables.{RowFine, roster-at, here-lives}
+use Rattle.engine.specs.DecidedTables.{RowFine}
 use Rattle.engine.specs.Rows.{rowOf}
 use Rattle.engine.specs.Answer.{changedBy}
 use Rattle.engine.specs.Gates.{slotVerdict, timedVerdict}
 use Rattle.engine.specs.Starting.{freshTx, freshRx, freshState, freshVerdict, freshOf}
 use Rattle.engine.specs.Sound.{Sound, Shaped, rowAt, packetAt, cellAt}
-use Rattle.engine.specs.Links.{confirmOf, blockOf, markOf, pingOf, pongOf, lowestIn, addVerdict, addedBy, addOf, lowest-empty}
+use Rattle.engine.specs.Links.{confirmOf, blockOf, markOf, pingOf, pongOf, lowestIn, addVerdict, addedBy, addOf, isTaken, lowest-empty, taken-nowhere}
 use Rattle.engine.specs.Sizes.{PACKETS, SLOTS, CELLS, MAX_RECV_BUFFER}
 use Rattle.engine.specs.Fields.{withRow, withTime}
 use Rattle.laws.specs.RowsKept.{dead-elsewhere, sum-elsewhere, rows-of, rows-set, apart-set, here-added, links-sound, row-shaped, row-kept}
@@ -76,7 +75,7 @@ module _ (s : State) (slot : ℕ) (shaped : Shaped s) where
       → Sound (changedBy (slotVerdict s slot) s (withRow s slot (f (rowOf s slot))) .state)
   plain-sound f sound who fine =
       changed-keeps Sound (slotVerdict s slot) s (withRow s slot (f (rowOf s slot))) sound
-      (λ e. row-kept s slot f (s .time) shaped sound (slot-passed s slot e .0) (omega arith) (sound .time-within) who (λ r sum. fine r sum (s .time)))
+      (λ e. row-kept s slot f (s .time) shaped sound (slot-passed s slot e .0) (slot-passed s slot e .1) (omega arith) (sound .time-within) who (λ r sum. fine r sum (s .time)))
 
   plain-shaped : (row : LinkRow) → SameAcks row (rowOf s slot) → Shaped (changedBy (slotVerdict s slot) s (withRow s slot row) .state)
   plain-shaped row same =
@@ -91,7 +90,7 @@ module _ (s : State) (slot : ℕ) (shaped : Shaped s) where
       changed-keeps Sound (timedVerdict s slot time Pass) s (withTime (withRow s slot (f (rowOf s slot))) time) sound
       (λ e.
       let passed = timed-passed s slot time Pass e in
-      row-kept s slot f time shaped sound (passed .2) (passed .0) (passed .1) who (λ r sum. fine r sum (passed .1)))
+      row-kept s slot f time shaped sound (passed .2) (passed .3) (passed .0) (passed .1) who (λ r sum. fine r sum (passed .1)))
 
   timed-shaped : (row : LinkRow) (time : ℕ) → SameAcks row (rowOf s slot)
       → Shaped (changedBy (timedVerdict s slot time Pass) s (withTime (withRow s slot row) time) .state)
@@ -154,12 +153,12 @@ module _ (s : State) (id roundtrip : ℕ) (max : MaxPing) (blocked unconfirmed :
     trip : roundtrip ≤ MAX_TIME
     limit : maxPingWithin max ≡ true
     small : lowestIn s < SLOTS
-    nowhere : livesBefore (rosterOf (s .links)) SLOTS id ≡ false
+    nowhere : isTaken (s .links) id ≡ false
 
-  passed : addVerdict s (lowestIn s) id roundtrip max ≡ Pass → Added
+  passed : addVerdict s id roundtrip max ≡ Pass → Added
   unfolding addVerdict
   passed e =
-      let alone = not (livesBefore (rosterOf (s .links)) SLOTS id) in
+      let alone = not (isTaken (s .links) id) in
       let one = gate-pass (soundb s) (refuse 1 tt) _ e in
       let three = gate-pass (leb roundtrip MAX_TIME && maxPingWithin max) (refuse 3 tt) (gate (ltb (lowestIn s) SLOTS) 5 (gate alone 6 Pass)) (one .1) in
       let five = gate-pass (ltb (lowestIn s) SLOTS) (refuse 5 tt) (gate alone 6 Pass) (three .1) in
@@ -169,7 +168,7 @@ module _ (s : State) (id roundtrip : ℕ) (max : MaxPing) (blocked unconfirmed :
         trip = leb-true roundtrip MAX_TIME (sizes .0);
         limit = sizes .1;
         small = ltb-true (lowestIn s) 8 (five .0);
-        nowhere = not-true (livesBefore (rosterOf (s .links)) SLOTS id) (six .0);
+        nowhere = not-true (isTaken (s .links) id) (six .0);
       }
 
   added-sound : Sound s → Added → Sound (withRow s (lowestIn s) new)
@@ -179,16 +178,17 @@ module _ (s : State) (id roundtrip : ℕ) (max : MaxPing) (blocked unconfirmed :
       let small = p .small in
       let inside : slot < length (s .links) = omega (arith, shaped .links-full, small) in
       let sums : ℕ → ℕ = λ j. sumOf (SentOn j) (packets (s .tx)) in
-      let dead : rowAt s slot .live ≡ false = sym (roster-at (s .links) slot small .0) ∙ lowest-empty (rosterOf (s .links)) 0 SLOTS (omega (arith, small)) in
+      let whole : slot - 0 ≡ slot = omega arith in
+      let dead : rowAt s slot .live ≡ false = ap (λ j. rowAt s j .live) (sym whole) ∙ lowest-empty (s .links) 0 (omega (arith, inside)) in
       let few = window-length PACKETS noPacket (s .tx .«txed_packets») (firstOf (s .tx) % PACKETS) (s .tx .«txed_count») in
       let none : sums slot ≡ 0 =
       sum-elsewhere slot (packets (s .tx)) (λ i h. dead-elsewhere s slot dead (packetAt s i .status) (sound .sent i (omega (arith, few)))) in
       let fits : RowFine new (sums slot) (s .time) =
       record { sums = sym none; trip = p .trip; limit = p .limit; pinged = refl; acks = omega arith } in
       links-sound s (set (s .links) slot new) (s .time) sound (omega arith) (sound .time-within)
-      (rows-set (s .links) slot new sums sums (s .time) (s .time) inside (omega arith) (rows-of s sound) fits (λ j l ne. refl))
+      (rows-set (s .links) slot new sums sums (s .time) (s .time) inside (omega arith) (rows-of s sound) (λ l. fits) (λ j l ne. refl))
       (apart-set (s .links) slot new inside (sound .identities)
-      (λ j l ne live lj same. lives-nowhere (rosterOf (s .links)) id 8 j (p .nowhere) l (here-lives s j id l lj same)))
+      (λ j l ne live lj same. taken-nowhere (s .links) id j (p .nowhere) (omega (arith, shaped .links-full)) lj same))
       (here-added s (withRow s slot new) slot new refl inside dead)
 
   added-keeps : (P : State → Type 0) (v : Verdict) (slot : ℕ) (next : State) → P s → (v ≡ Pass → P next) → P (addedBy v slot s next .state)
@@ -197,12 +197,12 @@ module _ (s : State) (id roundtrip : ℕ) (max : MaxPing) (blocked unconfirmed :
 
   pub add-sound : Sound s → Sound (addOf s id roundtrip max blocked unconfirmed .state)
   unfolding addOf new
-  add-sound sound = added-keeps Sound (addVerdict s (lowestIn s) id roundtrip max) (lowestIn s) (withRow s (lowestIn s) new) sound (λ e. added-sound sound (passed e))
+  add-sound sound = added-keeps Sound (addVerdict s id roundtrip max) (lowestIn s) (withRow s (lowestIn s) new) sound (λ e. added-sound sound (passed e))
 
   pub add-shaped : Shaped (addOf s id roundtrip max blocked unconfirmed .state)
   unfolding addOf new
   add-shaped =
-      added-keeps Shaped (addVerdict s (lowestIn s) id roundtrip max) (lowestIn s) (withRow s (lowestIn s) new) shaped
+      added-keeps Shaped (addVerdict s id roundtrip max) (lowestIn s) (withRow s (lowestIn s) new) shaped
       (λ e. row-shaped s (lowestIn s) new (s .time) shaped (fresh-full id roundtrip max blocked unconfirmed) (shaped .time-u64))
 
 -- ---- the fresh state
@@ -274,7 +274,7 @@ module _ (start buffer : ℕ) (number : start < 2 ^ 32) where
     first = λ h. absurd (omega arith);
     sent = λ i h. absurd (omega arith);
     queued = refl;
-    link-unacked = λ j h. ap (λ (r : LinkRow). r .«txed_unacked_data») (fresh-row j h);
+    link-unacked = λ j h l. ap (λ (r : LinkRow). r .«txed_unacked_data») (fresh-row j h);
     unacked = refl;
     unconsumable = refl;
     untaken-within = omega arith;
@@ -285,17 +285,17 @@ module _ (start buffer : ℕ) (number : start < 2 ^ 32) where
     held = λ h. fresh-cell (expectedAt (freshState start buffer .rx)) h;
     near = omega (arith, fresh-expected);
     sent-by = λ i h. absurd (omega arith);
-    pinged-by = λ j h. ap (λ (r : LinkRow). pingWithin (r .«current_ping_sent») 0) (fresh-row j h);
+    pinged-by = λ j h l. ap (λ (r : LinkRow). pingWithin (r .«current_ping_sent») 0) (fresh-row j h);
     packet-count = omega arith;
     queue-count = omega arith;
-    ack-count = λ j h. rw (fresh-row j h) (omega arith);
+    ack-count = λ j h l. rw (fresh-row j h) (omega arith);
     packet-length = λ i h. absurd (omega arith);
     cell-length = λ k h. rw (fresh-cell k h) tt;
     buffer-set = low;
     buffer-within = high;
     time-within = omega arith;
-    trip-within = λ j h. rw (fresh-row j h) (omega arith);
-    max-ping-within = λ j h. ap (λ (r : LinkRow). maxPingWithin (r .«max_ping»)) (fresh-row j h);
+    trip-within = λ j h l. rw (fresh-row j h) (omega arith);
+    max-ping-within = λ j h l. ap (λ (r : LinkRow). maxPingWithin (r .«max_ping»)) (fresh-row j h);
   }
 
   -- the fresh state, where it is not refused

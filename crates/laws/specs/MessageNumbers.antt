@@ -13,12 +13,12 @@ use Rattle.msg.specs.declared.link_msg.LinkMsg.{LinkMsg}
 use Rattle.msg.specs.declared.link_msg.LinkMsg.the-variants.{Welcome, Connect, Accepted, Refused, Ping, Pong, Data, Ack, Consumed, SendFinish, ReceiveClose, ReceiveFinish, TestData, SetBlock, Goodbye, Terminate}
 use Rattle.msg.specs.declared.reading.Reading.{Reading}
 use Rattle.msg.specs.declared.reading.Reading.the-variants.{Message}
-use Rattle.msg.specs.Reading.{readingNumber, bad, numberAt, opensWith, magic, reasons, blocks, exactly, readHandshake, readAlone, readRefused, readNumbered, readConsumed, readTestData, readSetBlock, readKind, readers, readNone, readOf}
+use Rattle.msg.specs.Reading.{readingTold, bad, numberAt, opensWith, magic, reasons, blocks, exactly, readHandshake, readAlone, readRefused, readNumbered, readConsumed, readTestData, readSetBlock, readKind, readers, readNone, readOf}
 use Rattle.engine.specs.Sizes.{DATA_BYTES}
 
 -- an answer that refuses does so with 20
 abbrev OnlyBytes : Reading → Type 0
-OnlyBytes r = readingNumber r ≢ 0 → readingNumber r ≡ 20
+OnlyBytes r = readingTold r .number ≢ 0 → readingTold r .number ≡ 20
 
 either : (b : Bool) (x y : Reading) → OnlyBytes x → OnlyBytes y → OnlyBytes (cond b x y)
 either true x y f g = f

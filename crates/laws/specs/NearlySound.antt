@@ -1,6 +1,6 @@
 -- What Sound asks of a state's sending half, links and time, but for "the first packet isn't Received"; and a packet whose status
 -- changes. Assumes nothing.
-use mathlib.Core.Path.{_≡_, ap, _∙_}
+use mathlib.Core.Path.{_≡_, refl, ap, _∙_}
 use mathlib.Core.Bool.{true, false}
 use mathlib.Core.List.{List}
 use Prim.Native.Nat.{ℕ, _%_, _^_, _≤_, _<_}
@@ -16,15 +16,14 @@ use Rattle.engine.specs.declared.state.Sending.{Sending}
 use Rattle.engine.specs.declared.state.State.{State}
 use Rattle.engine.specs.Packets.{noPacket, firstOf, packets, queue, isReceived, queuedOf, SentOn, Outstanding, Settled, sumOf}
 use Rattle.engine.specs.Tally.{lengthOk}
-use Rattle.engine.specs.Table.{inTable, packetOf}
-use Rattle.engine.specs.InTable.{place}
+use Rattle.engine.specs.Table.{inTable, place, lookedAt}
 use Rattle.engine.specs.DecidedPackets.{Good}
 use Rattle.engine.specs.Sound.{Sound, Shaped, packetAt, SentHere, SentBy}
 use Rattle.engine.specs.Fields.{withStatus}
 use Rattle.engine.specs.Sizes.{PACKETS}
 use Rattle.laws.specs.RowsKept.{RowsFine, LinksShaped, Apart, rows-of, sent-later}
 use Rattle.laws.specs.Parts.{sending-of, receiving-of, whole}
-use Rattle.laws.specs.PacketReplaced.{replaced, replaced-each, place-in, place-packet}
+use Rattle.laws.specs.PacketReplaced.{replaced, replaced-each, place-in}
 
 pub record Nearly (s : State) : Type 0 where
   pub each : (i : ℕ) → i < s .tx .«txed_count» → Good s (packetAt s i) (plus (firstOf (s .tx)) i)
@@ -78,7 +77,7 @@ nearly-sound s links tx time sound near first =
 abbrev pub restated : Sending → ℕ → SentReliableStatus → (numbers : List Seq) (count unacked unconsumable : ℕ) → Sending
 restated tx n st q c u h = record {
   «tx_seq» = tx .«tx_seq»;
-  «txed_packets» = set (tx .«txed_packets») (n % PACKETS) (withStatus (packetOf tx n) st);
+  «txed_packets» = set (tx .«txed_packets») (n % PACKETS) (withStatus (lookedAt tx n) st);
   «txed_count» = tx .«txed_count»;
   «resend_queue» = q;
   «resend_count» = c;
@@ -92,15 +91,16 @@ restated tx n st q c u h = record {
 
 module _ (s : State) (n : ℕ) (shaped : Shaped s) (sound : Sound s) (number : n < 2 ^ 32) (held : inTable (s .tx) n ≡ true) (st : SentReliableStatus) where
   abbrev new : SentReliable
-  new = withStatus (packetOf (s .tx) n) st
+  new = withStatus (lookedAt (s .tx) n) st
 
   -- a fact of every place, where it holds of the place's own packet with the new status
   restated-each : (P : ℕ → SentReliable → Type 0) → P (place (s .tx) n) new → ((i : ℕ) → i < s .tx .«txed_count» → P i (packetAt s i))
       → (i : ℕ) → i < s .tx .«txed_count» → P i (getD (replaced (s .tx) n new) i noPacket)
   restated-each P h f i l = replaced-each (s .tx) n (shaped .next-u32) number (sound .packet-count) (shaped .packets-full) held new P h f i l
 
-  here : packetOf (s .tx) n ≡ packetAt s (place (s .tx) n)
-  here = place-packet (s .tx) n (shaped .next-u32) number (sound .packet-count) (shaped .packets-full) held
+  here : lookedAt (s .tx) n ≡ packetAt s (place (s .tx) n)
+  unfolding lookedAt
+  here = refl
 
   inside : place (s .tx) n < s .tx .«txed_count»
   inside = place-in (s .tx) n (shaped .next-u32) number (sound .packet-count) (shaped .packets-full) held

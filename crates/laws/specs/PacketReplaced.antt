@@ -15,8 +15,8 @@ use Rattle.engine.specs.declared.state.SentReliable.{SentReliable}
 use Rattle.engine.specs.declared.state.Sending.{Sending}
 use Rattle.engine.specs.Ring.{window, window-set-in}
 use Rattle.engine.specs.Packets.{noPacket, firstOf, packets, isQueued, queuedOf, Pick, weight, sumOf}
-use Rattle.engine.specs.Table.{inTable, packetOf}
-use Rattle.engine.specs.InTable.{cells-divide, place, placed, back-number}
+use Rattle.engine.specs.Table.{inTable, place, lookedAt}
+use Rattle.engine.specs.InTable.{cells-divide, placed, back-number}
 use Rattle.engine.specs.Sizes.{PACKETS}
 use Rattle.laws.specs.PacketsKept.{packets-count}
 
@@ -77,10 +77,6 @@ module _ (tx : Sending) (n : ℕ) (next : tx .«tx_seq» .0 < 2 ^ 32) (number : 
       let t = tx .«tx_seq» .0 in
       back-number t n next number ∙ number-past t (tx .«txed_count») (minus t n) count (at .back-high)
 
-  -- .. and its packet
-  pub place-packet : packetOf tx n ≡ getD (packets tx) (place tx n) noPacket
-  place-packet = placed tx n next number count held .here
-
   place-cell : n % PACKETS ≡ (firstOf tx % PACKETS + place tx n) % PACKETS
   place-cell =
       ap (λ k. k % PACKETS) place-number
@@ -99,11 +95,11 @@ module _ (tx : Sending) (n : ℕ) (next : tx .«tx_seq» .0 < 2 ^ 32) (number : 
     replaced-each P h f i l =
         rw replaced-set (each-set noPacket P (packets tx) (place tx n) p (tx .«txed_count») place-length h f i l)
 
-    pub replaced-sum : (k : Pick) → sumOf k (replaced tx n p) + weight k (packetOf tx n) ≡ sumOf k (packets tx) + weight k p
-    replaced-sum k = rw (replaced-set, place-packet) (sum-set k (packets tx) (place tx n) p place-length)
+    pub replaced-sum : (k : Pick) → sumOf k (replaced tx n p) + weight k (lookedAt tx n) ≡ sumOf k (packets tx) + weight k p
+    unfolding lookedAt
+    replaced-sum k = rw replaced-set (sum-set k (packets tx) (place tx n) p place-length)
 
-    pub replaced-queued : p .seq ≡ packetOf tx n .seq → isQueued (p .status) ≡ isQueued (packetOf tx n .status)
+    pub replaced-queued : p .seq ≡ lookedAt tx n .seq → isQueued (p .status) ≡ isQueued (lookedAt tx n .status)
         → queuedOf (replaced tx n p) ≡ queuedOf (packets tx)
-    replaced-queued e u =
-        ap queuedOf replaced-set
-        ∙ queued-set (packets tx) (place tx n) p (e ∙ ap (λ q. q .seq) place-packet) (u ∙ ap (λ q. isQueued (q .status)) place-packet)
+    unfolding lookedAt
+    replaced-queued e u = ap queuedOf replaced-set ∙ queued-set (packets tx) (place tx n) p e u

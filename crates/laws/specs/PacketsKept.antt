@@ -1,16 +1,15 @@
 -- The packet table's view where every packet is changed in its place, and where one is added at the end: the packets, the sums,
 -- the resend queue. Assumes nothing.
 use mathlib.Core.Path.{_≡_, refl, sym, ap, ap₂, _∙_}
-use mathlib.Core.Bool.{false}
-use mathlib.Core.List.{List, [], _∷_, _++_, map, append-nil}
+use mathlib.Core.Bool.{true, false}
+use mathlib.Core.List.{List, [], _∷_, _++_, map}
 use Prim.Native.Nat.{ℕ, zero, suc, _+_, _%_, _^_, _≤_, _<_}
 use native.Mathlib.Decide.{ℕ-discrete}
 use native.Mathlib.Nat.{mod-add-mod}
 use native.Mathlib.Numerals.{add-one}
 use native.Mathlib.Omega.{arith}
-use borrow.Author.Tests.{lt-ltb}
-use lib.ListN.{length, getD, set, take, length-set, List·getD-append}
-use lib.Seq.{take-suc-set, append-snoc, getD-at}
+use lib.ListN.{length, getD, set, take, drop, length-append, length-drop, List·getD-append}
+use lib.Seq.{getD-at}
 use borrow.Table.Steps.{cases}
 use Rattle.seq.specs.declared.Seq.{Seq}
 use Rattle.seq.specs.Numbers.{plus, minus}
@@ -20,14 +19,15 @@ use Rattle.engine.specs.declared.state.SentReliableStatus.{SentReliableStatus}
 use Rattle.engine.specs.declared.state.SentReliable.{SentReliable}
 use Rattle.engine.specs.declared.state.Sending.{Sending}
 use Rattle.engine.specs.declared.state.State.{State}
-use Rattle.engine.specs.Ring.{window, window-length, window-snoc, nextCell, next-cell-lt}
-use Rattle.engine.specs.Packets.{noPacket, firstOf, packets, queue, isReceived, isQueued, queuedOf, Pick, Outstanding, Settled, weightAs, weight, sumOf}
-use Rattle.engine.specs.Queue.{putIn, gatherFrom, gatherOf, requeued}
-use Rattle.engine.specs.InTable.{cells-divide}
+use Rattle.engine.specs.Ring.{window, window-length, window-snoc, refill-length}
+use Rattle.engine.specs.Packets.{noPacket, firstOf, packets, isReceived, isQueued, queuedOf, Pick, Outstanding, Settled, weightAs, weight, sumOf}
+use Rattle.engine.specs.Queue.{requeued}
+use Rattle.engine.specs.Table.{inTable, place, lookedAt, packetOf, withTable}
+use Rattle.engine.specs.InTable.{cells-divide, placed, table-packets}
 use Rattle.engine.specs.Sound.{Shaped, SentHere, SentBy}
 use Rattle.engine.specs.DecidedPackets.{Good}
 use Rattle.engine.specs.Sizes.{PACKETS}
-use Rattle.engine.specs.Fields.{withStatus, withPackets, withQueue}
+use Rattle.engine.specs.Fields.{withStatus, withQueue}
 use Rattle.laws.specs.RowsKept.{LinksShaped}
 use Rattle.laws.specs.Parts.{SendingSound}
 
@@ -47,16 +47,22 @@ module _ {A : Type 0} (f : A → A) (d : A) where
   map-at (x ∷ xs) zero h = refl
   map-at (x ∷ xs) (suc i) h = map-at xs i (omega arith)
 
-  -- the ring's cells are changed, and with them the view
-  pub window-map : (N : ℕ) (cells : List A) (at n : ℕ) → at < N → length cells ≡ N → window N d (map f cells) at n ≡ map f (window N d cells at n)
-  unfolding window
-  window-map N cells at zero h c = refl
-  window-map N cells at (suc n) h c =
-      ap₂ (λ (y : A) (l : List A). y ∷ l) (map-at cells at (omega arith)) (window-map N cells (nextCell N at) n (next-cell-lt N at (omega arith)) c)
-
 module _ (f : SentReliable → SentReliable) where
-  pub packets-mapped : (tx : Sending) → length (tx .«txed_packets») ≡ PACKETS → packets (withPackets tx (map f (tx .«txed_packets»))) ≡ map f (packets tx)
-  packets-mapped tx c = window-map f noPacket PACKETS (tx .«txed_packets») (firstOf tx % PACKETS) (tx .«txed_count») (omega arith) c
+  pub packets-mapped : (tx : Sending) → length (tx .«txed_packets») ≡ PACKETS → tx .«txed_count» ≤ PACKETS → packets (withTable tx (map f (packets tx))) ≡ map f (packets tx)
+  packets-mapped tx c few = table-packets tx (map f (packets tx)) (map-length f (packets tx) ∙ packets-count tx) few c
+
+  -- the packet of a number that the table holds is changed with it
+  pub table-at : (tx : Sending) (n : ℕ) → tx .«tx_seq» .0 < 2 ^ 32 → n < 2 ^ 32 → tx .«txed_count» ≤ PACKETS → length (tx .«txed_packets») ≡ PACKETS → inTable tx n ≡ true
+      → packetOf (withTable tx (map f (packets tx))) n ≡ f (packetOf tx n)
+  unfolding withTable inTable lookedAt place
+  table-at tx n next number few full held =
+      let after = withTable tx (map f (packets tx)) in
+      let was = placed tx n next number few held in
+      let inside : place tx n < length (packets tx) = omega (arith, was .back-low, was .back-high, packets-count tx) in
+      placed after n next number few held .here
+      ∙ ap (λ (ps : List SentReliable). getD ps (place tx n) noPacket) (packets-mapped tx full few)
+      ∙ map-at f noPacket (packets tx) (place tx n) inside
+      ∙ ap f (sym (was .here))
 
   -- a sum stays where every packet keeps its weight ..
   pub sum-mapped : (k : Pick) → ((p : SentReliable) → weight k (f p) ≡ weight k p) → (ps : List SentReliable) → sumOf k (map f ps) ≡ sumOf k ps
@@ -129,31 +135,6 @@ packets-added cells t count p ht hc l =
 
 -- ---- the resend queue is made anew
 
--- the numbers of packets gathered into a queue of 64 places, after the first `count` of it
-record Gathers (ps : List SentReliable) (before : List Seq) (count : ℕ) (after : List Seq) (total : ℕ) : Type 0 where
-  lists : take total after ≡ take count before ++ queuedOf ps
-  counts : total ≡ count + length (queuedOf ps)
-  long : length after ≡ length before
-
-gathers : (ps : List SentReliable) (numbers : List Seq) (count : ℕ) → length numbers ≡ PACKETS → count + length ps ≤ PACKETS
-    → Gathers ps numbers count (gatherFrom ps (record { numbers = numbers; count = count }) .numbers) (gatherFrom ps (record { numbers = numbers; count = count }) .count)
-unfolding gatherFrom putIn queuedOf
-gathers [] numbers count l h = record { lists = sym (append-nil (take count numbers)); counts = omega arith; long = refl }
-gathers (p ∷ ps) numbers count l h =
-    cases (isQueued (p .status))
-    (λ q.
-    let room : count < PACKETS = omega arith in
-    let r = gathers ps (set numbers count (p .seq)) (count + 1) (length-set numbers count (p .seq) ∙ l) (omega arith) in
-    let here : take (count + 1) (set numbers count (p .seq)) ≡ take count numbers ++ (p .seq ∷ []) = rw add-one (take-suc-set numbers count (p .seq) (omega arith)) in
-    simp (q, lt-ltb count PACKETS room) (record {
-      lists = simp q (r .lists ∙ ap (λ (l : List Seq). l ++ queuedOf ps) here ∙ append-snoc (take count numbers) (p .seq) (queuedOf ps));
-      counts = simp q (omega (arith, r .counts));
-      long = r .long ∙ length-set numbers count (p .seq);
-    }))
-    (λ q.
-    let r = gathers ps numbers count l (omega arith) in
-    simp q (record { lists = simp q (r .lists); counts = simp q (r .counts); long = r .long }))
-
 -- no more are queued than there are
 queued-le : (ps : List SentReliable) → length (queuedOf ps) ≤ length ps
 unfolding queuedOf
@@ -163,22 +144,18 @@ queued-le (p ∷ ps) =
     (λ q. simp q (omega (arith, queued-le ps)))
     (λ q. simp q (omega (arith, queued-le ps)))
 
--- a queue made anew is that of the packets
+-- a queue made anew has the same places
 module _ (tx : Sending) (few : tx .«txed_count» ≤ PACKETS) (long : length (tx .«resend_queue») ≡ PACKETS) where
-  made : Gathers (packets tx) (tx .«resend_queue») 0 (requeued tx .«resend_queue») (requeued tx .«resend_count»)
-  unfolding requeued gatherOf
-  made =
-      let whole : tx .«txed_count» % 2 ^ 32 ≡ tx .«txed_count» = omega arith in
-      rw whole (gathers (packets tx) (tx .«resend_queue») 0 long (omega (arith, packets-count tx)))
-
-  pub requeued-queue : queue (requeued tx) ≡ queuedOf (packets tx)
-  requeued-queue = made .lists
-
   pub requeued-count : requeued tx .«resend_count» ≤ PACKETS
-  requeued-count = omega (arith, made .counts, queued-le (packets tx), packets-count tx)
+  unfolding requeued
+  requeued-count = omega (arith, queued-le (packets tx), packets-count tx)
 
   pub requeued-long : length (requeued tx .«resend_queue») ≡ PACKETS
-  requeued-long = made .long ∙ long
+  unfolding requeued
+  requeued-long =
+      let numbers = queuedOf (packets tx) in
+      length-append numbers (drop (length numbers) (tx .«resend_queue»))
+      ∙ omega (arith, long, length-drop (length numbers) (tx .«resend_queue»), queued-le (packets tx), packets-count tx)
 
 -- ---- the sending half
 
@@ -188,14 +165,15 @@ Restatused f g = (p : SentReliable) → f p ≡ withStatus p (g (p .status))
 
 -- the state with the packets changed, and other rows, another queue and another time
 abbrev pub withStatuses : State → (SentReliable → SentReliable) → List LinkRow → List Seq → ℕ → ℕ → State
-withStatuses s f links q n time = record { links = links; tx = withQueue (withPackets (s .tx) (map f (s .tx .«txed_packets»))) q n; rx = s .rx; time = time }
+withStatuses s f links q n time = record { links = links; tx = withQueue (withTable (s .tx) (map f (packets (s .tx)))) q n; rx = s .rx; time = time }
 
 pub shaped-restatused : (s : State) (f : SentReliable → SentReliable) (links : List LinkRow) (q : List Seq) (n time : ℕ) → Shaped s
     → LinksShaped links → length q ≡ PACKETS → n < 2 ^ 64 → time < 2 ^ 64 → Shaped (withStatuses s f links q n time)
+unfolding withTable
 shaped-restatused s f links q n time shaped rows long small timed = record {
   links-full = rows .full;
   queues = rows .queues;
-  packets-full = map-length f (s .tx .«txed_packets») ∙ shaped .packets-full;
+  packets-full = refill-length PACKETS noPacket (s .tx .«txed_packets») (firstOf (s .tx) % PACKETS) (map f (packets (s .tx))) ∙ shaped .packets-full;
   queue-full = long;
   cells-full = shaped .cells-full;
   next-u32 = shaped .next-u32;
@@ -223,10 +201,11 @@ module _ (f : SentReliable → SentReliable) (g : SentReliableStatus → SentRel
   good-restatused s t n p here timed good =
       rw (same p) (record { number = good .number; fits = good .fits; here = here (p .status) (good .here); timed = timed (p .status) (good .timed) })
 
-  module _ (s : State) (links : List LinkRow) (q : List Seq) (n time : ℕ) (cells : length (s .tx .«txed_packets») ≡ PACKETS) where
+  module _ (s : State) (links : List LinkRow) (q : List Seq) (n time : ℕ) (cells : length (s .tx .«txed_packets») ≡ PACKETS)
+      (room : s .tx .«txed_count» ≤ PACKETS) where
     -- the packets afterwards
     pub packets-restatused : packets (withStatuses s f links q n time .tx) ≡ map f (packets (s .tx))
-    packets-restatused = packets-mapped f (s .tx) cells
+    packets-restatused = packets-mapped f (s .tx) cells room
 
     pub sending-restatused : SendingSound s
         → ((st : SentReliableStatus) → SentHere s st → SentHere (withStatuses s f links q n time) (g st))
@@ -236,6 +215,7 @@ module _ (f : SentReliable → SentReliable) (g : SentReliableStatus → SentRel
         → ((st : SentReliableStatus) (len : ℕ) → weightAs Settled (g st) len ≡ weightAs Settled st len)
         → take n q ≡ queuedOf (map f (packets (s .tx))) → n ≤ PACKETS
         → SendingSound (withStatuses s f links q n time)
+    unfolding withTable
     sending-restatused sending here timed received outstanding settled queued few =
         let t = withStatuses s f links q n time in
         let ps = packets (s .tx) in

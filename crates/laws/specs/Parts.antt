@@ -70,7 +70,7 @@ module _ (s : State) where
     first = sending .first;
     sent = λ i h. sending .each i h .here;
     queued = sending .queued;
-    link-unacked = λ j h. rows j h .sums;
+    link-unacked = λ j h l. rows j h l .sums;
     unacked = sending .unacked;
     unconsumable = sending .unconsumable;
     untaken-within = receiving .untaken-within;
@@ -81,15 +81,15 @@ module _ (s : State) where
     held = receiving .held;
     near = receiving .near;
     sent-by = λ i h. sending .each i h .timed;
-    pinged-by = λ j h. rows j h .pinged;
+    pinged-by = λ j h l. rows j h l .pinged;
     packet-count = sending .packet-count;
     queue-count = sending .queue-count;
-    ack-count = λ j h. rows j h .acks;
+    ack-count = λ j h l. rows j h l .acks;
     packet-length = λ i h. sending .each i h .fits;
     cell-length = receiving .cell-length;
     buffer-set = receiving .buffer-set;
     buffer-within = receiving .buffer-within;
     time-within = time;
-    trip-within = λ j h. rows j h .trip;
-    max-ping-within = λ j h. rows j h .limit;
+    trip-within = λ j h l. rows j h l .trip;
+    max-ping-within = λ j h l. rows j h l .limit;
   }

@@ -22,7 +22,7 @@ use Rattle.engine.specs.Received.{noCell, isFull}
 use Rattle.engine.specs.Decide.{soundb}
 use Rattle.engine.specs.Tally.{lengthOk}
 use Rattle.engine.specs.Rows.{rowOf, slotOk}
-use Rattle.engine.specs.Sound.{Sound, Shaped, packetAt}
+use Rattle.engine.specs.Sound.{Sound, Shaped, packetAt, rowAt}
 use Rattle.engine.specs.Cells.{cellOf, nearOldest, isRepeat, canAdvance, passedOver, advanced}
 use Rattle.engine.specs.Receiving.{receiveVerdict, effectTx, storedRx, repeatedState, receivedState, receiveOf}
 use Rattle.engine.specs.Fields.{withRow, withTx}
@@ -51,13 +51,13 @@ record NewNumber (s : State) (msg : ReliableMsg) (n len : ℕ) : Type 0 where
   within : s .rx .«rxed_reliable_size» + len ≤ s .rx .«recv_buffer»
 
 module _ (s : State) (store slot : ℕ) (msg : ReliableMsg) (n len : ℕ) (shaped : Shaped s) where
-  slot-in : receiveVerdict s store slot msg n len ≡ Pass → slot < SLOTS
+  slot-in : receiveVerdict s store slot msg n len ≡ Pass → (slot < SLOTS) × (rowAt s slot .live ≡ true)
   unfolding receiveVerdict
   slot-in v =
       let e1 = gate-pass (soundb s) _ _ v in
       let e2 = gate-pass (eqb store RECEIVED_BYTES) _ _ (e1 .1) in
       let e4 = gate-pass (slotOk s slot) _ _ (e2 .1) in
-      slot-ok s slot (e4 .0) .0
+      slot-ok s slot (e4 .0)
 
   new-number : receiveVerdict s store slot msg n len ≡ Pass → isRepeat CELLS (s .rx) n ≡ false → NewNumber s msg n len
   unfolding receiveVerdict isRepeat nearOldest cellOf seen
@@ -154,12 +154,12 @@ module _ (s : State) (store slot : ℕ) (msg : ReliableMsg) (n len : ℕ) (shape
       (table-of s shaped sound) (new .near) (new .later) (new .empty) (new .fits) (new .within))
 
   -- the ack, the effect and the table, one after another
-  received-sound : slot < SLOTS → NewNumber s msg n len → Sound (receivedState s slot msg n len)
+  received-sound : slot < SLOTS → rowAt s slot .live ≡ true → NewNumber s msg n len → Sound (receivedState s slot msg n len)
   unfolding receivedState
-  received-sound small new =
+  received-sound small lives new =
       let acked = withRow s slot (ackQueued (rowOf s slot) (seqOf n)) in
       rx-sound (withTx acked (effectTx (s .tx) msg)) (storedRx (s .rx) msg n len) (stored-table new)
-      (effect-sound acked msg (queued-sound s slot shaped (seqOf n) sound small))
+      (effect-sound acked msg (queued-sound s slot shaped (seqOf n) sound small lives))
 
   received-shaped : NewNumber s msg n len → Shaped (receivedState s slot msg n len)
   unfolding receivedState
@@ -174,8 +174,8 @@ module _ (s : State) (store slot : ℕ) (msg : ReliableMsg) (n len : ℕ) (shape
   receive-sound =
       changed-keeps Sound (receiveVerdict s store slot msg n len) s (cond (isRepeat CELLS (s .rx) n) (repeatedState s slot n) (receivedState s slot msg n len)) sound
       (λ v. cases (isRepeat CELLS (s .rx) n)
-      (λ t. simp t (queued-sound s slot shaped (seqOf n) sound (slot-in s store slot msg n len shaped v)))
-      (λ t. simp t (received-sound (slot-in s store slot msg n len shaped v) (new-number s store slot msg n len shaped v t))))
+      (λ t. let here = slot-in s store slot msg n len shaped v in simp t (queued-sound s slot shaped (seqOf n) sound (here .0) (here .1)))
+      (λ t. let here = slot-in s store slot msg n len shaped v in simp t (received-sound (here .0) (here .1) (new-number s store slot msg n len shaped v t))))
 
   pub receive-shaped : Shaped (receiveOf s store slot msg n len .state)
   unfolding receiveOf repeatedState

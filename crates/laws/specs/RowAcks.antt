@@ -24,7 +24,7 @@ use Rattle.link.specs.Sizes.{ACKS}
 use Rattle.engine.specs.declared.state.SentReliableStatus.{SentReliableStatus}
 use Rattle.engine.specs.declared.state.SentReliableStatus.the-variants.{Sent, Received, ResendQueued}
 use Rattle.engine.specs.declared.state.State.{State}
-use Rattle.engine.specs.Table.{inTable, packetOf}
+use Rattle.engine.specs.Table.{inTable, lookedAt}
 use Rattle.engine.specs.Rows.{rowOf}
 use Rattle.engine.specs.Sound.{Shaped}
 use Rattle.engine.specs.Acking.{settledRowAs, ackedRow}
@@ -105,7 +105,7 @@ pub acked-acks : (s : State) (slot time n : ℕ) → SameAcks (ackedRow s slot t
 unfolding ackedRow
 acked-acks s slot time n =
     let r = rowOf s slot in
-    let p = packetOf (s .tx) n in
+    let p = lookedAt (s .tx) n in
     let old = mark-acked-acks r (r .«limit_increased») n in
     cases (inTable (s .tx) n)
     (λ y. simp y (same-then _ (markAcked r n) r (settled-acks (markAcked r n) (p .len) slot time (p .status)) old))

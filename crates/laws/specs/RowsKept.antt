@@ -27,9 +27,9 @@ use Rattle.engine.specs.Fields.{withRow, withTime}
 use Rattle.engine.specs.Sizes.{SLOTS}
 use Rattle.refusal.specs.Tests.{false-true}
 
--- every row is as Sound asks of it by itself, where `sums j` is the Sent data of slot j
+-- every live row is as Sound asks of it by itself, where `sums j` is the Sent data of slot j
 abbrev pub RowsFine : List LinkRow → (ℕ → ℕ) → ℕ → Type 0
-RowsFine links sums time = (j : ℕ) → j < SLOTS → RowFine (getD links j noRow) (sums j) time
+RowsFine links sums time = (j : ℕ) → j < SLOTS → getD links j noRow .live ≡ true → RowFine (getD links j noRow) (sums j) time
 
 -- what the types say of the rows: there are 8, and each has 64 places for waiting acks
 pub record LinksShaped (links : List LinkRow) : Type 0 where
@@ -51,16 +51,16 @@ Elsewhere slot (ResendQueued link) = Unit
 -- ---- the rows of a sound state
 
 pub rows-of : (s : State) → Sound s → RowsFine (s .links) (λ j. sumOf (SentOn j) (packets (s .tx))) (s .time)
-rows-of s sound j h = record {
-  sums = sound .link-unacked j h;
-  trip = sound .trip-within j h;
-  limit = sound .max-ping-within j h;
-  pinged = sound .pinged-by j h;
-  acks = sound .ack-count j h;
+rows-of s sound j h l = record {
+  sums = sound .link-unacked j h l;
+  trip = sound .trip-within j h l;
+  limit = sound .max-ping-within j h l;
+  pinged = sound .pinged-by j h l;
+  acks = sound .ack-count j h l;
 }
 
-pub own-row : (s : State) → Sound s → (j : ℕ) → j < SLOTS → RowFine (rowAt s j) (rowAt s j .«txed_unacked_data») (s .time)
-own-row s sound j h = let f = rows-of s sound j h in record { sums = refl; trip = f .trip; limit = f .limit; pinged = f .pinged; acks = f .acks }
+pub own-row : (s : State) → Sound s → (j : ℕ) → j < SLOTS → rowAt s j .live ≡ true → RowFine (rowAt s j) (rowAt s j .«txed_unacked_data») (s .time)
+own-row s sound j h l = let f = rows-of s sound j h l in record { sums = refl; trip = f .trip; limit = f .limit; pinged = f .pinged; acks = f .acks }
 
 -- no packet is Sent on a slot without a link ..
 pub dead-elsewhere : (s : State) (slot : ℕ) → rowAt s slot .live ≡ false → (st : SentReliableStatus) → SentHere s st → Elsewhere slot st
@@ -124,11 +124,11 @@ module _ (links : List LinkRow) (slot : ℕ) (row : LinkRow) where
       ]
 
   -- the new row is as Sound asks, and the Sent data of every other slot is as it was
-  pub rows-set : (sums after : ℕ → ℕ) (time later : ℕ) → slot < length links → time ≤ later → RowsFine links sums time → RowFine row (after slot) later
+  pub rows-set : (sums after : ℕ → ℕ) (time later : ℕ) → slot < length links → time ≤ later → RowsFine links sums time → (row .live ≡ true → RowFine row (after slot) later)
       → ((j : ℕ) → j < SLOTS → (j ≡ slot → ⊥) → after j ≡ sums j) → RowsFine (set links slot row) after later
   rows-set sums after time later h later-on fine new same =
-      each-row (λ j r. RowFine r (after j) later) h new
-      (λ j l ne. rw (same j l ne) (row-later (getD links j noRow) (sums j) time later later-on (fine j l)))
+      each-row (λ j r. r .live ≡ true → RowFine r (after j) later) h new
+      (λ j l ne lives. rw (same j l ne) (row-later (getD links j noRow) (sums j) time later later-on (fine j l lives)))
 
   -- a row that is live has an identity that lives in no other slot
   pub apart-set : slot < length links → Apart links
@@ -247,7 +247,7 @@ module _ (s : State) (links : List LinkRow) (time : ℕ) where
     first = sound .first;
     sent = λ i h. here (packetAt s i .status) (sound .sent i h);
     queued = sound .queued;
-    link-unacked = λ j h. fine j h .sums;
+    link-unacked = λ j h l. fine j h l .sums;
     unacked = sound .unacked;
     unconsumable = sound .unconsumable;
     untaken-within = sound .untaken-within;
@@ -258,17 +258,17 @@ module _ (s : State) (links : List LinkRow) (time : ℕ) where
     held = sound .held;
     near = sound .near;
     sent-by = λ i h. sent-later (packetAt s i .status) (s .time) time later (sound .sent-by i h);
-    pinged-by = λ j h. fine j h .pinged;
+    pinged-by = λ j h l. fine j h l .pinged;
     packet-count = sound .packet-count;
     queue-count = sound .queue-count;
-    ack-count = λ j h. fine j h .acks;
+    ack-count = λ j h l. fine j h l .acks;
     packet-length = sound .packet-length;
     cell-length = sound .cell-length;
     buffer-set = sound .buffer-set;
     buffer-within = sound .buffer-within;
     time-within = top;
-    trip-within = λ j h. fine j h .trip;
-    max-ping-within = λ j h. fine j h .limit;
+    trip-within = λ j h l. fine j h l .trip;
+    max-ping-within = λ j h l. fine j h l .limit;
   }
 
 -- one row changes, and perhaps the time: the row is as Sound asks, and keeps who lives there and the link's unacked bytes
@@ -276,24 +276,24 @@ module _ (s : State) (slot : ℕ) (row : LinkRow) (time : ℕ) (shaped : Shaped 
   pub row-shaped : length (row .«tx_ack_queue») ≡ ACKS → time < 2 ^ 64 → Shaped (withTime (withRow s slot row) time)
   row-shaped full timed = links-shaped s (set (s .links) slot row) time (links-set s slot row shaped full) timed shaped
 
-  pub row-sound : Sound s → slot < SLOTS → s .time ≤ time → time ≤ MAX_TIME → row .live ≡ rowAt s slot .live → row .«link_id» ≡ rowAt s slot .«link_id»
+  pub row-sound : Sound s → slot < SLOTS → rowAt s slot .live ≡ true → s .time ≤ time → time ≤ MAX_TIME → row .live ≡ rowAt s slot .live → row .«link_id» ≡ rowAt s slot .«link_id»
       → RowFine row (rowAt s slot .«txed_unacked_data») time → Sound (withTime (withRow s slot row) time)
-  row-sound sound small later top live id new =
+  row-sound sound small lives later top live id new =
       let inside : slot < length (s .links) = omega (arith, shaped .links-full) in
       let sums : ℕ → ℕ = λ j. sumOf (SentOn j) (packets (s .tx)) in
-      let fits : RowFine row (sums slot) time = rw (sound .link-unacked slot small) at new in
+      let fits : RowFine row (sums slot) time = rw (sound .link-unacked slot small lives) at new in
       links-sound s (set (s .links) slot row) time sound later top
-      (rows-set (s .links) slot row sums sums (s .time) time inside later (rows-of s sound) fits (λ j l ne. refl))
+      (rows-set (s .links) slot row sums sums (s .time) time inside later (rows-of s sound) (λ l. fits) (λ j l ne. refl))
       (apart-kept (s .links) slot row inside small live id (sound .identities))
       (here-same s (withTime (withRow s slot row) time) slot row refl inside live id)
 
 -- .. a change of the row that the slot has
-pub row-kept : (s : State) (slot : ℕ) (f : LinkRow → LinkRow) (time : ℕ) → Shaped s → Sound s → slot < SLOTS → s .time ≤ time → time ≤ MAX_TIME
+pub row-kept : (s : State) (slot : ℕ) (f : LinkRow → LinkRow) (time : ℕ) → Shaped s → Sound s → slot < SLOTS → rowAt s slot .live ≡ true → s .time ≤ time → time ≤ MAX_TIME
     → ((r : LinkRow) → (f r .live ≡ r .live) × (f r .«link_id» ≡ r .«link_id»))
     → ((r : LinkRow) (sum : ℕ) → RowFine r sum time → RowFine (f r) sum time)
     → Sound (withTime (withRow s slot (f (rowOf s slot))) time)
-row-kept s slot f time shaped sound small later top who fine =
+row-kept s slot f time shaped sound small lives later top who fine =
     let r = rowAt s slot in
     rw (row-of s slot small)
-    (row-sound s slot (f r) time shaped sound small later top (who r .0) (who r .1)
-    (fine r (r .«txed_unacked_data») (row-later r (r .«txed_unacked_data») (s .time) time later (own-row s sound slot small))))
+    (row-sound s slot (f r) time shaped sound small lives later top (who r .0) (who r .1)
+    (fine r (r .«txed_unacked_data») (row-later r (r .«txed_unacked_data») (s .time) time later (own-row s sound slot small lives))))

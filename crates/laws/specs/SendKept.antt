@@ -159,19 +159,19 @@ module _ (s : State) (slot time : ℕ) (msg : ReliableMsg) (len : ℕ) (shaped :
   unfolding withUnacked
   sent-sound sound =
       let ps = packets (s .tx) in
-      let old = own-row s sound slot (ok .small) in
+      let old = own-row s sound slot (ok .small) (ok .live) in
       let sums : (j : ℕ) → sumOf (SentOn j) (packets (after .tx)) ≡ sumOf (SentOn j) ps + cond (eqb slot j) len 0 =
       λ j. ap (sumOf (SentOn j)) now ∙ sum-added new (SentOn j) ps in
       let mine : cond (eqb slot slot) len 0 ≡ len = ap (λ b. cond b len 0) (eq-eqb slot slot refl) in
       let fine : RowFine row (sumOf (SentOn slot) (packets (after .tx))) time = record {
-        sums = omega (arith, sums slot, mine, sound .link-unacked slot (ok .small));
+        sums = omega (arith, sums slot, mine, sound .link-unacked slot (ok .small) (ok .live));
         trip = old .trip;
         limit = old .limit;
         pinged = ping-later (rowAt s slot .«current_ping_sent») (s .time) time (ok .later) (old .pinged);
         acks = old .acks;
       } in
       whole after (sent-sending sound)
-      (rows-set (s .links) slot row (λ j. sumOf (SentOn j) ps) (λ j. sumOf (SentOn j) (packets (after .tx))) (s .time) time inside (ok .later) (rows-of s sound) fine
+      (rows-set (s .links) slot row (λ j. sumOf (SentOn j) ps) (λ j. sumOf (SentOn j) (packets (after .tx))) (s .time) time inside (ok .later) (rows-of s sound) (λ l. fine)
       (λ j l ne.
       let none : cond (eqb slot j) len 0 ≡ 0 = ap (λ b. cond b len 0) (ne-eqb slot j (λ e. ne (sym e))) in
       omega (arith, sums j, none)))

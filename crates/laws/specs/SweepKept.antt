@@ -102,12 +102,9 @@ sweep-last P (p ∷ ps) last held h each =
 -- ---- the swept state
 
 module _ (s : State) (near : Nearly s) where
-  whole : s .tx .«txed_count» % 2 ^ 32 ≡ s .tx .«txed_count»
-  whole = omega (arith, near .packet-count)
-
   swept : Swept (packets (s .tx)) (s .tx .«txed_unconsumable») (sweptTx (s .tx) .«txed_count») (sweptTx (s .tx) .«txed_unconsumable»)
   unfolding sweptTx sweepOf
-  swept = rw whole (sweeps (packets (s .tx)) (s .tx .«txed_last_consumed») (s .tx .«txed_unconsumable»))
+  swept = sweeps (packets (s .tx)) (s .tx .«txed_last_consumed») (s .tx .«txed_unconsumable»)
 
   -- how many are dropped, and how many are left
   abbrev off : ℕ
@@ -164,7 +161,7 @@ module _ (s : State) (near : Nearly s) where
     unconsumable = swept .settled (near .unconsumable) ∙ ap (sumOf Settled) (sym packets-left);
     packet-count = omega (arith, counts, near .packet-count);
     queue-count = near .queue-count;
-    rows = λ j h. rw (ap (sumOf (SentOn j)) packets-left ∙ swept .sums (SentOn j) (λ len. refl)) (near .rows j h);
+    rows = λ j h l. rw (ap (sumOf (SentOn j)) packets-left ∙ swept .sums (SentOn j) (λ len. refl)) (near .rows j h l);
     apart = near .apart;
     time-within = near .time-within;
   }
@@ -176,8 +173,8 @@ module _ (s : State) (near : Nearly s) where
   last-small : s .tx .«txed_last_consumed» .0 < 2 ^ 32 → sweptTx (s .tx) .«txed_last_consumed» .0 < 2 ^ 32
   unfolding sweptTx sweepOf
   last-small h =
-      rw whole (sweep-last (λ n. n .0 < 2 ^ 32) (packets (s .tx)) (s .tx .«txed_last_consumed») (s .tx .«txed_unconsumable») h
-      (λ i l. rw (near .each i (omega (arith, packets-count (s .tx))) .number) (plus-lt (firstOf (s .tx)) i)))
+      sweep-last (λ n. n .0 < 2 ^ 32) (packets (s .tx)) (s .tx .«txed_last_consumed») (s .tx .«txed_unconsumable») h
+      (λ i l. rw (near .each i (omega (arith, packets-count (s .tx))) .number) (plus-lt (firstOf (s .tx)) i))
 
   pub swept-shaped : Shaped s → Shaped (withTx s (sweptTx (s .tx)))
   unfolding sweptTx

@@ -1,7 +1,7 @@
 -- Taking keeps a sound state sound: the oldest ready message leaves its cell and the sum, and the oldest number moves on to the
 -- next ready message or to the next expected number; or a link's oldest ack is taken. Assumes nothing.
 use mathlib.Core.Path.{_≡_, refl, ap, _∙_, sym}
-use mathlib.Core.Bool.{false, not}
+use mathlib.Core.Bool.{true, false, not}
 use Prim.Native.Nat.{ℕ, zero, suc, _+_, _%_, _^_, _≤_, _<_, _∣_}
 use native.Mathlib.Decide.{ℕ-discrete}
 use native.Mathlib.Omega.{arith}
@@ -14,23 +14,23 @@ use Rattle.seq.specs.Numbers.{minus}
 use Rattle.msg.specs.declared.reliable.ReliableMsg.{ReliableMsg}
 use Rattle.refusal.specs.declared.verdict.Verdict.{Verdict}
 use Rattle.refusal.specs.Tests.{false-true, split}
+use Rattle.refusal.specs.Verdicts.{gate-pass}
 use Rattle.refusal.specs.declared.verdict.Verdict.the-variants as verdicts
 use Rattle.link.specs.declared.acks.OldestAck.{OldestAck}
-use Rattle.link.specs.declared.acks.OldestAck.the-variants as oldest
 use Rattle.link.specs.Acks.{oldestAck}
 use Rattle.engine.specs.declared.state.Held.the-variants as helds
 use Rattle.engine.specs.declared.state.Receiving.{Receiving}
 use Rattle.engine.specs.declared.state.State.{State}
 use Rattle.engine.specs.Received.{noCell, isFull, heldBytes}
-use Rattle.engine.specs.Gates.{slotVerdict}
-use Rattle.engine.specs.Rows.{rowOf}
-use Rattle.engine.specs.Sound.{Sound, Shaped, ReadyKind, LengthWithin}
+use Rattle.engine.specs.Decide.{soundb}
+use Rattle.engine.specs.Rows.{rowOf, slotOk}
+use Rattle.engine.specs.Sound.{Sound, Shaped, rowAt, ReadyKind, LengthWithin}
 use Rattle.engine.specs.Cells.{cellOf}
 use Rattle.engine.specs.declared.handing_out.HandOut.{HandOut}
 use Rattle.engine.specs.declared.handing_out.HandOut.the-variants.{Message, No}
-use Rattle.engine.specs.HandingOut.{readyOf, handOutBy, dataLength, handed, ready-cell, takeVerdict, canSkip, passedBy, skipped, takenRx, takenState, takenBy, takeOf, ackAs, ackAnswer, takenAckState, takenAckBy, takeAckOf, taken-fits, data-all}
-use Rattle.engine.specs.Sizes.{CELLS}
-use Rattle.laws.specs.Passed.{slot-passed}
+use Rattle.engine.specs.HandingOut.{readyOf, handOutBy, dataLength, ready-cell, takeVerdict, canSkip, passedBy, skipped, takenRx, takenState, takenBy, takeOf, ackAs, ackAnswer, takenAckState, takenAckBy, takeAckOf, takeAckVerdict, taking, data-all}
+use Rattle.engine.specs.Sizes.{SLOTS, CELLS}
+use Rattle.laws.specs.Passed.{slot-ok}
 use Rattle.laws.specs.AcksKept.{taken-sound, taken-shaped}
 use Rattle.laws.specs.CellsSeen.{seen}
 use Rattle.laws.specs.CellsKept.{SoundRx, SkippingRx, not-full, expected-here, here-expected, passed-by, taken}
@@ -121,10 +121,9 @@ taken-keeps P s (No e) old new = old
 
 module _ (s : State) (shaped : Shaped s) (sound : Sound s) where
   table-then : (msg : ReliableMsg) (seq : Seq) (len : ℕ) → handOutBy (takeVerdict s) (s .rx) ≡ Message msg seq len → SoundRx CELLS (takenRx CELLS (s .rx) (dataLength msg len))
-  unfolding handOutBy
   table-then msg seq len h =
       taken-table CELLS cells-some cells-half cells-round (s .rx) msg len (table-of s shaped sound)
-      (handed (takeVerdict s) (readyOf CELLS (s .rx)) (s .rx .«rx_oldest») msg seq len h .ready)
+      (taking s msg seq len h .ready)
 
   pub take-sound : Sound (takeOf s .state)
   unfolding takeOf takenState
@@ -138,22 +137,29 @@ module _ (s : State) (shaped : Shaped s) (sound : Sound s) where
       taken-keeps Shaped s (handOutBy (takeVerdict s) (s .rx)) shaped
       (λ msg seq len h.
       rx-shaped s (takenRx CELLS (s .rx) (dataLength msg len)) (table-then msg seq len h)
-      (rw (taken-untold (s .rx) (dataLength msg len)) (taken-fits s msg seq len h)) shaped)
+      (rw (taken-untold (s .rx) (dataLength msg len)) (taking s msg seq len h .total)) shaped)
 
 -- ---- taking an ack
 
 ack-keeps : (P : State → Type 0) (s : State) (slot : ℕ) (v : Verdict) (ack : OldestAck) → P s → (v ≡ verdicts.Pass → P (takenAckState s slot))
     → P (takenAckBy (ackAs v ack) s slot)
-ack-keeps P s slot verdicts.Pass oldest.Nothing old new = old
-ack-keeps P s slot verdicts.Pass (oldest.Number seq) old new = new refl
+ack-keeps P s slot verdicts.Pass ack old new = new refl
 ack-keeps P s slot (verdicts.No e) ack old new = old
+
+-- an ack that is taken is a live link's
+take-ack-passed : (s : State) (slot : ℕ) → takeAckVerdict s slot ≡ verdicts.Pass → (slot < SLOTS) × (rowAt s slot .live ≡ true)
+unfolding takeAckVerdict
+take-ack-passed s slot e =
+    let e1 = gate-pass (soundb s) _ _ e in
+    slot-ok s slot (gate-pass (slotOk s slot) _ _ (e1 .1) .0)
 
 module _ (s : State) (slot : ℕ) (shaped : Shaped s) where
   pub take-ack-sound : Sound s → Sound (takeAckOf s slot .state)
   unfolding takeAckOf ackAnswer takenAckState
   take-ack-sound sound =
-      ack-keeps Sound s slot (slotVerdict s slot) (oldestAck (rowOf s slot)) sound (λ v. taken-sound s slot shaped sound (slot-passed s slot v .0))
+      ack-keeps Sound s slot (takeAckVerdict s slot) (oldestAck (rowOf s slot)) sound
+      (λ v. let here = take-ack-passed s slot v in taken-sound s slot shaped sound (here .0) (here .1))
 
   pub take-ack-shaped : Shaped (takeAckOf s slot .state)
   unfolding takeAckOf ackAnswer takenAckState
-  take-ack-shaped = ack-keeps Shaped s slot (slotVerdict s slot) (oldestAck (rowOf s slot)) shaped (λ v. taken-shaped s slot shaped)
+  take-ack-shaped = ack-keeps Shaped s slot (takeAckVerdict s slot) (oldestAck (rowOf s slot)) shaped (λ v. taken-shaped s slot shaped)

@@ -20,21 +20,21 @@ use Rattle.engine.specs.declared.state.SentReliable.{SentReliable}
 use Rattle.engine.specs.declared.state.Sending.{Sending}
 use Rattle.engine.specs.declared.state.State.{State}
 use Rattle.engine.specs.Packets.{packets, queuedOf, isReceived, SentOn, Outstanding, Settled, weightAs, weight, sumOf}
-use Rattle.engine.specs.Queue.{requeued}
+use Rattle.engine.specs.Queue.{requeued, requeued-queue}
 use Rattle.engine.specs.Rows.{rowOf, row-of}
 use Rattle.engine.specs.Gates.{slotVerdict}
-use Rattle.engine.specs.Decide.{soundb}
-use Rattle.engine.specs.Decided.{sound}
+use Rattle.engine.specs.Decide.{soundb, sound}
 use Rattle.engine.specs.DecidedTables.{RowFine}
 use Rattle.engine.specs.Sound.{Sound, Shaped, rowAt, SentHere, SentBy}
-use Rattle.engine.specs.Unconfirming.{unconfirmedAs, unconfirmedPacket, unconfirmedState, unconfirmOf, removeOf}
-use Rattle.engine.specs.Fields.{withStatus, withPackets, withRow}
+use Rattle.engine.specs.Unconfirming.{unconfirmedAs, unconfirmedPacket, unconfirmedState, removedState, unconfirmOf, removeOf}
+use Rattle.engine.specs.Fields.{withStatus}
+use Rattle.engine.specs.Table.{withTable}
 use Rattle.engine.specs.Sizes.{SLOTS}
 use Rattle.laws.specs.RowsKept.{Apart, Elsewhere, rows-of, own-row, links-set, rows-set, apart-kept, apart-emptied, here-elsewhere}
 use Rattle.laws.specs.RowAcks.{unconfirm-acks, empty-full, same-full}
 use Rattle.laws.specs.Passed.{changed-keeps, slot-passed}
 use Rattle.laws.specs.Parts.{sending-of, receiving-of, whole}
-use Rattle.laws.specs.PacketsKept.{sum-mapped, sum-cleared, packets-mapped, requeued-queue, requeued-count, requeued-long, Restatused, withStatuses, weight-restatused, sending-restatused, shaped-restatused}
+use Rattle.laws.specs.PacketsKept.{sum-mapped, sum-cleared, packets-mapped, requeued-count, requeued-long, Restatused, withStatuses, weight-restatused, sending-restatused, shaped-restatused}
 
 -- what unconfirming a slot makes of a status
 abbrev queuedBy : Bool → SentReliableStatus → ℕ → SentReliableStatus
@@ -104,7 +104,7 @@ module _ (slot : ℕ) where
 
 -- the sending half with the slot's Sent packets queued
 abbrev queuedTx : State → ℕ → Sending
-queuedTx s slot = requeued (withPackets (s .tx) (map (unconfirmedPacket slot) (s .tx .«txed_packets»)))
+queuedTx s slot = requeued (withTable (s .tx) (map (unconfirmedPacket slot) (packets (s .tx))))
 
 -- .. and a row in the slot
 abbrev quieted : State → ℕ → LinkRow → State
@@ -113,30 +113,32 @@ quieted s slot row = withStatuses s (unconfirmedPacket slot) (set (s .links) slo
 module _ (s : State) (slot : ℕ) (row : LinkRow) (shaped : Shaped s) (sound : Sound s) where
   -- a row without unacked bytes, whose identity lives in no other slot
   quieted-sound : slot < SLOTS → RowFine row 0 (s .time) → Apart (set (s .links) slot row) → Sound (quieted s slot row)
+  unfolding withTable requeued
   quieted-sound small fine apart =
       let t = quieted s slot row in
-      let tx = withPackets (s .tx) (map (unconfirmedPacket slot) (s .tx .«txed_packets»)) in
+      let tx = withTable (s .tx) (map (unconfirmedPacket slot) (packets (s .tx))) in
       let f = unconfirmedPacket slot in
       let g = unconfirmStatus slot in
       let same = restatused slot in
       let ps = packets (s .tx) in
       let inside : slot < length (s .links) = omega (arith, shaped .links-full) in
-      let now : packets (t .tx) ≡ map f ps = packets-mapped f (s .tx) (shaped .packets-full) in
+      let now : packets (t .tx) ≡ map f ps = packets-mapped f (s .tx) (shaped .packets-full) (sound .packet-count) in
       let none : sumOf (SentOn slot) (packets (t .tx)) ≡ 0 =
       ap (sumOf (SentOn slot)) now ∙ sum-cleared f (SentOn slot) (λ p. ap (weight (SentOn slot)) (same p) ∙ cleared slot (p .status) (p .len)) ps in
       whole t
-      (sending-restatused f g same s (t .links) (t .tx .«resend_queue») (t .tx .«resend_count») (s .time) (shaped .packets-full) (sending-of s sound)
+      (sending-restatused f g same s (t .links) (t .tx .«resend_queue») (t .tx .«resend_count») (s .time) (shaped .packets-full) (sound .packet-count) (sending-of s sound)
       (λ st h. here-elsewhere s t slot row refl inside (g st) (elsewhere slot st) (here-kept slot s st h))
       (timed-kept slot (s .time)) (received-kept slot) (outstanding-kept slot) (settled-kept slot)
-      (requeued-queue tx (sound .packet-count) (shaped .queue-full) ∙ ap queuedOf now) (requeued-count tx (sound .packet-count) (shaped .queue-full)))
+      (requeued-queue tx ∙ ap queuedOf now) (requeued-count tx (sound .packet-count) (shaped .queue-full)))
       (rows-set (s .links) slot row (λ j. sumOf (SentOn j) ps) (λ j. sumOf (SentOn j) (packets (t .tx))) (s .time) (s .time) inside (omega arith) (rows-of s sound)
-      (rw none fine)
+      (λ l. rw none fine)
       (λ j l ne. ap (sumOf (SentOn j)) now ∙ sum-mapped f (SentOn j) (weight-restatused f g same (SentOn j) (others-kept slot j ne)) ps))
       apart (receiving-of s sound) (sound .time-within)
 
   quieted-shaped : length (row .«tx_ack_queue») ≡ ACKS → Shaped (quieted s slot row)
+  unfolding withTable requeued
   quieted-shaped full =
-      let tx = withPackets (s .tx) (map (unconfirmedPacket slot) (s .tx .«txed_packets»)) in
+      let tx = withTable (s .tx) (map (unconfirmedPacket slot) (packets (s .tx))) in
       let few = requeued-count tx (sound .packet-count) (shaped .queue-full) in
       shaped-restatused s (unconfirmedPacket slot) (set (s .links) slot row) (queuedTx s slot .«resend_queue») (queuedTx s slot .«resend_count») (s .time) shaped
       (links-set s slot row shaped full) (requeued-long tx (sound .packet-count) (shaped .queue-full)) (omega arith) (shaped .time-u64)
@@ -144,7 +146,7 @@ module _ (s : State) (slot : ℕ) (row : LinkRow) (shaped : Shaped s) (sound : S
 -- who is accepted came with a sound state
 verdict-sound : (s : State) (slot : ℕ) → Shaped s → slotVerdict s slot ≡ Pass → Sound s
 unfolding slotVerdict
-verdict-sound s slot shaped e = sound s shaped (gate-pass (soundb s) _ _ e .0)
+verdict-sound s slot shaped e = sound s (gate-pass (soundb s) _ _ e .0)
 
 -- ---- unconfirm
 
@@ -154,11 +156,11 @@ module _ (s : State) (slot : ℕ) where
   unconfirmed-as = refl
 
   -- the link keeps its slot and identity, and none of its bytes is unacked
-  unconfirmed-sound : Shaped s → Sound s → slot < SLOTS → Sound (quieted s slot (unconfirmedRow (rowAt s slot)))
+  unconfirmed-sound : Shaped s → Sound s → slot < SLOTS → rowAt s slot .live ≡ true → Sound (quieted s slot (unconfirmedRow (rowAt s slot)))
   unfolding unconfirmedRow
-  unconfirmed-sound shaped ok small =
+  unconfirmed-sound shaped ok small lives =
       let row = unconfirmedRow (rowAt s slot) in
-      let old = own-row s ok slot small in
+      let old = own-row s ok slot small lives in
       let fine : RowFine row 0 (s .time) = record { sums = refl; trip = old .trip; limit = old .limit; pinged = old .pinged; acks = old .acks } in
       quieted-sound s slot row shaped ok small fine (apart-kept (s .links) slot row (omega (arith, shaped .links-full)) small refl refl (ok .identities))
 
@@ -167,8 +169,8 @@ unfolding unconfirmOf
 unconfirm-sound s slot shaped ok =
     changed-keeps Sound (slotVerdict s slot) s (unconfirmedState s slot) ok
     (λ e.
-    let small = slot-passed s slot e .0 in
-    rw (unconfirmed-as s slot) (rw (row-of s slot small) (unconfirmed-sound s slot shaped ok small)))
+    let here = slot-passed s slot e in
+    rw (unconfirmed-as s slot) (rw (row-of s slot (here .0)) (unconfirmed-sound s slot shaped ok (here .0) (here .1))))
 
 pub unconfirm-shaped : (s : State) (slot : ℕ) → Shaped s → Shaped (unconfirmOf s slot .state)
 unfolding unconfirmOf
@@ -180,8 +182,8 @@ unconfirm-shaped s slot shaped =
 -- ---- remove
 
 module _ (s : State) (slot : ℕ) where
-  removed-as : withRow (unconfirmedState s slot) slot emptyRow ≡ quieted s slot emptyRow
-  unfolding unconfirmedState requeued
+  removed-as : removedState s slot ≡ quieted s slot emptyRow
+  unfolding removedState unconfirmedState requeued
   removed-as = ap (λ (links : List LinkRow). withStatuses s (unconfirmedPacket slot) links (queuedTx s slot .«resend_queue») (queuedTx s slot .«resend_count») (s .time))
       (set-set (s .links) slot (unconfirmedRow (rowOf s slot)) emptyRow)
 
@@ -195,11 +197,11 @@ module _ (s : State) (slot : ℕ) where
 pub remove-sound : (s : State) (slot : ℕ) → Shaped s → Sound s → Sound (removeOf s slot .state)
 unfolding removeOf
 remove-sound s slot shaped ok =
-    changed-keeps Sound (slotVerdict s slot) s (withRow (unconfirmedState s slot) slot emptyRow) ok
+    changed-keeps Sound (slotVerdict s slot) s (removedState s slot) ok
     (λ e. rw (removed-as s slot) (removed-sound s slot shaped ok (slot-passed s slot e .0)))
 
 pub remove-shaped : (s : State) (slot : ℕ) → Shaped s → Shaped (removeOf s slot .state)
 unfolding removeOf
 remove-shaped s slot shaped =
-    changed-keeps Shaped (slotVerdict s slot) s (withRow (unconfirmedState s slot) slot emptyRow) shaped
+    changed-keeps Shaped (slotVerdict s slot) s (removedState s slot) shaped
     (λ e. rw (removed-as s slot) (quieted-shaped s slot emptyRow shaped (verdict-sound s slot shaped e) empty-full))

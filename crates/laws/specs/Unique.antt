@@ -2,10 +2,10 @@
 -- call of every library crate has its line here under its path; docs/EXCEPTIONS.md has the exceptions, and .ci/unique holds both
 -- to the sources. `Reads.Learnt` of a call is its promise: what its `ensures` say of its arguments, its answer (with the next state
 -- in it) and what was lent to it at exit. The checker makes it of the source, so that no copy here can differ. Assumes nothing.
-use mathlib.Core.Path.{_≡_, refl, sym, _∙_}
+use lib.ListN.{length}
+use mathlib.Core.Path.{_≡_, refl, sym, ap, _∙_}
 use mathlib.Core.List.{List}
 use Prim.Native.Nat.{ℕ}
-use lib.ListN.{length}
 use base.Fml.{GName}
 use contract.Lifetimes.{Lfts}
 use contract.Monad.{fact}
@@ -19,10 +19,11 @@ use Rattle.link.specs.declared.row.LinkRow.{LinkRow}
 use Rattle.engine.specs.declared.state.State.{State}
 use Rattle.engine.specs.declared.answer.Changed.{Changed}
 use Rattle.engine.specs.declared.sending.SendResult.{SendResult}
-use Rattle.engine.specs.Receiving.{receiveOf, receiveStore}
 use Rattle.engine.specs.declared.handing_out.HandOut.{HandOut}
+use Rattle.engine.specs.HandingOut.{shownAt}
 use Rattle.engine.specs.declared.slowness.SlowAnswer.{SlowAnswer}
-use Rattle.engine.specs.Slowness.{slowLinksOf}
+use Rattle.engine.specs.Slowness.{slowSlots, slowVerdict, slowTold, slowLinksOf}
+use Rattle.refusal.specs.Answers.{toldBy}
 use Rattle.refusal.proofs as refusal
 use Rattle.seq.proofs as seq
 use Rattle.msg.proofs as msg
@@ -38,6 +39,11 @@ pub record Unique {K : Type 0} {A R E : K → Type 0} (P : (κs : K) → A κs �
 -- a promise that is an equation for the answer has one: this proves every line below
 sole : {K : Type 0} {A R E : K → Type 0} {d : (κs : K) → A κs → R κs} → Unique (λ κs a (r : R κs) (e : E κs). r ≡ d κs a)
 sole = record { equal = λ κs a r r′ e e′ p q. p ∙ sym q }
+
+-- .. and so has one that says besides what the answer tells
+first : {K : Type 0} {A R E : K → Type 0} {d : (κs : K) → A κs → R κs} {T : (κs : K) → A κs → R κs → E κs → Type 0}
+    → Unique (λ κs a (r : R κs) (e : E κs). (r ≡ d κs a) × T κs a r e)
+first = record { equal = λ κs a r r′ e e′ p q. p .0 ∙ sym (q .0) }
 
 -- crates/refusal/src/lib.rt
 pub refusal-lib : Unique refusal.Refusal.number.Reads.Learnt
@@ -115,7 +121,7 @@ link-slow = (sole, sole, sole)
 
 -- crates/engine/src/starting.rt
 pub engine-starting : Unique engine.starting.fresh.Reads.Learnt
-engine-starting = sole
+engine-starting = first
 
 -- crates/engine/src/sound.rt
 pub engine-sound : Unique engine.sound.is_sound.Reads.Learnt
@@ -137,36 +143,32 @@ pub engine-links :
     × Unique engine.links.mark.Reads.Learnt
     × Unique engine.links.ping.Reads.Learnt
     × Unique engine.links.pong.Reads.Learnt
-engine-links = (sole, sole, sole, sole, sole, sole)
+engine-links = (first, first, first, first, first, first)
 
 -- crates/engine/src/unconfirming.rt
 pub engine-unconfirming :
     Unique engine.unconfirming.unconfirm.Reads.Learnt
     × Unique engine.unconfirming.remove.Reads.Learnt
-engine-unconfirming = (sole, sole)
+engine-unconfirming = (first, first)
 
 -- crates/engine/src/flushing.rt
 pub engine-flushing : Unique engine.flushing.flush.Reads.Learnt
-engine-flushing = sole
+engine-flushing = first
 
 -- crates/engine/src/resending.rt
 pub engine-resending : Unique engine.resending.resend.Reads.Learnt
-engine-resending = sole
+engine-resending = first
 
 -- crates/engine/src/acking.rt
 pub engine-acking : Unique engine.acking.ack.Reads.Learnt
-engine-acking = sole
+engine-acking = first
 
 -- crates/engine/src/handing_out.rt
 pub engine-handing-out :
     Unique engine.handing_out.take.Reads.Learnt
     × Unique engine.handing_out.take_ack.Reads.Learnt
     × Unique engine.handing_out.is_consume_ack_required.Reads.Learnt
-engine-handing-out = (sole, sole, sole)
-
--- crates/engine/src/slowness.rt
-pub engine-slowness : Unique engine.slowness.slow_links.Reads.Learnt
-engine-slowness = sole
+engine-handing-out = (first, first, first)
 
 -- ---- calls that are lent bytes: the same bytes, wherever they lie, give the same answer and are left the same
 
@@ -182,52 +184,48 @@ pub msg-read : (κs κs′ : Lfts 1) (bytes : List ℕ) (i i′ : Place) (r r′
     → msg.reading.read.Reads.Learnt κs (lent i bytes, tt) r e
     → msg.reading.read.Reads.Learnt κs′ (lent i′ bytes, tt) r′ e′
     → r ≡ r′
-msg-read κs κs′ bytes i i′ r r′ e e′ p q = p ∙ sym q
+msg-read κs κs′ bytes i i′ r r′ e e′ p q = p .0 ∙ sym (q .0)
 
 -- crates/msg/src/writing.rt; `e .1 .0` is the second parameter at exit, the buffer
 pub msg-write : (κs κs′ : Lfts 1) (m : LinkMsg) (buffer : List ℕ) (i i′ : Place) (r r′ : Written) (e : _) (e′ : _)
     → msg.writing.write.Reads.Learnt κs (m, (lent i buffer, tt)) r e
     → msg.writing.write.Reads.Learnt κs′ (m, (lent i′ buffer, tt)) r′ e′
     → (r ≡ r′) × (now (e .1 .0) ≡ now (e′ .1 .0))
-msg-write κs κs′ m buffer i i′ r r′ e e′ p q = (p .0 ∙ sym (q .0), p .1 ∙ sym (q .1))
+msg-write κs κs′ m buffer i i′ r r′ e e′ p q = (p .0 ∙ sym (q .0), p .1 .1 ∙ sym (q .1 .1))
 
 -- crates/engine/src/sending.rt
 pub send : (κs κs′ : Lfts 2) (s : State) (store : List ℕ) (slot time : ℕ) (msg : ReliableMsg) (payload : List ℕ) (i i′ j j′ : Place) (r r′ : SendResult) (e : _) (e′ : _)
     → engine.sending.send.Reads.Learnt κs (s, (lent i store, (slot, (time, (msg, (lent j payload, tt)))))) r e
     → engine.sending.send.Reads.Learnt κs′ (s, (lent i′ store, (slot, (time, (msg, (lent j′ payload, tt)))))) r′ e′
     → (r ≡ r′) × (now (e .1 .0) ≡ now (e′ .1 .0))
-send κs κs′ s store slot time msg payload i i′ j j′ r r′ e e′ p q = (p .0 ∙ sym (q .0), p .1 ∙ sym (q .1))
+send κs κs′ s store slot time msg payload i i′ j j′ r r′ e e′ p q = (p .0 ∙ sym (q .0), p .1 .1 ∙ sym (q .1 .1))
 
 -- crates/engine/src/receiving.rt
 pub receive : (κs κs′ : Lfts 2) (s : State) (store : List ℕ) (slot : ℕ) (msg : ReliableMsg) (seq : Seq) (payload : List ℕ) (i i′ j j′ : Place) (r r′ : Changed) (e : _) (e′ : _)
     → engine.receiving.receive.Reads.Learnt κs (s, (lent i store, (slot, (msg, (seq, (lent j payload, tt)))))) r e
     → engine.receiving.receive.Reads.Learnt κs′ (s, (lent i′ store, (slot, (msg, (seq, (lent j′ payload, tt)))))) r′ e′
     → (r ≡ r′) × (now (e .1 .0) ≡ now (e′ .1 .0))
-receive κs κs′ s store slot msg seq payload i i′ j j′ r r′ e e′ p q = (p .0 ∙ sym (q .0), p .1 ∙ sym (q .1))
-
--- to see what is learnt, on this call: the two `ensures` of the source, word by word
-receive-learnt : (κs : Lfts 2) (s : State) (store : List ℕ) (slot : ℕ) (msg : ReliableMsg) (seq : Seq) (payload : List ℕ) (i j : Place) (r : Changed) (e : _)
-    → engine.receiving.receive.Reads.Learnt κs (s, (lent i store, (slot, (msg, (seq, (lent j payload, tt)))))) r e
-    ≡ ((r ≡ receiveOf s (length store) slot msg (seq .0) (length payload)) × (now (e .1 .0) ≡ receiveStore s store slot msg (seq .0) payload))
-receive-learnt κs s store slot msg seq payload i j r e = refl
+receive κs κs′ s store slot msg seq payload i i′ j j′ r r′ e e′ p q = (p .0 ∙ sym (q .0), p .1 .1 ∙ sym (q .1 .1))
 
 -- crates/engine/src/handing_out.rt
 pub showing : (κs κs′ : Lfts 1) (s : State) (store : List ℕ) (i i′ : Place) (r r′ : HandOut) (e : _) (e′ : _)
     → engine.handing_out.showing.Reads.Learnt κs (s, (lent i store, tt)) r e
     → engine.handing_out.showing.Reads.Learnt κs′ (s, (lent i′ store, tt)) r′ e′
     → r ≡ r′
-showing κs κs′ s store i i′ r r′ e e′ p q = p ∙ sym q
+showing κs κs′ s store i i′ r r′ e e′ p q = p .0 ∙ sym (q .0)
 
+-- .. and the part that is shown lies at the same place of the store
 pub show : (κs κs′ : Lfts 1) (s : State) (store : List ℕ) (i i′ : Place) (r r′ : RefT (List ℕ)) (e : _) (e′ : _)
     → engine.handing_out.show.Reads.Learnt κs (s, (lent i store, tt)) r e
     → engine.handing_out.show.Reads.Learnt κs′ (s, (lent i′ store, tt)) r′ e′
-    → now r ≡ now r′
-show κs κs′ s store i i′ r r′ e e′ p q = p ∙ sym q
+    → (now r ≡ now r′) × (i .ptr ≡ i′ .ptr → r .ptr ≡ r′ .ptr)
+show κs κs′ s store i i′ r r′ e e′ p q = (p .0 ∙ sym (q .0), λ same. p .1 ∙ ap (shownAt s (length store)) same ∙ sym (q .1))
 
 -- crates/engine/src/slowness.rt. Of a call that is lent a run of records the checker makes no `Learnt`. Its promise is its clause
 -- of the source, `ensures-1`, and `slow-says` holds what is quoted of it in `slow` to that clause
 pub slow-says : {M : Type 1} (𝓤 : _) (H : _) (κs : _) (A : _) (mem : _) (run : _) (given rows : _) (r : SlowAnswer)
-    → engine.slowness.slow.ensures-1 {M = M} 𝓤 H κs A mem run given rows r ≡ fact 𝓤 (r ≡ slowLinksOf (now (rows .entry)))
+    → engine.slowness.slow.ensures-1 {M = M} 𝓤 H κs A mem run given rows r
+    ≡ fact 𝓤 ((r ≡ slowLinksOf (now (rows .entry))) × (slowTold r ≡ toldBy (slowVerdict (now (rows .entry))) (slowSlots (now (rows .entry)))))
 slow-says 𝓤 H κs A mem run given rows r = refl
 
 pub slow : (rows : List LinkRow) (r r′ : SlowAnswer) → r ≡ slowLinksOf rows → r′ ≡ slowLinksOf rows → r ≡ r′

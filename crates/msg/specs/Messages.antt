@@ -71,6 +71,25 @@ bodyOf Terminate = []
 abbrev pub bytesOf : LinkMsg → List ℕ
 bytesOf msg = kindOf msg ∷ bodyOf msg
 
+-- what a message says, as numbers in the paper's order: its kind, then what follows it
+abbrev pub valuesOf : LinkMsg → List ℕ
+valuesOf Welcome = 1 ∷ []
+valuesOf Connect = 2 ∷ []
+valuesOf Accepted = 3 ∷ []
+valuesOf (Refused reason) = 4 ∷ reasonByte reason ∷ []
+valuesOf Ping = 5 ∷ []
+valuesOf Pong = 6 ∷ []
+valuesOf (Data seq) = 7 ∷ seq .0 ∷ []
+valuesOf (Ack received) = 8 ∷ received .0 ∷ []
+valuesOf (Consumed seq consumed) = 9 ∷ seq .0 ∷ consumed ∷ []
+valuesOf (SendFinish seq) = 10 ∷ seq .0 ∷ []
+valuesOf (ReceiveClose seq) = 11 ∷ seq .0 ∷ []
+valuesOf (ReceiveFinish seq) = 12 ∷ seq .0 ∷ []
+valuesOf (TestData size) = 13 ∷ size ∷ []
+valuesOf (SetBlock blocked) = 14 ∷ blockByte blocked ∷ []
+valuesOf Goodbye = 15 ∷ []
+valuesOf Terminate = 16 ∷ []
+
 -- "A Welcome or Connect": the handshake pair
 abbrev pub handshake : LinkMsg → Bool
 handshake Welcome = true

@@ -5,19 +5,21 @@ use mathlib.Core.List.{List, [], _∷_}
 use Prim.Native.Nat.{ℕ, _+_, _*_}
 use lib.Dec.{eqb, leb}
 use lib.ListN.{length, getD}
-use Rattle.refusal.specs.Refusals.{refuse, numberOf}
+use Rattle.refusal.specs.Refusals.{refuse}
+use Rattle.refusal.specs.Answers.{Told, success, refused}
 use Rattle.seq.specs.declared.Seq.{Seq}
 use Rattle.seq.specs.Numbers.{seqOf}
 use Rattle.msg.specs.declared.link_msg.RefusedReason.the-variants.{Closed, NotListening, ConnectionRefused, LinkRefused}
 use Rattle.msg.specs.declared.link_msg.LinkMsg.{LinkMsg}
 use Rattle.msg.specs.declared.link_msg.LinkMsg.the-variants.{Welcome, Connect, Accepted, Refused, Ping, Pong, Data, Ack, Consumed, SendFinish, ReceiveClose, ReceiveFinish, TestData, SetBlock, Goodbye, Terminate}
+use Rattle.msg.specs.Messages.{valuesOf}
 use Rattle.msg.specs.declared.reading.Reading.{Reading}
 use Rattle.msg.specs.declared.reading.Reading.the-variants.{Message, No}
 
--- the paper's number for an answer
-abbrev pub readingNumber : Reading → ℕ
-readingNumber (Message msg) = 0
-readingNumber (No e) = numberOf e
+-- the paper's number for an answer, and what the message says
+abbrev pub readingTold : Reading → Told
+readingTold (Message msg) = success (valuesOf msg)
+readingTold (No e) = refused e
 
 -- "message bytes not as below" give 20
 abbrev pub bad : Reading
@@ -113,3 +115,7 @@ readKind kind body = getD readers kind readNone body
 unfoldable pub readOf : List ℕ → Reading
 readOf [] = bad
 readOf (kind ∷ body) = readKind kind body
+
+-- .. and what a caller is told of it
+abbrev pub readTold : List ℕ → Told
+readTold bytes = readingTold (readOf bytes)

@@ -1,11 +1,16 @@
 -- Document 01, "Message bytes (002)": what writing answers, and what the lent buffer holds afterwards. Assumes nothing.
-use mathlib.Core.Bool.{Bool, true, false, cond, _&&_}
+use mathlib.Core.Bool.{Bool, true, false, cond, not, _&&_, _||_}
 use mathlib.Core.Path.{_≡_}
 use mathlib.Core.List.{List, [], _∷_, _++_}
 use Prim.Native.Nat.{ℕ, _≤_}
 use lib.Dec.{leb}
 use lib.ListN.{length, take, drop}
-use Rattle.refusal.specs.Refusals.{refuse, numberOf}
+use Rattle.refusal.specs.Refusals.{refuse}
+use Rattle.refusal.specs.Answers.{Told, success, refused, toldBy}
+use Rattle.refusal.specs.Verdicts.{gate}
+use Rattle.refusal.specs.declared.verdict.Verdict.{Verdict}
+use Rattle.refusal.specs.declared.verdict.Verdict.the-variants.{Pass}
+use borrow.Table.Steps.{cases}
 use Rattle.msg.specs.declared.link_msg.LinkMsg.{LinkMsg}
 use Rattle.msg.specs.declared.link_msg.LinkMsg.the-variants.{Welcome, Connect, Accepted, Refused, Ping, Pong, Data, Ack, Consumed, SendFinish, ReceiveClose, ReceiveFinish, TestData, SetBlock, Goodbye, Terminate}
 use Rattle.msg.specs.declared.writing.Written.{Written}
@@ -33,12 +38,15 @@ writable (SetBlock blocked) = true
 writable Goodbye = true
 writable Terminate = true
 
--- the paper's number for an answer
-abbrev pub writtenNumber : Written → ℕ
-writtenNumber (Bytes n) = 0
-writtenNumber (No e) = numberOf e
+-- the paper's number for an answer, and how many bytes were written
+abbrev pub writtenTold : Written → Told
+writtenTold (Bytes n) = success (n ∷ [])
+writtenTold (No e) = refused e
 
--- "an output buffer too short" gives 7
+-- "an output buffer too short" gives 7, but 20 is given "whatever the buffer"
+unfoldable pub writeVerdict : LinkMsg → ℕ → Verdict
+writeVerdict msg room = gate (not (writable msg) || leb (length (bytesOf msg)) room) 7 (gate (writable msg) 20 Pass)
+
 unfoldable pub writeOf : LinkMsg → List ℕ → Written
 writeOf msg buffer =
     cond (writable msg)
@@ -53,6 +61,13 @@ bufferOf msg buffer =
     cond (writable msg && leb (length (bytesOf msg)) (length buffer))
     (bytesOf msg ++ drop (length (bytesOf msg)) buffer)
     buffer
+
+pub write-told : (msg : LinkMsg) (buffer : List ℕ) → writtenTold (writeOf msg buffer) ≡ toldBy (writeVerdict msg (length buffer)) (length (bytesOf msg) ∷ [])
+unfolding writeOf writeVerdict
+write-told msg buffer =
+    cases (writable msg)
+    (λ t. cases (leb (length (bytesOf msg)) (length buffer)) (λ u. simp (t, u)) (λ u. simp (t, u)))
+    (λ t. simp t)
 
 -- What the private functions of src/writing.rt say to each other: a message is its head and then its test data
 -- (`bytes-parted` of proofs/Parting).

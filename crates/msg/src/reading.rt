@@ -7,7 +7,7 @@ ghost use mathlib.Core.Path.{_≡_};
 ghost use Prim.Native.Nat.{_≤_};
 ghost use lib.ListN.{getD};
 ghost use Rattle.seq.specs.Numbers.{seqOf};
-ghost use Rattle.msg.specs.Reading.{bad, reasons, blocks, numberAt, exactly, opensWith, readHandshake, readAlone, readRefused, readConsumed, readTestData, readSetBlock, readKind, readOf};
+ghost use Rattle.msg.specs.Reading.{bad, reasons, blocks, numberAt, exactly, opensWith, readHandshake, readAlone, readRefused, readConsumed, readTestData, readSetBlock, readKind, readOf, readingTold, readTold};
 
 // What reading answers.
 pub enum Reading {
@@ -188,6 +188,7 @@ fn read_kind(kind: u8, body: &[u8]) -> Reading
 // Reads one message from all of bytes.
 pub fn read(bytes: &[u8]) -> Reading
     ensures { λ r. ⌜ r ≡ readOf (now (bytes .entry)) ⌝ }
+    ensures { λ r. ⌜ readingTold r ≡ readTold (now (bytes .entry)) ⌝ }
 {
     if bytes.len() == 0 {
         return Reading::No(Refusal::Bytes);

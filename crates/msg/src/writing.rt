@@ -8,8 +8,9 @@ ghost use mathlib.Core.Bool.{true, false};
 ghost use mathlib.Core.List.{_∷_, [], _++_};
 ghost use lib.ListN.{length};
 ghost use Prim.Native.Nat.{_%_};
-ghost use Rattle.msg.specs.Messages.{be32, pattern, reasonByte, blockByte};
-ghost use Rattle.msg.specs.Writing.{Parted, writable, headOf, sizeOf, writeOf, bufferOf};
+ghost use Rattle.msg.specs.Messages.{be32, pattern, reasonByte, blockByte, bytesOf};
+ghost use Rattle.msg.specs.Writing.{Parted, writable, headOf, sizeOf, writtenTold, writeVerdict, writeOf, bufferOf};
+ghost use Rattle.refusal.specs.Answers.{toldBy};
 
 // What writing answers: how many bytes the message has, now at the buffer's start.
 pub enum Written {
@@ -158,6 +159,7 @@ fn fill(part: &mut [u8])
 // Writes a message to the start of the buffer.
 pub fn write(msg: LinkMsg, buffer: &mut [u8]) -> Written
     ensures { λ r. ⌜ r ≡ writeOf msg (now (buffer .entry)) ⌝ }
+    ensures { λ r. ⌜ writtenTold r ≡ toldBy (writeVerdict msg (length (now (buffer .entry)))) (length (bytesOf msg) ∷ []) ⌝ }
     ensures { λ _. ⌜ now (buffer .exit) ≡ bufferOf msg (now (buffer .entry)) ⌝ }
 {
     let parts = parts_of(msg);

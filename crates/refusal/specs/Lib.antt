@@ -1,3 +1,4 @@
 pub mod Tests
 pub mod Refusals
 pub mod Verdicts
+pub mod Answers

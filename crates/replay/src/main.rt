@@ -12,24 +12,26 @@ use replaying::close;
 use replaying::feed;
 use replaying::write_line;
 
-// A replay, and how many bytes of an unfinished line are carried.
+// A replay, how many bytes of an unfinished line are carried, and whether every answer could be written.
 struct Going {
     replay: Replay,
     count: usize,
+    is_written: bool,
 }
 
-fn show(answer: Answer) {
+// Writes an answer's line, and says whether it could be written.
+fn show(answer: Answer) -> bool {
     match answer {
-        Answer::Nothing => {}
+        Answer::Nothing => true,
         Answer::Line(number, next) => {
             let mut text = [0u8; 12];
             write_line(number, next, &mut text);
-            io::write_all(STDOUT_FILENO, &text);
+            io::write_all(STDOUT_FILENO, &text)
         }
     }
 }
 
-// Answers the lines that end in a piece of the input.
+// Answers the lines that end in a piece of the input, up to the first answer that cannot be written.
 fn answer_piece(going: Going, store: &mut [u8], line: &mut [u8; MAX_LINE], piece: &[u8]) -> Going {
     let mut replay = going.replay;
     let mut count = going.count;
@@ -37,26 +39,45 @@ fn answer_piece(going: Going, store: &mut [u8], line: &mut [u8; MAX_LINE], piece
     while at < piece.len() {
         let fed = feed(replay, store, line, count, piece, at);
         let answer = fed.answer;
-        show(answer);
         replay = fed.replay;
         count = fed.count;
         at = fed.at;
+        if !show(answer) {
+            return Going {
+                replay,
+                count,
+                is_written: false,
+            };
+        }
     }
-    Going { replay, count }
+    Going {
+        replay,
+        count,
+        is_written: true,
+    }
 }
 
-fn finish(going: Going, store: &mut [u8], line: &[u8; MAX_LINE]) {
+// The end of the input: whether its last answer could be written.
+fn finish(going: Going, store: &mut [u8], line: &[u8; MAX_LINE]) -> bool {
     let replay = going.replay;
     let last = close(replay, store, line, going.count);
     let answer = last.answer;
-    show(answer);
+    show(answer)
 }
 
-// What one read of the input found.
+// What one read of the input led to.
 enum Found {
     Piece,
     End,
-    Failure,
+    Unread,
+    Unwritten,
+}
+
+fn written_as(is_written: bool, found: Found) -> Found {
+    if is_written {
+        return found;
+    }
+    Found::Unwritten
 }
 
 struct Turn {
@@ -69,49 +90,58 @@ fn answer_some(going: Going, store: &mut [u8], line: &mut [u8; MAX_LINE]) -> Tur
     let got = libc::read(STDIN_FILENO, &mut buffer);
     if got < 0 {
         return Turn {
-            found: Found::Failure,
+            found: Found::Unread,
             going,
         };
     }
     if got == 0 {
-        finish(going, store, line);
+        let last = finish(going, store, line);
         return Turn {
-            found: Found::End,
+            found: written_as(last, Found::End),
             going,
         };
     }
     let n = io::count(got, &buffer);
     let next = answer_piece(going, store, line, &buffer[..n]);
     Turn {
-        found: Found::Piece,
+        found: written_as(next.is_written, Found::Piece),
         going: next,
     }
 }
 
-// Replays standard input to its end, and answers whether all of it could be read. A proved loop has to end, so this one counts its
-// turns down, from a number that no run uses up.
-fn replay_input(store: &mut [u8], line: &mut [u8; MAX_LINE]) -> bool {
+// Replays standard input, and answers how that ended. A proved loop has to end, so this one counts its turns down, from a number that
+// no run uses up.
+fn replay_input(store: &mut [u8], line: &mut [u8; MAX_LINE]) -> Found {
     let replay = begin();
-    let mut going = Going { replay, count: 0 };
+    let mut going = Going {
+        replay,
+        count: 0,
+        is_written: true,
+    };
     let mut turns = u64::MAX;
     while turns > 0 {
         let turn = answer_some(going, store, line);
         let found = turn.found;
         match found {
             Found::Piece => {}
-            Found::End => return true,
-            Found::Failure => return false,
+            Found::End | Found::Unread | Found::Unwritten => return found,
         }
         going = turn.going;
         turns -= 1;
     }
-    true
+    Found::End
+}
+
+fn complain(what: &[u8]) {
+    io::write_all(STDERR_FILENO, what);
 }
 
 fn main() {
     let mut store = [0u8; RECEIVED_BYTES];
     let mut line = [0u8; MAX_LINE];
-    if !replay_input(&mut store, &mut line) {
-        io::write_all(STDERR_FILENO, b"replay: the input cannot be read\n");
+    match replay_input(&mut store, &mut line) {
+        Found::Piece | Found::End => {}
+        Found::Unread => complain(b"replay: standard input cannot be read\n"),
+        Found::Unwritten => complain(b"replay: standard output cannot be written\n"),
     }
 }

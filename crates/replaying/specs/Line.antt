@@ -19,21 +19,22 @@ use Rattle.msg.specs.declared.reliable.FromLink.{FromLink}
 use Rattle.msg.specs.declared.reliable.FromLink.the-variants.{Reliable, Other}
 use Rattle.msg.specs.Reliable.{fromLink}
 use Rattle.engine.specs.declared.state.State.{State}
-use Rattle.engine.specs.Answer.{outcomeNumber}
+use Rattle.engine.specs.Answer.{outcomeTold}
 use Rattle.engine.specs.Receiving.{receiveOf, receiveStore}
 use Rattle.replaying.specs.declared.session.Waiting.{Waiting}
 use Rattle.replaying.specs.declared.session.Waiting.the-variants.{Frame, Payload}
 use Rattle.replaying.specs.declared.session.Answer.the-variants as answers
 use Rattle.replaying.specs.declared.session.Replay.{Replay}
 use Rattle.replaying.specs.declared.session.Answered.{Answered}
-use Rattle.replaying.specs.Digits.{spells, spelt, frameOf, frame-long}
+use Rattle.text.specs.HexRun.{spells, spelt}
+use Rattle.replaying.specs.Digits.{frameOf, frame-long}
 use Rattle.replaying.specs.Taking.{ended}
 
 -- a message that reaches the engine, over link 0; the answer is the refusal's number, or 0
 unfoldable pub received : State → ℕ → ReliableMsg → Seq → ℕ → Answered
 unfolding ended
 received s store msg seq len =
-    ended (outcomeNumber (receiveOf s store 0 msg (seq .0) len .outcome)) (receiveOf s store 0 msg (seq .0) len .state)
+    ended (outcomeTold (receiveOf s store 0 msg (seq .0) len .outcome) .number) (receiveOf s store 0 msg (seq .0) len .state)
 
 abbrev pub receivedStore : State → List ℕ → ReliableMsg → Seq → List ℕ → List ℕ
 receivedStore s store msg seq bytes = receiveStore s store 0 msg (seq .0) bytes

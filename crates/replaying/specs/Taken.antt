@@ -1,7 +1,8 @@
 -- Document 01, "The replay program": "acks and ready messages are taken after each frame". That ACKS and CELLS turns take all: what is asked of
 -- the state holds of every sound one. Assumes nothing.
+use Rattle.link.specs.declared.acks.OldestAck.{OldestAck}
 use mathlib.Core.Path.{_≡_, refl, sym, _∙_, ap}
-use mathlib.Core.Bool.{true, false}
+use mathlib.Core.Bool.{true, false, Bool}
 use Prim.Native.Nat.{ℕ, zero, suc, _+_, _-_, _^_, _≤_, _<_}
 use native.Mathlib.Omega.{arith}
 use lib.Dec.{eqb}
@@ -9,10 +10,8 @@ use lib.ListN.{length, length-set}
 use lib.Seq.{getD-set-same}
 use borrow.Author.Tests.{eq-eqb, ne-eqb, eqb-false, not-true}
 use borrow.Table.Steps.{cases}
-use Rattle.refusal.specs.declared.verdict.Verdict.{Verdict}
 use Rattle.refusal.specs.Tests.{false-true, split}
 use Rattle.refusal.specs.declared.verdict.Verdict.the-variants as verdicts
-use Rattle.seq.specs.declared.Seq.{Seq}
 use Rattle.seq.specs.Numbers.{plus, minus}
 use Rattle.link.specs.declared.row.LinkRow.{LinkRow}
 use Rattle.link.specs.declared.acks.OldestAck.the-variants as oldest
@@ -22,26 +21,30 @@ use Rattle.engine.specs.declared.state.Held.the-variants as helds
 use Rattle.engine.specs.declared.state.Receiving.{Receiving}
 use Rattle.engine.specs.declared.state.State.{State}
 use Rattle.engine.specs.Sizes.{SLOTS, CELLS}
-use Rattle.engine.specs.Received.{expectedAt}
-use Rattle.engine.specs.Gates.{slotVerdict}
-use Rattle.engine.specs.Rows.{rowOf, row-of}
+use Rattle.engine.specs.Received.{expectedAt, isFull}
+use Rattle.engine.specs.Decide.{soundb}
+use Rattle.engine.specs.Totals.{fits, MAX_TOTAL}
+use Rattle.refusal.specs.Verdicts.{gate}
+use Rattle.engine.specs.Rows.{rowOf, row-of, slotOk}
 use Rattle.engine.specs.declared.handing_out.TakeAck.{TakeAck}
 use Rattle.engine.specs.declared.handing_out.TakeAck.the-variants as acks
 use Rattle.engine.specs.declared.handing_out.HandOut.{HandOut}
 use Rattle.engine.specs.declared.handing_out.HandOut.the-variants as ready
-use Rattle.engine.specs.HandingOut.{takeAckOf, ackAs, ackAnswer, takenAckBy, takenAckState, readyOf, handOutAs, handOutBy, dataLength, takeOf, takeVerdict, takenBy, takenState, takenRx, skipped, canSkip, passedBy}
+use Rattle.engine.specs.HandingOut.{takeAckOf, ackAs, ackAnswer, takenAckBy, takenAckState, readyOf, readyBytes, isReady, takeAckVerdict, handOutBy, dataLength, takeOf, takeVerdict, takenBy, takenState, takenRx, skipped, canSkip, passedBy}
 use Rattle.engine.specs.Fields.{withRow}
 use Rattle.replaying.specs.Taking.{isAck, isMessage, withoutAcks, withoutReady}
 
 -- ---- acks
 
-none-waiting : (v : Verdict) → isAck (ackAs v oldest.Nothing) ≡ false
-none-waiting verdicts.Pass = refl
-none-waiting (verdicts.No e) = refl
+-- where 19 shuts its gate, there is no ack
+none-waiting : (sound slot : Bool) (ack : OldestAck) → isAck (ackAs (gate sound 1 (gate slot 4 (gate false 19 verdicts.Pass))) ack) ≡ false
+none-waiting true true ack = refl
+none-waiting true false ack = refl
+none-waiting false slot ack = refl
 
 no-ack : (s : State) → rowOf s 0 .«ack_count» ≡ 0 → isAck (takeAckOf s 0 .answer) ≡ false
-unfolding takeAckOf ackAnswer oldestAck
-no-ack s e = simp (eq-eqb (rowOf s 0 .«ack_count») 0 e) (none-waiting (slotVerdict s 0))
+unfolding takeAckOf ackAnswer takeAckVerdict oldestAck
+no-ack s e = simp (eq-eqb (rowOf s 0 .«ack_count») 0 e) (none-waiting (soundb s) (slotOk s 0) oldest.Nothing)
 
 taken-by : (a : TakeAck) (s : State) → isAck a ≡ true → takenAckBy a s 0 ≡ takenAckState s 0
 taken-by (acks.Number seq) s e = refl
@@ -80,9 +83,11 @@ no-ack-left (suc n) s eight h =
 
 -- ---- ready messages
 
-none-ready : (v : Verdict) (seq : Seq) → isMessage (handOutAs v helds.Nothing seq) ≡ false
-none-ready verdicts.Pass seq = refl
-none-ready (verdicts.No e) seq = refl
+none-ready : (sound total : Bool) (rx : Receiving) → isMessage (handOutBy (gate sound 1 (gate total 9 (gate false 19 verdicts.Pass))) rx) ≡ false
+unfolding handOutBy
+none-ready true true rx = refl
+none-ready true false rx = refl
+none-ready false total rx = refl
 
 -- the two numbers are 32 bits wide
 pub record Wide (rx : Receiving) : Type 0 where
@@ -106,10 +111,10 @@ unfolding readyOf
 nothing-ready rx e = simp (eq-eqb (rx .«rx_oldest» .0) (rx .«rx_seq» .0) e)
 
 no-message : (s : State) → s .rx .«rx_oldest» .0 ≡ s .rx .«rx_seq» .0 → isMessage (takeOf s .answer) ≡ false
-unfolding takeOf handOutBy
+unfolding takeOf takeVerdict
 no-message s e =
-    ap (λ held. isMessage (handOutAs (takeVerdict s) held (s .rx .«rx_oldest»))) (nothing-ready (s .rx) e)
-    ∙ none-ready (takeVerdict s) (s .rx .«rx_oldest»)
+    let ready : isReady (s .rx) ≡ false = ap isFull (nothing-ready (s .rx) e) in
+    simp ready (none-ready (soundb s) (fits (s .rx .«rxed_reliable_consumed») (readyBytes (readyOf CELLS (s .rx))) MAX_TOTAL) (s .rx))
 
 passing : (rx : Receiving) → canSkip CELLS rx ≡ true → rx .«rx_oldest» .0 ≡ rx .«rx_seq» .0 → ⊥
 unfolding canSkip

@@ -20,7 +20,7 @@ use Rattle.msg.specs.declared.reliable.FromLink.{FromLink}
 use Rattle.msg.specs.declared.reliable.FromLink.the-variants.{Reliable, Other}
 use Rattle.msg.specs.Reliable.{fromLink}
 use Rattle.engine.specs.declared.state.State.{State}
-use Rattle.engine.specs.Answer.{outcomeNumber}
+use Rattle.engine.specs.Answer.{outcomeTold}
 use Rattle.engine.specs.Receiving.{receiveOf}
 use Rattle.replaying.specs.declared.session.Waiting.{Waiting}
 use Rattle.replaying.specs.declared.session.Waiting.the-variants.{Frame, Payload}
@@ -29,7 +29,8 @@ use Rattle.replaying.specs.declared.session.Answer.the-variants.{Nothing
 use Rattle.replaying.specs.declared.session.Replay.{Replay}
 use Rattle.replaying.specs.declared.session.Answered.{Answered}
 use Rattle.replaying.specs.Session.{beginning}
-use Rattle.replaying.specs.Digits.{spells, spelt, frameOf}
+use Rattle.text.specs.HexRun.{spells, spelt}
+use Rattle.replaying.specs.Digits.{frameOf}
 use Rattle.replaying.specs.Taking.{ended}
 use Rattle.replaying.specs.Line.{received, awaited, afterReliable, afterCarried, afterReading, afterPayload, answerAs, answerOf, storeOf, long-answer, long-store}
 use Rattle.replaying.specs.Feeding.{Told, Session, saidBy, sessionWith, lineWith, countWith, lineAnswer, lineStore, lineEnded, byteFed, fedBy, absentOf, closeOf, closeStore, fed-append, line-long, line-short, line-long-store, line-short-store, close-none, close-last, close-none-store, close-last-store}
@@ -96,7 +97,7 @@ quiet-ended number s seq e = let z : _≡_ {A = ℕ} 0 1 = cc in absurd (omega a
 
 quiet-received : (s : State) (store : ℕ) (msg : ReliableMsg) (seq : Seq) (len : ℕ) → Quiet (received s store msg seq len)
 unfolding received
-quiet-received s store msg seq len = quiet-ended (outcomeNumber (receiveOf s store 0 msg (seq .0) len .outcome)) (receiveOf s store 0 msg (seq .0) len .state)
+quiet-received s store msg seq len = quiet-ended (outcomeTold (receiveOf s store 0 msg (seq .0) len .outcome) .number) (receiveOf s store 0 msg (seq .0) len .state)
 
 quiet-awaited : (s : State) (seq : Seq) → Quiet (awaited s seq)
 unfolding Quiet

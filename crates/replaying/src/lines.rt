@@ -1,7 +1,6 @@
 // What one line does.
 use crate::digits::MAX_FRAME;
 use crate::digits::MAX_PAYLOAD;
-use crate::digits::decode;
 use crate::digits::read_frame;
 use crate::session::Answer;
 use crate::session::Answered;
@@ -16,13 +15,15 @@ use msg::ReliableMsg;
 use msg::reliable::FromLink;
 use refusal::Refusal;
 use seq::Seq;
+use text::HexRun;
+use text::read_hex;
 ghost use mathlib.Core.Path.{_≡_};
 ghost use lib.ListN.{length};
-ghost use Rattle.engine.specs.Answer.{outcomeNumber};
+ghost use Rattle.engine.specs.Answer.{outcomeTold};
 ghost use Rattle.replaying.specs.Line.{received, receivedStore, afterReliable, storeAfterReliable, afterMessage, storeAfterMessage, afterReading, storeAfterReading, afterPayload, storeAfterPayload, answerOf, storeOf};
 
 fn outcome_number(outcome: Outcome) -> u8
-    ensures { λ r. ⌜ r ≡ outcomeNumber outcome ⌝ }
+    ensures { λ r. ⌜ r ≡ outcomeTold outcome .number ⌝ }
 {
     match outcome {
         Outcome::Done => 0,
@@ -92,11 +93,10 @@ fn answer_payload(s: State, store: &mut [u8], seq: Seq, line: &[u8]) -> Answered
         return end_frame(Refusal::Bytes.number(), s);
     }
     let mut bytes = [0u8; MAX_FRAME];
-    if decode(line, &mut bytes) {
-        let n = line.len() / 2;
-        return receive_frame(s, store, ReliableMsg::Data, seq, &bytes[..n]);
-    }
-    end_frame(Refusal::Bytes.number(), s)
+    let HexRun::Count(n) = read_hex(line, &mut bytes) else {
+        return end_frame(Refusal::Bytes.number(), s);
+    };
+    receive_frame(s, store, ReliableMsg::Data, seq, &bytes[..n])
 }
 
 // Answers one line, whose bytes are given without its line feed.

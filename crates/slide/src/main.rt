@@ -20,10 +20,10 @@ fn main() {
     let mut server_sent = [0u8; SENT_BYTES];
     let mut server_received = [0u8; RECEIVED_BYTES];
     let mut chance = [1189u64; 1];
-    let mut tally = [0u64; 17];
+    let mut tally = [0u64; 18];
     let mut air = [0u8; 133120];
     let mut row = [b' '; 41];
-    map::heading();
+    map::heading(&mut tally);
     let empty = journey::run(
         &mut scanner_sent,
         &mut scanner_received,
@@ -34,5 +34,5 @@ fn main() {
         &mut air,
         &mut row,
     );
-    map::report(&tally, empty);
+    map::report(&mut tally, empty);
 }

@@ -1,5 +1,5 @@
 // What happened, counted by kind.
-pub type Tally = [u64; 17];
+pub type Tally = [u64; 18];
 
 // Frames put on a link, and the misfortunes that struck them.
 pub const FRAMES: usize = 0;
@@ -44,6 +44,9 @@ pub const TOLD: usize = 15;
 // What the map is to say beside its next row.
 pub const EVENT: usize = 16;
 
+// Parts of the map and the report that could not be written.
+pub const UNWRITTEN: usize = 17;
+
 pub const DIED: u64 = 1;
 
 pub const RETURNED: u64 = 2;
@@ -52,7 +55,7 @@ pub const WRAPPED: u64 = 3;
 
 // One more; nothing here happens a million times.
 pub fn count(tally: &mut Tally, what: usize) {
-    if what < 17 {
+    if what < 18 {
         let n = tally[what];
         if n < 1_000_000 {
             tally[what] = n + 1;

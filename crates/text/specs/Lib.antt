@@ -1,3 +1,4 @@
 pub mod Hex
+pub mod HexRun
 pub mod Decimal
 pub mod Put

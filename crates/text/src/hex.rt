@@ -1,6 +1,9 @@
 // Hexadecimal digits, in lower case alone.
 ghost use mathlib.Core.Path.{_≡_};
+ghost use Prim.Native.Nat.{_+_, _*_, _<_};
+ghost use lib.ListN.{length, getD};
 ghost use Rattle.text.specs.Hex.{hexValue, hexDigit, hexByte};
+ghost use Rattle.text.specs.HexRun.{readHexOf, readHexIn};
 
 // What a digit is worth, 0 to 15, and 16 for every byte that is no digit.
 pub fn hex_value(b: u8) -> u8
@@ -47,23 +50,35 @@ pub enum HexRun {
     Bad,
 }
 
+// The byte that the pair of digits number i spells.
+fn pair_at(run: &[u8], i: usize) -> HexByte
+    requires { ⌜ i * 2 + 1 < length (now run) ⌝ }
+    ensures { λ r. ⌜ r ≡ hexByte (getD (now (run .entry)) (i * 2) 0) (getD (now (run .entry)) (i * 2 + 1) 0) ⌝ }
+{
+    hex_byte(run[i * 2], run[i * 2 + 1])
+}
+
 // Reads all of a run, two digits a byte. Bad where a byte is no digit, one digit is left over, or the buffer is too short; the
-// bytes before a bad one may then have been written.
-pub fn read_hex(run: &[u8], into: &mut [u8]) -> HexRun {
+// bytes before a bad pair have then been written.
+pub fn read_hex(run: &[u8], into: &mut [u8]) -> HexRun
+    ensures { λ r. ⌜ r ≡ readHexOf (now (run .entry)) (length (now (into .entry))) ⌝ }
+    ensures { λ _. ⌜ now (into .exit) ≡ readHexIn (now (run .entry)) (now (into .entry)) ⌝ }
+{
     let n = run.len() / 2;
-    if run.len() % 2 != 0 {
-        return HexRun::Bad;
-    }
     if into.len() < n {
         return HexRun::Bad;
     }
     let mut i: usize = 0;
     while i < n {
-        let HexByte::Byte(b) = hex_byte(run[2 * i], run[2 * i + 1]) else {
+        let pair = pair_at(run, i);
+        let HexByte::Byte(b) = pair else {
             return HexRun::Bad;
         };
         into[i] = b;
         i += 1;
+    }
+    if run.len() % 2 != 0 {
+        return HexRun::Bad;
     }
     HexRun::Count(n)
 }

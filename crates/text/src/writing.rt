@@ -3,7 +3,7 @@
 use crate::hex::hex_digit;
 ghost use mathlib.Core.Path.{_≡_};
 ghost use lib.ListN.{length};
-ghost use Rattle.text.specs.Put.{putEnd, putIn, PutDecimal};
+ghost use Rattle.text.specs.Put.{putEnd, putIn, decimalText};
 ghost use Rattle.text.specs.Hex.{hexPair};
 
 pub fn put(run: &[u8], out: &mut [u8], at: usize) -> usize
@@ -23,7 +23,8 @@ pub fn put(run: &[u8], out: &mut [u8], at: usize) -> usize
 
 // A number in decimal.
 pub fn put_decimal(n: u64, out: &mut [u8], at: usize) -> usize
-    ensures { λ r. ⌜ PutDecimal n (now (out .entry)) at r (now (out .exit)) ⌝ }
+    ensures { λ r. ⌜ r ≡ putEnd (decimalText n) (now (out .entry)) at ⌝ }
+    ensures { λ _. ⌜ now (out .exit) ≡ putIn (decimalText n) (now (out .entry)) at ⌝ }
 {
     let mut digits = [0u8; 20];
     let count = io::decimal(n, &mut digits);

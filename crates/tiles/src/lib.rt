@@ -1,9 +1,7 @@
 // The tiles of a slide as bytes, and whether bytes are those of a tile.
 ghost use mathlib.Core.Path.{_≡_};
-ghost use mathlib.Core.Bool.{true};
 ghost use Prim.Native.Nat.{_<_};
-ghost use lib.ListN.{take};
-ghost use Rattle.tiles.specs.Tiles.{tileLength, tileByte, tile};
+ghost use Rattle.tiles.specs.Tiles.{tileLength, tileByte, tilePadded, isTile};
 
 // A slide is 41 tiles wide and 29 high, numbered row by row.
 pub const COLUMNS: u16 = 41;
@@ -42,7 +40,7 @@ fn byte(shade: u8, n: u16, j: usize) -> u8
 
 // Tile n's bytes, and zeros behind them.
 pub fn bytes_of(shade: u8, n: u16) -> [u8; MAX_TILE]
-    ensures { λ r. ⌜ take (tileLength n) r ≡ tile shade n ⌝ }
+    ensures { λ r. ⌜ r ≡ tilePadded shade n ⌝ }
 {
     let len = length(n);
     let mut out = [0u8; MAX_TILE];
@@ -56,8 +54,7 @@ pub fn bytes_of(shade: u8, n: u16) -> [u8; MAX_TILE]
 
 // Whether these bytes are tile n, all of it and nothing else.
 pub fn is_tile(shade: u8, n: u16, bytes: &[u8]) -> bool
-    ensures { λ r. ⌜ (r ≡ true → now (bytes .entry) ≡ tile shade n) ⌝ }
-    ensures { λ r. ⌜ (now (bytes .entry) ≡ tile shade n → r ≡ true) ⌝ }
+    ensures { λ r. ⌜ r ≡ isTile shade n (now (bytes .entry)) ⌝ }
 {
     let len = length(n);
     if bytes.len() != len {

@@ -4,7 +4,7 @@
 //! oracle/README.md lists these places.
 
 use super::*;
-use crate::script::{Asked, Call};
+use crate::script::{Asked, Call, SLOTS};
 use std::{
     any::Any,
     fmt::Write,
@@ -150,7 +150,8 @@ impl Driver {
             Call::Take => self.take(),
             Call::TakeAck { slot } => self.take_ack(slot),
             Call::Due => format!("0 {}", self.end().is_consume_ack_required() as u8),
-            Call::Slow => self.slow(),
+            // The original looks at its own links, so that no run of another length is asked of it.
+            Call::Slow { rows } => if rows == SLOTS { self.slow() } else { "4".into() },
             Call::Dump => self.dump(),
             Call::Read { bytes } => match read(&bytes, self.raw) {
                 Ok(message) => format!("0 {}", words(&message)),

@@ -11,6 +11,9 @@ use crate::{
 const MOST_BYTES: usize = 2_048;
 const MOST_LENT: u32 = 65_537;
 
+/// The rows of the links. `slow` lends as many, or as it says, up to one more.
+pub(crate) const SLOTS: usize = 8;
+
 pub(crate) enum Call {
     Fresh { start: u32, buffer: u32 },
     Add { identity: u64, roundtrip: u64, max_ping: Option<u64>, blocked: bool, unconfirmed: bool },
@@ -30,7 +33,7 @@ pub(crate) enum Call {
     Take,
     TakeAck { slot: usize },
     Due,
-    Slow,
+    Slow { rows: usize },
     Dump,
     Read { bytes: Vec<u8> },
     Write { room: usize, message: Asked },
@@ -116,7 +119,8 @@ impl Call {
             ["take"] => Self::Take,
             ["takeack", at] => Self::TakeAck { slot: slot(at)? },
             ["due"] => Self::Due,
-            ["slow"] => Self::Slow,
+            ["slow"] => Self::Slow { rows: SLOTS },
+            ["slow", rows] => Self::Slow { rows: number(rows).filter(|&rows| rows <= SLOTS + 1)? },
             ["dump"] => Self::Dump,
             ["read", data] => Self::Read { bytes: bytes(data)? },
             ["write", room, ref message @ ..] => {
@@ -198,7 +202,7 @@ fn asked(words: &[&str]) -> Option<Asked> {
         (10, [n]) => LinkMsg::SendFinish { seq: seq(n)? },
         (11, [n]) => LinkMsg::ReceiveClose { seq: seq(n)? },
         (12, [n]) => LinkMsg::ReceiveFinish { seq: seq(n)? },
-        (13, [size]) => LinkMsg::TestData { size: number(size)? },
+        (13, [size]) => LinkMsg::TestData { size: number::<u32>(size)? as usize },
         (14, [blocked]) => LinkMsg::SetBlock { blocked: flag(blocked)? },
         (15, []) => LinkMsg::Goodbye,
         (16, []) => LinkMsg::Terminate,

@@ -3,7 +3,6 @@ use mathlib.Core.Path.{_≡_, refl, ap}
 use Prim.Native.Nat.{_-_}
 use lib.ListN.{length}
 use native.Mathlib.Omega.{arith}
-use denote.Ref.{now}
 use Rattle.replaying.specs.Feeding.{session, feed-moves}
 use borrow.Author.Needs.{needs}
 use Rattle.replay.proofs.answer_piece.Statement.{statement}
@@ -24,20 +23,27 @@ feed-requires c κs = tt
 show-requires : tie.Need-show-requires Inv-loop μ-loop
 show-requires c κs = tt
 
-loop-less : tie.Need-loop-less Inv-loop μ-loop
-loop-less c =
-    let l = c .before .before .before .before .before .before .before .before .loop in
-    let moved = feed-moves (session (l .replay) (l .store) (l .line) (l .count)) (c .before .before .before .before .before .before .before .before .before .before .before .before .args .piece .now) (l .at) (c .before .before .before .before .before .before .before .loop-test .taken) in
-    omega (arith, moved, ap (λ f. f .at) (c .before .before .before .before .feed .ensures .0), c .before .before .before .before .before .before .before .loop-test .taken)
-
-loop-again : tie.Need-loop-again Inv-loop μ-loop
-loop-again c = search needs
-
 same-length : tie.Need-same-length Inv-loop μ-loop
 same-length c = search needs
 
 returns : tie.Need-returns Inv-loop μ-loop
 returns c = tt
+
+loop-less : tie.Need-loop-less Inv-loop μ-loop
+loop-less c =
+    let l = c .before .before .before .before .before .before .before .before .before .loop in
+    let test = c .before .before .before .before .before .before .before .before .loop-test .taken in
+    let moved = feed-moves (session (l .replay) (l .store) (l .line) (l .count)) (c .before .before .before .before .before .before .before .before .before .before .before .before .before .args .piece .now) (l .at) test in
+    omega (arith, moved, ap (λ f. f .at) (c .before .before .before .before .before .feed .ensures .0), test)
+
+loop-again : tie.Need-loop-again Inv-loop μ-loop
+loop-again c = search needs
+
+same-length-2 : tie.Need-same-length-2 Inv-loop μ-loop
+same-length-2 c = search needs
+
+returns-2 : tie.Need-returns-2 Inv-loop μ-loop
+returns-2 c = tt
 
 pub answer-piece-spec : {M : Type 1} → statement M
 answer-piece-spec =
@@ -48,7 +54,9 @@ answer-piece-spec =
     loop-holds
     feed-requires
     show-requires
+    same-length
+    returns
     loop-less
     loop-again
-    same-length
-    returns)
+    same-length-2
+    returns-2)

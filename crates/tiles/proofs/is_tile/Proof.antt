@@ -1,14 +1,13 @@
 -- The first i bytes are the start of the tile.
 use mathlib.Core.Path.{_≡_, refl, sym, ap, _∙_}
 use mathlib.Core.List.{List, [], _∷_, _++_}
-use mathlib.Core.Bool.{false≢true}
 use Prim.Native.Nat.{ℕ, _≤_, _<_, _-_}
 use native.Mathlib.Numerals.{add-one}
 use native.Mathlib.Omega.{arith}
 use lib.Seq.{take-suc, take-all}
 use lib.ListN.{length, take, getD}
 use Rattle.tiles.specs.Tiles.{tileLength, tileStart, tile}
-use Rattle.tiles.specs.Laws.{start-next, tile-at, length-range, tile-length}
+use Rattle.tiles.specs.Laws.{start-next, tile-at, length-range, tile-length, no-tile, tile-is}
 use Rattle.tiles.proofs.is_tile.Statement.{statement}
 use Rattle.tiles.proofs.is_tile.Tie as tie
 
@@ -22,7 +21,7 @@ length-requires : tie.Need-length-requires Inv-loop μ-loop
 length-requires c κs = tt
 
 returns : tie.Need-returns Inv-loop μ-loop
-returns c = (λ q. absurd (false≢true q), λ q. absurd (c .if1 .taken (ap length q ∙ tile-length _ _ ∙ sym (c .before .length .ensures))))
+returns c = sym (no-tile _ _ _ (λ q. c .if1 .taken (ap length q ∙ tile-length _ _ ∙ sym (c .before .length .ensures))))
 
 loop-holds : tie.Need-loop-holds Inv-loop μ-loop
 unfolding tileStart
@@ -39,7 +38,7 @@ returns-2 c =
     let l = c .before .before .before .before .loop in
     let a = c .before .before .before .before .before .before .before .before .args in
     let under : l .i < tileLength (a .n) = omega arith in
-    (λ q. absurd (false≢true q), λ q. absurd (c .if2 .taken (ap (λ (bytes : List ℕ). getD bytes (l .i) 0) q ∙ tile-at (a .shade) (a .n) (l .i) under ∙ sym (c .before .byte .ensures))))
+    sym (no-tile (a .shade) (a .n) (a .bytes .now) (λ q. c .if2 .taken (ap (λ (bytes : List ℕ). getD bytes (l .i) 0) q ∙ tile-at (a .shade) (a .n) (l .i) under ∙ sym (c .before .byte .ensures))))
 
 add-i : tie.Need-add-i Inv-loop μ-loop
 add-i c = omega (arith, length-range (c .before .before .before .before .before .before .before .before .args .n) .1)
@@ -63,7 +62,7 @@ returns-3 c =
     let l = c .before .loop in
     let a = c .before .before .before .before .before .args in
     let all : l .i ≡ tileLength (a .n) = omega arith in
-    (λ _. sym (take-all (l .i) (a .bytes .now) (omega arith)) ∙ l .inv .3 ∙ ap (tileStart (a .shade) (a .n)) all, λ _. refl)
+    sym (tile-is (a .shade) (a .n) (a .bytes .now) (sym (take-all (l .i) (a .bytes .now) (omega arith)) ∙ l .inv .3 ∙ ap (tileStart (a .shade) (a .n)) all))
 
 pub is-tile-spec : {M : Type 1} → statement M
 is-tile-spec =

@@ -1,5 +1,6 @@
 -- The gates, in the order of their numbers.
-use Rattle.engine.specs.Acking.{ackVerdict}
+use Rattle.engine.proofs.Shapes.{shaped}
+use Rattle.engine.specs.Acking.{ack-verdict-same}
 use borrow.Author.Needs.{needs}
 use Rattle.engine.proofs.acking.ack_verdict.Statement.{statement}
 use Rattle.engine.proofs.acking.ack_verdict.Tie as tie
@@ -14,8 +15,10 @@ timed-verdict-requires : tie.Need-timed-verdict-requires
 timed-verdict-requires c κs = search needs
 
 returns : tie.Need-returns
-unfolding ackVerdict
-returns c = simp (c .timed-verdict .ensures, c .before .gate .ensures, c .before .before .place-ok .ensures)
+returns c =
+    let a = c .before .before .before .before .args in
+    simp (c .timed-verdict .ensures, c .before .gate .ensures, c .before .before .place-ok .ensures)
+    (ack-verdict-same (a .s) (a .slot) (a .time) (a .seq .0) (shaped (a .s) (c .before .before .before .before .good .0)) (search needs))
 
 pub ack-verdict-spec : {M : Type 1} → statement M
 ack-verdict-spec =

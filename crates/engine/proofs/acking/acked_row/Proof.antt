@@ -1,5 +1,6 @@
 -- The mark's step, and then the packet's, where there is one.
-use Rattle.engine.specs.Acking.{ackedRow}
+use Rattle.engine.proofs.Shapes.{shaped}
+use Rattle.engine.specs.Acking.{ackedRow, ack-cell}
 use mathlib.Core.Path.{sym, _∙_}
 use borrow.Author.Tests.{not-true, not-false}
 use borrow.Author.Needs.{needs}
@@ -27,7 +28,11 @@ settle-row-requires c κs = search needs
 
 returns-2 : tie.Need-returns-2
 unfolding ackedRow
-returns-2 c = simp (sym (c .before .before .before .in-table .ensures) ∙ not-false (c .before .before .before .in-table .result) (c .before .before .if1 .left), c .settle-row .ensures, c .before .packet-of .ensures, c .before .before .before .before .before .mark-acked .ensures, c .before .before .before .before .before .before .row-of .ensures)
+returns-2 c =
+    let a = c .before .before .before .before .before .before .before .args in
+    let here = sym (c .before .before .before .in-table .ensures) ∙ not-false (c .before .before .before .in-table .result) (c .before .before .if1 .left) in
+    let cell = c .before .packet-of .ensures ∙ ack-cell (a .s) (a .slot) (a .time) (a .seq .0) (shaped (a .s) (c .before .before .before .before .before .before .before .good .0)) (c .before .before .before .before .before .before .before .good .1 .1 .1 .0 .1 .1 .0 .1) (c .before .before .before .before .before .before .before .pre) here in
+    simp (here, c .settle-row .ensures, cell, c .before .before .before .before .before .mark-acked .ensures, c .before .before .before .before .before .before .row-of .ensures)
 
 pub acked-row-spec : {M : Type 1} → statement M
 acked-row-spec =

@@ -1,5 +1,5 @@
 -- By whether the table holds the number; in a sound state what waits to be consumed stays small.
-use Rattle.engine.specs.Acking.{ackedTx, ack-fits}
+use Rattle.engine.specs.Acking.{ackedTx, ack-fits, ack-cell, ack-sound}
 use mathlib.Core.Path.{sym, _∙_}
 use borrow.Author.Tests.{not-true, not-false}
 use borrow.Author.Needs.{needs}
@@ -19,14 +19,18 @@ packet-of-requires c κs = search needs
 
 settle-tx-requires : tie.Need-settle-tx-requires
 settle-tx-requires c κs =
-    let st = c .before .before .before .before in
-    let a = st .args in
-    rw (c .packet-of .ensures)
-    (ack-fits (a .s) (a .slot) (a .time) (a .seq .0) (shaped (a .s) (st .good .0)) (search needs) (st .pre) (sym (c .before .before .in-table .ensures) ∙ not-false (c .before .before .in-table .result) (c .before .if1 .left)))
+    let a = c .before .before .before .before .args in
+    let here = sym (c .before .before .in-table .ensures) ∙ not-false (c .before .before .in-table .result) (c .before .if1 .left) in
+    let cell = c .packet-of .ensures ∙ ack-cell (a .s) (a .slot) (a .time) (a .seq .0) (shaped (a .s) (c .before .before .before .before .good .0)) (c .before .before .before .before .good .1 .1 .1 .0 .1 .1 .0 .1) (c .before .before .before .before .pre) here in
+    (rw cell (ack-fits (a .s) (a .slot) (a .time) (a .seq .0) (shaped (a .s) (c .before .before .before .before .good .0)) (c .before .before .before .before .good .1 .1 .1 .0 .1 .1 .0 .1) (c .before .before .before .before .pre) here), ack-sound (a .s) (a .slot) (a .time) (a .seq .0) (c .before .before .before .before .pre) .packet-count)
 
 returns-2 : tie.Need-returns-2
 unfolding ackedTx
-returns-2 c = simp (sym (c .before .before .before .in-table .ensures) ∙ not-false (c .before .before .before .in-table .result) (c .before .before .if1 .left), c .settle-tx .ensures, c .before .packet-of .ensures)
+returns-2 c =
+    let a = c .before .before .before .before .before .args in
+    let here = sym (c .before .before .before .in-table .ensures) ∙ not-false (c .before .before .before .in-table .result) (c .before .before .if1 .left) in
+    let cell = c .before .packet-of .ensures ∙ ack-cell (a .s) (a .slot) (a .time) (a .seq .0) (shaped (a .s) (c .before .before .before .before .before .good .0)) (c .before .before .before .before .before .good .1 .1 .1 .0 .1 .1 .0 .1) (c .before .before .before .before .before .pre) here in
+    simp (here, c .settle-tx .ensures, cell)
 
 pub acked-tx-spec : {M : Type 1} → statement M
 acked-tx-spec =

@@ -1,5 +1,5 @@
 -- Each arm knows which status it is in.
-use Rattle.engine.specs.Acking.{settledTxAs}
+use Rattle.engine.specs.Acking.{settledTxAs, receivedTx}
 use borrow.Author.Tests.{eq-eqb, ne-eqb}
 use borrow.Author.Needs.{needs}
 use mathlib.Core.Path.{sym}
@@ -14,7 +14,7 @@ unfolding settledTxAs
 returns c = simp (c .before .before .before .status .given .1, ne-eqb _ _ (λ e. c .if1 .taken (sym e)))
 
 received-tx-requires : tie.Need-received-tx-requires
-received-tx-requires c κs = search needs
+received-tx-requires c κs = c .before .before .before .before .before .pre .0
 
 enum-told : tie.Need-enum-told
 enum-told c = search needs
@@ -23,10 +23,11 @@ enum-told-2 : tie.Need-enum-told-2
 enum-told-2 c = search needs
 
 received-tx-requires-2 : tie.Need-received-tx-requires-2
-received-tx-requires-2 c κs = search needs
+received-tx-requires-2 c κs = c .before .before .pre .0
 
 requeue-requires : tie.Need-requeue-requires
-requeue-requires c κs = search needs
+unfolding receivedTx
+requeue-requires c κs = rw (c .received-tx2 .ensures) (c .before .before .before .pre .1)
 
 returns-2 : tie.Need-returns-2
 unfolding settledTxAs

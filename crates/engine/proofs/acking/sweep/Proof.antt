@@ -1,11 +1,10 @@
 -- The sweep's three findings take their places.
 use Rattle.engine.specs.Acking.{sweptTx}
-use borrow.Author.Needs.{needs}
 use Rattle.engine.proofs.acking.sweep.Statement.{statement}
 use Rattle.engine.proofs.acking.sweep.Tie as tie
 
 swept-requires : tie.Need-swept-requires
-swept-requires c κs = search needs
+swept-requires c κs = c .pre
 
 returns : tie.Need-returns
 unfolding sweptTx

@@ -16,18 +16,12 @@ Inv-loop tx left₀ last₀ held₀ at₀ left last held at = (at < PACKETS) × 
 abbrev μ-loop : tie.MeasureT-loop
 μ-loop tx left₀ last₀ held₀ at₀ left last held at = left
 
-cast-sub : tie.Need-cast-sub Inv-loop μ-loop
-cast-sub c = omega arith
-
-sub-requires : tie.Need-sub-requires Inv-loop μ-loop
-sub-requires c κs = tt
-
-cast-at : tie.Need-cast-at Inv-loop μ-loop
-cast-at c = omega arith
+first-cell-requires : tie.Need-first-cell-requires Inv-loop μ-loop
+first-cell-requires c κs = c .before .pre
 
 loop-holds : tie.Need-loop-holds Inv-loop μ-loop
 unfolding sweepOf
-loop-holds c = (omega arith, simp (c .before .sub .ensures))
+loop-holds c = (c .first-cell .ensures .1, simp (c .first-cell .ensures .0))
 
 mul-p : tie.Need-mul-p Inv-loop μ-loop
 mul-p c = omega arith
@@ -40,10 +34,9 @@ is-received-requires c κs = tt
 
 returns : tie.Need-returns Inv-loop μ-loop
 returns c =
-    let cells = c .before .before .before .before .before .before .before .before .before .before .args .t1 .«txed_packets» in
     let l = c .before .before .before .before .before .loop in
     let r = sym (c .before .is-received .ensures) ∙ not-true (c .before .is-received .result) (c .if1 .taken) in
-    sym (sweep-stop cells (l .at) (l .left) (l .last) (l .held) (c .before .before .before .before .loop-test .taken) r) ∙ l .inv .1
+    sym (sweep-stop (c .before .before .before .before .before .before .before .before .args .t1 .«txed_packets») (l .at) (l .left) (l .last) (l .held) (c .before .before .before .before .loop-test .taken) r) ∙ l .inv .1
 
 less-requires : tie.Need-less-requires Inv-loop μ-loop
 less-requires c κs = tt
@@ -59,15 +52,16 @@ loop-less c = omega arith
 
 loop-again : tie.Need-loop-again Inv-loop μ-loop
 loop-again c =
-    let cells = c .before .before .before .before .before .before .before .before .before .before .before .before .args .t1 .«txed_packets» in
     let l = c .before .before .before .before .before .before .before .loop in
-    let r = sym (c .before .before .before .is-received .ensures) ∙ not-false (c .before .before .before .is-received .result) (c .before .before .if1 .left) in
-    (rw (c .next-cell .ensures) (next-cell-lt PACKETS (l .at) (omega arith)), simp (c .next-cell .ensures, c .before .less .ensures) (sym (sweep-on cells (l .at) (l .left) (l .last) (l .held) (c .before .before .before .before .before .before .loop-test .taken) r) ∙ l .inv .1))
+    let r = sym (c .before .before .before .is-received .ensures) ∙ not-false (c .before .before .before .is-received .result) (c .before .before .if1 .left) in (
+      rw (c .next-cell .ensures) (next-cell-lt PACKETS (l .at) (omega arith)),
+      simp (c .next-cell .ensures, c .before .less .ensures) (sym (sweep-on (c .before .before .before .before .before .before .before .before .before .before .args .t1 .«txed_packets») (l .at) (l .left) (l .last) (l .held) (c .before .before .before .before .before .before .loop-test .taken) r) ∙ l .inv .1),
+    )
 
 returns-2 : tie.Need-returns-2 Inv-loop μ-loop
 returns-2 c =
     let l = c .before .loop in
-    sym (sweep-end (c .before .before .before .before .before .before .args .t1 .«txed_packets») (l .at) (l .left) (l .last) (l .held) (c .loop-test .left)) ∙ l .inv .1
+    sym (sweep-end (c .before .before .before .before .args .t1 .«txed_packets») (l .at) (l .left) (l .last) (l .held) (c .loop-test .left)) ∙ l .inv .1
 
 pub swept-spec : {M : Type 1} → statement M
 swept-spec =
@@ -75,9 +69,7 @@ swept-spec =
     (tie.spec
     Inv-loop
     μ-loop
-    cast-sub
-    sub-requires
-    cast-at
+    first-cell-requires
     loop-holds
     mul-p
     element-copy-out-p

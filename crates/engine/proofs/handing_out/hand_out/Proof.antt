@@ -1,4 +1,4 @@
--- By the verdict, and then by what is ready.
+-- By the verdict.
 use Rattle.engine.specs.HandingOut.{handOutBy}
 use borrow.Author.Needs.{needs}
 use Rattle.engine.proofs.handing_out.hand_out.Statement.{statement}
@@ -13,8 +13,11 @@ enum-told c = search needs
 oldest-ready-requires : tie.Need-oldest-ready-requires
 oldest-ready-requires c κs = search needs
 
-held-out-requires : tie.Need-held-out-requires
-held-out-requires c κs = search needs
+msg-in-requires : tie.Need-msg-in-requires
+msg-in-requires c κs = search needs
+
+held-bytes-requires : tie.Need-held-bytes-requires
+held-bytes-requires c κs = search needs
 
 returns : tie.Need-returns
 unfolding handOutBy
@@ -22,7 +25,7 @@ returns c = simp (c .before .verdict .given .1)
 
 returns-2 : tie.Need-returns-2
 unfolding handOutBy
-returns-2 c = simp (c .before .before .enum-told .given .1, c .held-out .ensures, c .before .oldest-ready .ensures)
+returns-2 c = simp (c .before .before .before .before .enum-told .given .1, c .before .before .msg-in .ensures, c .held-bytes .ensures, c .before .before .before .oldest-ready .ensures)
 
 pub hand-out-spec : {M : Type 1} → statement M
 hand-out-spec =
@@ -31,6 +34,7 @@ hand-out-spec =
     enum-known-verdict
     enum-told
     oldest-ready-requires
-    held-out-requires
+    msg-in-requires
+    held-bytes-requires
     returns
     returns-2)

@@ -1,6 +1,5 @@
 -- What is shown lies within the store.
-use Rattle.engine.specs.HandingOut.{shownOf, shown-within, part-same}
-use Prim.Native.Nat.{_-_}
+use Rattle.engine.specs.HandingOut.{shownOf, shown-within, part-same, shownAt}
 use mathlib.Core.Path.{sym, _∙_}
 use native.Mathlib.Omega.{arith}
 use borrow.Author.Needs.{needs}
@@ -42,15 +41,19 @@ part-result-start : tie.Need-part-result-start
 part-result-start c = search needs
 
 part-result-end : tie.Need-part-result-end
-part-result-end c = let w = shown-within _ _ _ _ _ (shaped _ (c .before .before .before .before .before .before .before .good .0)) (sym (c .before .before .before .before .before .showing .ensures) ∙ c .before .before .before .answer .given .1) in omega (arith, w, c .data-length .ensures)
+part-result-end c = let w = shown-within _ _ _ _ _ (shaped _ (c .before .before .before .before .before .before .before .good .0)) (sym (c .before .before .before .before .before .showing .ensures .0) ∙ c .before .before .before .answer .given .1) in omega (arith, w, c .data-length .ensures)
 
 returns : tie.Need-returns
-unfolding shownOf
-returns c = simp (sym (c .before .before .before .showing .ensures), c .before .enum-told .given .1)
+unfolding shownOf shownAt
+returns c =
+    let e = sym (c .before .before .before .showing .ensures .0) ∙ c .before .enum-told .given .1 in
+    (simp e, simp e)
 
 returns-2 : tie.Need-returns-2
-unfolding shownOf
-returns-2 c = simp (sym (c .before .before .before .before .before .before .showing .ensures), c .before .before .before .before .answer .given .1, c .before .data-length .ensures, part-same)
+unfolding shownOf shownAt
+returns-2 c =
+    let e = sym (c .before .before .before .before .before .before .showing .ensures .0) ∙ c .before .before .before .before .answer .given .1 in
+    (simp (e, c .before .data-length .ensures, part-same), simp e)
 
 pub show-spec : {M : Type 1} → statement M
 show-spec =

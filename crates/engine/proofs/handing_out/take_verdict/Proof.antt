@@ -25,10 +25,16 @@ is-sound-requires c κs = search needs
 gate-requires-2 : tie.Need-gate-requires-2
 gate-requires-2 c κs = search needs
 
+gate-requires-3 : tie.Need-gate-requires-3
+gate-requires-3 c κs = search needs
+
+is-full-requires : tie.Need-is-full-requires
+is-full-requires c κs = search needs
+
 returns : tie.Need-returns
 unfolding takeVerdict
 returns c =
-    simp (c .gate2 .ensures, c .before .is-sound .ensures, c .before .before .gate .ensures, c .before .before .before .sum-fits .ensures, c .before .before .before .before .ready-bytes .ensures, c .before .before .before .before .before .oldest-ready .ensures)
+    simp (c .gate3 .ensures, c .before .is-sound .ensures, c .before .before .gate2 .ensures, c .before .before .before .gate .ensures, c .before .before .before .before .is-full .ensures, c .before .before .before .before .before .sum-fits .ensures, c .before .before .before .before .before .before .ready-bytes .ensures, c .before .before .before .before .before .before .before .oldest-ready .ensures)
 
 pub take-verdict-spec : {M : Type 1} → statement M
 take-verdict-spec =
@@ -38,7 +44,9 @@ take-verdict-spec =
     ready-bytes-requires
     cast-sum-fits
     sum-fits-requires
+    is-full-requires
     gate-requires
-    is-sound-requires
     gate-requires-2
+    is-sound-requires
+    gate-requires-3
     returns)

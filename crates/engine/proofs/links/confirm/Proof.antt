@@ -1,4 +1,5 @@
 -- The row's own promise, inside the state.
+use Rattle.engine.specs.Answer.{told-of}
 use Rattle.engine.specs.Links.{confirmOf}
 use borrow.Author.Needs.{needs}
 use Rattle.engine.proofs.links.confirm.Statement.{statement}
@@ -21,8 +22,10 @@ change-requires c κs = search needs
 
 returns : tie.Need-returns
 unfolding confirmOf
-returns c =
-    simp (c .change .ensures, c .before .with-row .ensures, c .before .before .confirm .ensures, c .before .before .before .row-of .ensures, c .before .before .before .before .slot-verdict .ensures)
+returns c = (
+  simp (c .change .ensures, c .before .with-row .ensures, c .before .before .confirm .ensures, c .before .before .before .row-of .ensures, c .before .before .before .before .slot-verdict .ensures),
+  told-of (c .before .before .before .before .slot-verdict .result) _ (c .before .before .before .before .before .args .s) (c .before .with-row .result) (c .change .ensures) (c .before .before .before .before .slot-verdict .ensures),
+)
 
 pub confirm-spec : {M : Type 1} → statement M
 confirm-spec =

@@ -1,4 +1,5 @@
 -- The row's own promise, inside the state, and the time.
+use Rattle.engine.specs.Answer.{told-of}
 use Rattle.engine.specs.Links.{pongOf}
 use borrow.Author.Needs.{needs}
 use Rattle.engine.proofs.links.pong.Statement.{statement}
@@ -24,8 +25,10 @@ change-requires c κs = search needs
 
 returns : tie.Need-returns
 unfolding pongOf
-returns c =
-    simp (c .change .ensures, c .before .with-time .ensures, c .before .before .with-row .ensures, c .before .before .before .pong .ensures, c .before .before .before .before .row-of .ensures, c .before .before .before .before .before .timed-verdict .ensures)
+returns c = (
+  simp (c .change .ensures, c .before .with-time .ensures, c .before .before .with-row .ensures, c .before .before .before .pong .ensures, c .before .before .before .before .row-of .ensures, c .before .before .before .before .before .timed-verdict .ensures),
+  told-of (c .before .before .before .before .before .timed-verdict .result) _ (c .before .before .before .before .before .before .args .s) (c .before .with-time .result) (c .change .ensures) (c .before .before .before .before .before .timed-verdict .ensures),
+)
 
 pub pong-spec : {M : Type 1} → statement M
 pong-spec =

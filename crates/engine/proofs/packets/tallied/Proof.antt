@@ -17,7 +17,7 @@ abbrev μ-loop : tie.MeasureT-loop
 μ-loop roster time tx t₀ left₀ n₀ at₀ t left n at = left
 
 cast-sub : tie.Need-cast-sub Inv-loop μ-loop
-cast-sub c = omega arith
+cast-sub c = omega (arith, c .before .pre)
 
 sub-requires : tie.Need-sub-requires Inv-loop μ-loop
 sub-requires c κs = tt

@@ -1,32 +1,37 @@
--- What is left of the table, put on top of what was gathered, gives the same queue at each turn.
-use mathlib.Core.Path.{_≡_, sym, _∙_}
+-- What is gathered, and what the packets that are left will add, is the whole list at each turn.
+use mathlib.Core.Path.{_≡_, refl, ap}
 use Prim.Native.Nat.{_<_}
 use native.Mathlib.Omega.{arith}
-use Rattle.engine.specs.Ring.{window, next-cell-lt}
-use Rattle.engine.specs.Packets.{noPacket}
-use Rattle.engine.specs.Queue.{gatherFrom, gatherOf, gather-step, gather-none}
+use lib.ListN.{length, length-map}
+use Rattle.engine.specs.Ring.{window, window-step, window-none, window-length, next-cell-lt}
+use Rattle.engine.specs.Packets.{noPacket, packets, queuedOf}
+use Rattle.engine.specs.Queue.{Gathering, gather-turn, gather-end}
 use Rattle.engine.specs.Sizes.{PACKETS}
 use Rattle.engine.proofs.queue.gather.Statement.{statement}
 use Rattle.engine.proofs.queue.gather.Tie as tie
 
 abbrev Inv-loop : tie.InvT-loop
-Inv-loop tx g₀ left₀ at₀ g left at = (at < PACKETS) × (gatherFrom (window PACKETS noPacket (tx .«txed_packets») at left) g ≡ gatherOf tx)
+Inv-loop tx g₀ left₀ at₀ g left at = (at < PACKETS) × Gathering (tx .«resend_queue») (queuedOf (packets tx)) g (window PACKETS noPacket (tx .«txed_packets») at left)
 
 abbrev μ-loop : tie.MeasureT-loop
 μ-loop tx g₀ left₀ at₀ g left at = left
 
-cast-sub : tie.Need-cast-sub Inv-loop μ-loop
-cast-sub c = omega arith
-
-sub-requires : tie.Need-sub-requires Inv-loop μ-loop
-sub-requires c κs = tt
-
-cast-at : tie.Need-cast-at Inv-loop μ-loop
-cast-at c = omega arith
+first-cell-requires : tie.Need-first-cell-requires Inv-loop μ-loop
+first-cell-requires c κs = c .before .pre
 
 loop-holds : tie.Need-loop-holds Inv-loop μ-loop
-unfolding gatherOf
-loop-holds c = (omega arith, simp (c .before .sub .ensures))
+loop-holds c =
+    let e = c .first-cell .ensures .0 in
+    let tx = c .before .before .args .t1 in
+    let long : length (tx .«resend_queue») ≡ PACKETS = simp length-map at (c .before .before .good .0 .1 .1 .1 .1 .1 .0 .1 .0 .1) in (
+      c .first-cell .ensures .1,
+      record {
+        front = ap (λ k. queuedOf (window PACKETS noPacket (tx .«txed_packets») k (tx .«txed_count»))) e;
+        back = refl;
+        full = long;
+        room = omega (arith, c .before .before .pre, window-length PACKETS noPacket (tx .«txed_packets») (c .first-cell .result) (tx .«txed_count»));
+      },
+    )
 
 mul-p : tie.Need-mul-p Inv-loop μ-loop
 mul-p c = omega arith
@@ -35,7 +40,10 @@ element-copy-out-p : tie.Need-element-copy-out-p Inv-loop μ-loop
 element-copy-out-p c = omega arith
 
 put-requires : tie.Need-put-requires Inv-loop μ-loop
-put-requires c κs = tt
+put-requires c κs =
+    let l = c .before .before .loop in
+    let tx = c .before .before .before .before .before .args .t1 in
+    omega (arith, l .inv .1 .room, c .before .loop-test .taken, window-length PACKETS noPacket (tx .«txed_packets») (l .at) (l .left))
 
 next-cell-requires : tie.Need-next-cell-requires Inv-loop μ-loop
 next-cell-requires c κs = tt
@@ -48,16 +56,21 @@ loop-less c = omega arith
 
 loop-again : tie.Need-loop-again Inv-loop μ-loop
 loop-again c =
-    let tx = c .before .before .before .before .before .before .before .before .before .args .t1 in
-    let l = c .before .before .before .before .loop in (
-      rw (c .next-cell .ensures) (next-cell-lt PACKETS (l .at) (omega arith)),
-      simp (c .next-cell .ensures, c .before .put .ensures) (sym (gather-step (tx .«txed_packets») (l .at) (l .left) (l .g) (c .before .before .before .loop-test .taken)) ∙ l .inv .1),
+    let l = c .before .before .before .before .loop in
+    let tx = c .before .before .before .before .before .before .before .args .t1 in
+    let next = c .next-cell .ensures in
+    let step = window-step PACKETS noPacket (tx .«txed_packets») (l .at) (l .left) (c .before .before .before .loop-test .taken) in (
+      rw next (next-cell-lt PACKETS (l .at) (omega arith)),
+      rw (next, c .before .put .ensures) (gather-turn (tx .«resend_queue») (queuedOf (packets tx)) (l .g) _ _ (rw step at (l .inv .1))),
     )
 
 returns : tie.Need-returns Inv-loop μ-loop
 returns c =
     let l = c .before .loop in
-    sym (gather-none (c .before .before .before .before .before .before .args .t1 .«txed_packets») (l .at) (l .left) (l .g) (c .loop-test .left)) ∙ l .inv .1
+    let tx = c .before .before .before .before .args .t1 in
+    let none = window-none PACKETS noPacket (tx .«txed_packets») (l .at) (l .left) (c .loop-test .left) in
+    let e = gather-end (tx .«resend_queue») (queuedOf (packets tx)) (l .g) (rw none at (l .inv .1)) in
+    (ap (λ g. g .numbers) e, ap (λ g. g .count) e)
 
 pub gather-spec : {M : Type 1} → statement M
 gather-spec =
@@ -65,9 +78,7 @@ gather-spec =
     (tie.spec
     Inv-loop
     μ-loop
-    cast-sub
-    sub-requires
-    cast-at
+    first-cell-requires
     loop-holds
     mul-p
     element-copy-out-p

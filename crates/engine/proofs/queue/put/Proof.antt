@@ -1,7 +1,7 @@
--- Only a queued packet's number is put in, and only where there is room.
+-- Only a queued packet's number is put in.
 use Rattle.engine.specs.Queue.{putIn}
 use mathlib.Core.Path.{sym}
-use borrow.Author.Tests.{not-true, not-false, lt-ltb, le-ltb}
+use borrow.Author.Tests.{not-true, not-false}
 use borrow.Author.Needs.{needs}
 use Rattle.engine.proofs.queue.put.Statement.{statement}
 use Rattle.engine.proofs.queue.put.Tie as tie
@@ -13,11 +13,6 @@ returns : tie.Need-returns
 unfolding putIn
 returns c = simp (sym (c .before .is-queued .ensures), not-true (c .before .is-queued .result) (c .if1 .taken))
 
-returns-2 : tie.Need-returns-2
-unfolding putIn
-returns-2 c =
-    simp (sym (c .before .before .is-queued .ensures), not-false (c .before .before .is-queued .result) (c .before .if1 .left), le-ltb _ _ (c .if2 .taken))
-
 mul-seq : tie.Need-mul-seq
 mul-seq c = search needs
 
@@ -27,12 +22,10 @@ element-set-from-seq c = search needs
 add-out : tie.Need-add-out
 add-out c = search needs
 
-returns-3 : tie.Need-returns-3
+returns-2 : tie.Need-returns-2
 unfolding putIn
-returns-3 c =
-    simp (sym (c .before .before .is-queued .ensures), not-false (c .before .before .is-queued .result) (c .before .if1 .left), lt-ltb _ _ (c .if2 .left))
+returns-2 c = simp (sym (c .before .is-queued .ensures), not-false (c .before .is-queued .result) (c .if1 .left))
 
 pub put-spec : {M : Type 1} → statement M
 put-spec =
-    tie.close
-    (tie.spec is-queued-requires returns returns-2 mul-seq element-set-from-seq add-out returns-3)
+    tie.close (tie.spec is-queued-requires returns mul-seq element-set-from-seq add-out returns-2)

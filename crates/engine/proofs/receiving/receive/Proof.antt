@@ -29,7 +29,7 @@ unfolding receiveOf receiveStore
 returns c =
     let e = sym (c .before .before .before .before .receive-verdict .ensures) ∙ c .before .before .enum-told .given .1 in
     let r = sym (c .before .before .before .before .before .is-repeat .ensures) ∙ c .before .if1 .taken in
-    (simp e (simp (r, c .repeated-state .ensures)), simp e (simp r))
+    (simp e (simp (r, c .repeated-state .ensures)), (simp e, simp e (simp r)))
 
 cast-start : tie.Need-cast-start
 cast-start c = search needs
@@ -71,7 +71,7 @@ returns-2 : tie.Need-returns-2
 unfolding receiveOf receiveStore
 returns-2 c =
     let e = sym (c .before .before .before .receive-verdict .ensures) ∙ c .before .verdict .given .1 in
-    (simp e, simp e)
+    (simp e, (simp e, simp e))
 
 same-length : tie.Need-same-length
 same-length c = search needs
@@ -82,7 +82,7 @@ returns-3 c =
     let a = c .before .before .before .before .before .before .before .before .before .before .before .before .before .before .args in
     let e = sym (c .before .before .before .before .before .before .before .before .before .receive-verdict .ensures) ∙ c .before .before .before .before .before .before .before .enum-told .given .1 in
     let r = sym (c .before .before .before .before .before .before .before .before .before .before .is-repeat .ensures) ∙ c .before .before .before .before .before .before .if1 .left in
-    (simp e (simp (r, c .received-state .ensures)), simp e (simp r (mid-copied (now (a .store)) (now (a .payload)) _ (cellStart CELLS (a .seq .0)) (c .before .before .before .copy .ensures .1))))
+    (simp e (simp (r, c .received-state .ensures)), (simp e, simp e (simp r (mid-copied (now (a .store)) (now (a .payload)) _ (cellStart CELLS (a .seq .0)) (c .before .before .before .copy .ensures .1)))))
 
 pub receive-spec : {M : Type 1} → statement M
 receive-spec =

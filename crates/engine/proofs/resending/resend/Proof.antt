@@ -1,6 +1,7 @@
 -- By the verdict.
+use Rattle.engine.proofs.Shapes.{shaped}
 use mathlib.Core.Path.{sym, _∙_}
-use Rattle.engine.specs.Resending.{resendOf}
+use Rattle.engine.specs.Resending.{resendOf, resend-cell}
 use borrow.Author.Needs.{needs}
 use Rattle.engine.proofs.resending.resend.Statement.{statement}
 use Rattle.engine.proofs.resending.resend.Tie as tie
@@ -22,11 +23,15 @@ resent-state-requires c κs = sym (c .before .before .before .before .resend-ver
 
 returns : tie.Need-returns
 unfolding resendOf
-returns c = simp (sym (c .before .before .before .resend-verdict .ensures) ∙ c .before .verdict .given .1)
+returns c = let e = sym (c .before .before .before .resend-verdict .ensures) ∙ c .before .verdict .given .1 in (simp e, simp e)
 
 returns-2 : tie.Need-returns-2
 unfolding resendOf
-returns-2 c = simp (sym (c .before .before .before .before .before .resend-verdict .ensures) ∙ c .before .before .before .enum-told .given .1, c .resent-state .ensures, c .before .packet-of .ensures)
+returns-2 c =
+    let a = c .before .before .before .before .before .before .args in
+    let e = sym (c .before .before .before .before .before .resend-verdict .ensures) ∙ c .before .before .before .enum-told .given .1 in
+    let cell = c .before .packet-of .ensures ∙ resend-cell (a .s) (a .slot) (a .time) (a .seq .0) (shaped (a .s) (c .before .before .before .before .before .before .good .0)) (c .before .before .before .before .before .before .good .1 .1 .1 .0 .1 .1 .0 .1) e in
+    (simp (e, c .resent-state .ensures, cell), simp (e, cell))
 
 pub resend-spec : {M : Type 1} → statement M
 resend-spec =

@@ -1,5 +1,6 @@
 -- The gates, in the order of their numbers.
-use Rattle.engine.specs.Resending.{resendVerdict}
+use Rattle.engine.proofs.Shapes.{shaped}
+use Rattle.engine.specs.Resending.{resend-same}
 use borrow.Author.Needs.{needs}
 use Rattle.engine.proofs.resending.resend_verdict.Statement.{statement}
 use Rattle.engine.proofs.resending.resend_verdict.Tie as tie
@@ -32,9 +33,10 @@ timed-verdict-requires : tie.Need-timed-verdict-requires
 timed-verdict-requires c κs = search needs
 
 returns : tie.Need-returns
-unfolding resendVerdict
 returns c =
+    let a = c .before .before .before .before .before .before .before .before .before .before .args in
     simp (c .timed-verdict .ensures, c .before .gate2 .ensures, c .before .before .gate .ensures, c .before .before .before .last-link .ensures, c .before .before .before .before .row-of .ensures, c .before .before .before .before .before .both .ensures, c .before .before .before .before .before .before .is-queued .ensures, c .before .before .before .before .before .before .before .packet-of .ensures, c .before .before .before .before .before .before .before .before .in-table .ensures)
+    (resend-same (a .s) (a .slot) (a .time) (a .seq .0) (shaped (a .s) (c .before .before .before .before .before .before .before .before .before .before .good .0)) (c .before .before .before .before .before .before .before .before .before .before .good .1 .1 .1 .0 .1 .1 .0 .1))
 
 pub resend-verdict-spec : {M : Type 1} → statement M
 resend-verdict-spec =

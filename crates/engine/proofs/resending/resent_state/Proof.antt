@@ -1,8 +1,10 @@
 -- In a sound state the link's unacked bytes stay small; the rest is each callee's promise.
+use mathlib.Core.Path.{_∙_}
+use Rattle.engine.specs.Table.{withPacket}
 use borrow.Author.Needs.{needs}
 use Rattle.engine.proofs.resending.resent_state.Statement.{statement}
 use Rattle.engine.proofs.Shapes.{shaped}
-use Rattle.engine.specs.Resending.{resentState, resend-fits}
+use Rattle.engine.specs.Resending.{resentState, resend-fits, resend-cell, resend-passed}
 use Rattle.engine.proofs.resending.resent_state.Tie as tie
 
 row-of-requires : tie.Need-row-of-requires
@@ -22,9 +24,9 @@ mark-resent-requires c κs = search needs
 
 add-with-unacked : tie.Need-add-with-unacked
 add-with-unacked c =
-    let st = c .before .before .before .before .before .before .before in
-    let a = st .args in
-    record { fits = rw (c .before .before .before .before .before .before .row-of .ensures, c .before .before .before .before .packet-of .ensures) (resend-fits (a .s) (a .slot) (a .time) (a .seq .0) (shaped (a .s) (st .good .0)) (st .good .1 .1 .1 .0 .1 .1 .0 .1) (st .pre)) }
+    let a = c .before .before .before .before .before .before .before .args in
+    let cell = c .before .before .before .before .packet-of .ensures ∙ resend-cell (a .s) (a .slot) (a .time) (a .seq .0) (shaped (a .s) (c .before .before .before .before .before .before .before .good .0)) (c .before .before .before .before .before .before .before .good .1 .1 .1 .0 .1 .1 .0 .1) (c .before .before .before .before .before .before .before .pre) in
+    record { fits = rw (c .before .before .before .before .before .before .row-of .ensures, cell) (resend-fits (a .s) (a .slot) (a .time) (a .seq .0) (shaped (a .s) (c .before .before .before .before .before .before .before .good .0)) (c .before .before .before .before .before .before .before .good .1 .1 .1 .0 .1 .1 .0 .1) (c .before .before .before .before .before .before .before .pre)) }
 
 with-unacked-requires : tie.Need-with-unacked-requires
 with-unacked-requires c κs = search needs
@@ -36,11 +38,15 @@ with-packet-requires : tie.Need-with-packet-requires
 with-packet-requires c κs = search needs
 
 requeue-requires : tie.Need-requeue-requires
-requeue-requires c κs = search needs
+unfolding withPacket
+requeue-requires c κs = rw (c .with-packet .ensures) (resend-passed (c .before .before .before .before .before .before .before .before .before .before .args .s) (c .before .before .before .before .before .before .before .before .before .before .args .slot) (c .before .before .before .before .before .before .before .before .before .before .args .time) (c .before .before .before .before .before .before .before .before .before .before .args .seq .0) (shaped (c .before .before .before .before .before .before .before .before .before .before .args .s) (c .before .before .before .before .before .before .before .before .before .before .good .0)) (c .before .before .before .before .before .before .before .before .before .before .good .1 .1 .1 .0 .1 .1 .0 .1) (c .before .before .before .before .before .before .before .before .before .before .pre) .fine .packet-count)
 
 returns : tie.Need-returns
 unfolding resentState
-returns c = simp (c .requeue .ensures, c .before .with-packet .ensures, c .before .before .with-row .ensures, c .before .before .before .with-unacked .ensures, c .before .before .before .before .before .mark-resent .ensures, c .before .before .before .before .before .before .with-status .ensures, c .before .before .before .before .before .before .before .new .ensures, c .before .before .before .before .before .before .before .before .packet-of .ensures, c .before .before .before .before .before .before .before .before .before .before .row-of .ensures)
+returns c =
+    let a = c .before .before .before .before .before .before .before .before .before .before .before .args in
+    let cell = c .before .before .before .before .before .before .before .before .packet-of .ensures ∙ resend-cell (a .s) (a .slot) (a .time) (a .seq .0) (shaped (a .s) (c .before .before .before .before .before .before .before .before .before .before .before .good .0)) (c .before .before .before .before .before .before .before .before .before .before .before .good .1 .1 .1 .0 .1 .1 .0 .1) (c .before .before .before .before .before .before .before .before .before .before .before .pre) in
+    simp (c .requeue .ensures, c .before .with-packet .ensures, c .before .before .with-row .ensures, c .before .before .before .with-unacked .ensures, c .before .before .before .before .before .mark-resent .ensures, c .before .before .before .before .before .before .with-status .ensures, c .before .before .before .before .before .before .before .new .ensures, cell, c .before .before .before .before .before .before .before .before .before .before .row-of .ensures)
 
 pub resent-state-spec : {M : Type 1} → statement M
 resent-state-spec =

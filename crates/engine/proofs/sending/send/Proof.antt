@@ -58,7 +58,7 @@ returns : tie.Need-returns
 unfolding sendOf sendStore
 returns c =
     let e = sym (c .before .before .before .send-verdict .ensures) ∙ c .before .verdict .given .1 in
-    (simp e, simp e)
+    (simp e, (simp e, simp e))
 
 same-length : tie.Need-same-length
 same-length c = search needs
@@ -68,7 +68,7 @@ unfolding sendOf sendStore
 returns-2 c =
     let a = c .before .before .before .before .before .before .before .before .before .before .before .before .args in
     let e = sym (c .before .before .before .before .before .before .before .before .before .send-verdict .ensures) ∙ c .before .before .before .before .before .before .before .enum-told .given .1 in
-    (simp (e, c .sent-state .ensures), simp e (mid-copied (now (a .store)) (now (a .payload)) _ (cellStart PACKETS (a .s .tx .«tx_seq» .0)) (c .before .before .before .copy .ensures .1)))
+    (simp (e, c .sent-state .ensures), (simp e, simp e (mid-copied (now (a .store)) (now (a .payload)) _ (cellStart PACKETS (a .s .tx .«tx_seq» .0)) (c .before .before .before .copy .ensures .1))))
 
 pub send-spec : {M : Type 1} → statement M
 send-spec =

@@ -52,7 +52,7 @@ use Rattle.link.proofs.row.LinkRow.Laws as T′
 use Rattle.engine.specs.declared.slowness.SlowLinks.{SlowLinks}
 use Rattle.engine.specs.declared.slowness.SlowAnswer.{SlowAnswer}
 use Rattle.engine.specs.declared.slowness.SlowAnswer.the-variants.{Listed, No}
-use Rattle.engine.specs.Slowness.{slowOf, eight, slowLinksOf}
+use Rattle.engine.specs.Slowness.{slowOf, eight, slowLinksOf, slowTold, slow-told}
 use Rattle.engine.proofs.slowness.SlowLinks as LT
 use Rattle.engine.proofs.slowness.SlowLinks.Laws as LT′
 use Rattle.engine.proofs.slowness.SlowAnswer as ST
@@ -200,7 +200,7 @@ module _ {M : Type 1} (𝓤 : URA M) (H : Heap 𝓤) (A : Atoms 𝓤) (W : Given
   exits : (r : SlowAnswer) (u : Val) → r ≡ slowLinksOf ys → ent 𝓤 (⋆ 𝓤 H A (‵ (flft κ q) ∷ ‵ (ShrSlice (named 0) κ T.the-row .own (x .0) (at .0)) ∷ ‵ (ST.the-row .own r (u ∷ [])) ∷ [])) (Post u)
   exits r u e =
       qed W (‵ (flft κ q) ∷ ‵ (ShrSlice (named 0) κ T.the-row .own (x .0) (at .0)) ∷ ‵ (ST.the-row .own r (u ∷ [])) ∷ []) ∵
-      suffices ! _ (ends-at 𝓤 H A slow.ended stayed (slow.clauses 𝓤 H A mem run) W (((κ, tt), (q, tt), tt, x, at), tt) u r (tt, tt) (tt, tt)) $ says ! e $
+      suffices ! _ (ends-at 𝓤 H A slow.ended stayed (slow.clauses 𝓤 H A mem run) W (((κ, tt), (q, tt), tt, x, at), tt) u r (tt, tt) (tt, tt)) $ says ! (e, ap slowTold e ∙ slow-told ys) $
       nothing ! $ move ! (1 ∷ 0 ∷ []) $ join ! $ nothing ! $ move ! (2 ∷ 0 ∷ []) $ fjoin ! $ move ! (1 ∷ 0 ∷ []) $ frame ! $ frame ! $ done !
 
   abbrev to : Rows 𝓤 H A mem run .Ghost

@@ -2,7 +2,7 @@
 use mathlib.Core.Path.{_≡_, refl, sym, _∙_}
 use Prim.Native.Nat.{_≤_}
 use native.Mathlib.Omega.{arith}
-use Rattle.engine.specs.Decide.{distinctBelow, distinct-step, distinct-none}
+use Rattle.engine.specs.Found.{distinctBelow, distinct-step, distinct-none}
 use Rattle.engine.proofs.sound.distinct.Statement.{statement}
 use Rattle.engine.proofs.sound.distinct.Tie as tie
 

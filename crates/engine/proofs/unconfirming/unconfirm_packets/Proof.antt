@@ -1,37 +1,67 @@
--- After i turns the first i packets are changed, and the rest is as it was.
-use mathlib.Core.Path.{_≡_}
-use Prim.Native.Nat.{_≤_, _-_}
+-- The packets that are left, changed in their places, give the same cells at each turn.
+use mathlib.Core.Path.{_≡_, refl, sym, _∙_}
+use mathlib.Core.List.{map}
+use Prim.Native.Nat.{_≤_, _<_}
 use native.Mathlib.Omega.{arith}
-use lib.ListN.{length}
-use borrow.Author.Needs.{needs}
+use Rattle.engine.specs.Ring.{window, refilled, next-cell-lt, change-step, change-none}
 use Rattle.engine.specs.Packets.{noPacket}
-use Rattle.engine.specs.Mapped.{Done, start, turn, end}
 use Rattle.engine.specs.Unconfirming.{unconfirmedPacket}
+use Rattle.engine.specs.Sizes.{PACKETS}
 use Rattle.engine.proofs.unconfirming.unconfirm_packets.Statement.{statement}
 use Rattle.engine.proofs.unconfirming.unconfirm_packets.Tie as tie
 
 abbrev Inv-loop : tie.InvT-loop
-Inv-loop slot packets out₀ i₀ out i = (i ≤ 64) × Done (unconfirmedPacket slot) noPacket packets i out
+Inv-loop first count slot out₀ at₀ left₀ out at left =
+    (at < PACKETS) × (left ≤ PACKETS)
+    × (refilled PACKETS out at (map (unconfirmedPacket slot) (window PACKETS noPacket out at left))
+    ≡ refilled PACKETS out₀ first (map (unconfirmedPacket slot) (window PACKETS noPacket out₀ first count)))
 
 abbrev μ-loop : tie.MeasureT-loop
-μ-loop slot packets out₀ i₀ out i = 64 - i
+μ-loop first count slot out₀ at₀ left₀ out at left = left
 
 loop-holds : tie.Need-loop-holds Inv-loop μ-loop
-loop-holds c = (omega arith, start (unconfirmedPacket (c .args .slot)) noPacket (c .args .t1))
+loop-holds c = (c .pre .0, c .pre .1, refl)
+
+mul-p : tie.Need-mul-p Inv-loop μ-loop
+mul-p c = omega arith
+
+array-copy-out-p : tie.Need-array-copy-out-p Inv-loop μ-loop
+array-copy-out-p c = omega arith
+
+unconfirm-packet-requires : tie.Need-unconfirm-packet-requires Inv-loop μ-loop
+unconfirm-packet-requires c κs = tt
+
+mul-out : tie.Need-mul-out Inv-loop μ-loop
+mul-out c = omega arith
+
+array-set-from-out : tie.Need-array-set-from-out Inv-loop μ-loop
+array-set-from-out c = omega arith
+
+next-cell-requires : tie.Need-next-cell-requires Inv-loop μ-loop
+next-cell-requires c κs = tt
+
+sub-left : tie.Need-sub-left Inv-loop μ-loop
+sub-left c = omega arith
+
+loop-less : tie.Need-loop-less Inv-loop μ-loop
+loop-less c = omega arith
 
 loop-again : tie.Need-loop-again Inv-loop μ-loop
 loop-again c =
-    let l = c .before .before .before .loop in
-    let a = c .before .before .before .before .args in (
-      omega arith,
-      turn (unconfirmedPacket (a .slot)) noPacket (a .t1) (l .i) (l .out) _ (l .inv .1) (let h : length (a .t1) ≡ 64 = search needs in omega arith) (c .unconfirm-packet .ensures),
+    let l = c .before .before .before .before .loop in
+    let a = c .before .before .before .before .before .args in
+    let next = c .next-cell .ensures in
+    let step = change-step PACKETS noPacket (unconfirmedPacket (a .slot)) (l .out) (l .at) (l .left) (l .inv .0) (c .before .before .before .loop-test .taken) (l .inv .1) in (
+      rw next (next-cell-lt PACKETS (l .at) (omega arith)),
+      omega (arith, l .inv .1),
+      rw (next, c .before .unconfirm-packet .ensures) (sym step ∙ l .inv .2),
     )
 
 returns : tie.Need-returns Inv-loop μ-loop
 returns c =
     let l = c .before .loop in
     let a = c .before .before .args in
-    end (unconfirmedPacket (a .slot)) noPacket (a .t1) (l .i) (l .out) (l .inv .1) (let h : length (a .t1) ≡ 64 = search needs in omega arith)
+    sym (change-none PACKETS noPacket (unconfirmedPacket (a .slot)) (l .out) (l .at) (l .left) (c .loop-test .left)) ∙ l .inv .2
 
 pub unconfirm-packets-spec : {M : Type 1} → statement M
 unconfirm-packets-spec =
@@ -40,12 +70,13 @@ unconfirm-packets-spec =
     Inv-loop
     μ-loop
     loop-holds
-    (λ c. omega arith)
-    (λ c. omega arith)
-    (λ c κs. tt)
-    (λ c. omega arith)
-    (λ c. omega arith)
-    (λ c. omega arith)
-    (λ c. omega arith)
+    mul-p
+    array-copy-out-p
+    unconfirm-packet-requires
+    mul-out
+    array-set-from-out
+    next-cell-requires
+    sub-left
+    loop-less
     loop-again
     returns)

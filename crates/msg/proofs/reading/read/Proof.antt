@@ -1,14 +1,15 @@
 -- The first byte is the kind, and the rest is its body.
 
-use mathlib.Core.Path.{sym, _∙_}
+use mathlib.Core.Path.{sym, ap, _∙_}
 use denote.Ref.{now}
 use Rattle.msg.proofs.Opening.{read-empty, read-some}
+use Rattle.msg.specs.Reading.{readingTold}
 use borrow.Author.Needs.{needs}
 use Rattle.msg.proofs.reading.read.Statement.{statement}
 use Rattle.msg.proofs.reading.read.Tie as tie
 
 returns : tie.Need-returns
-returns c = sym (read-empty (now (c .before .before .args .bytes)) (c .if1 .taken))
+returns c = let e = sym (read-empty (now (c .before .before .args .bytes)) (c .if1 .taken)) in (e, ap readingTold e)
 
 shared-slice-read-read-kind : tie.Need-shared-slice-read-read-kind
 shared-slice-read-read-kind c = search needs
@@ -27,8 +28,10 @@ read-kind-requires c κs = search needs
 
 returns-2 : tie.Need-returns-2
 returns-2 c =
+    let e =
     c .read-kind .ensures
-    ∙ sym (read-some (now (c .before .before .before .before .before .args .bytes)) (c .before .before .before .if1 .left))
+    ∙ sym (read-some (now (c .before .before .before .before .before .args .bytes)) (c .before .before .before .if1 .left)) in
+    (e, ap readingTold e)
 
 pub read-spec : {M : Type 1} → statement M
 read-spec =

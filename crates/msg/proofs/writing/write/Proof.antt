@@ -1,6 +1,6 @@
 -- The head is copied to the buffer's start and the test data filled in behind it, which is the message's bytes; the part
 -- behind them isn't lent to anybody.
-use mathlib.Core.Path.{sym}
+use mathlib.Core.Path.{sym, ap, _∙_}
 use native.Mathlib.Omega.{arith}
 use lib.ListN.{length-take}
 use lib.Seq.{length-take-le}
@@ -8,6 +8,7 @@ use borrow.Author.Tests.{not-true, not-false}
 use native.Mathlib.Nat.{add-sub-cancel-left}
 use denote.Ref.{now}
 use Rattle.msg.proofs.Parting.{head-within, end-small, write-refused, write-short, write-done}
+use Rattle.msg.specs.Writing.{writtenTold, write-told}
 use borrow.Author.Needs.{needs}
 use Rattle.msg.proofs.writing.write.Statement.{statement}
 use Rattle.msg.proofs.writing.write.Tie as tie
@@ -19,7 +20,9 @@ returns : tie.Need-returns
 returns c =
     let p = c .before .before .before .parts-of in
     let a = c .before .before .before .before .before .args in
-    write-refused (a .msg) (p .result) (p .ensures) (now (a .buffer)) (not-true (p .result .ok) (c .if1 .taken))
+    let e =
+    write-refused (a .msg) (p .result) (p .ensures) (now (a .buffer)) (not-true (p .result .ok) (c .if1 .taken)) in
+    (e .0, (ap writtenTold (e .0) ∙ write-told (a .msg) (now (a .buffer)), e .1))
 
 add-end : tie.Need-add-end
 add-end c =
@@ -31,7 +34,9 @@ returns-2 : tie.Need-returns-2
 returns-2 c =
     let p = c .before .before .before .before .before .parts-of in
     let a = c .before .before .before .before .before .before .before .args in
-    write-short (a .msg) (p .result) (p .ensures) (now (a .buffer)) (not-false (p .result .ok) (c .before .before .if1 .left)) (c .if2 .taken)
+    let e =
+    write-short (a .msg) (p .result) (p .ensures) (now (a .buffer)) (not-false (p .result .ok) (c .before .before .if1 .left)) (c .if2 .taken) in
+    (e .0, (ap writtenTold (e .0) ∙ write-told (a .msg) (now (a .buffer)), e .1))
 
 array-share-prefix-head : tie.Need-array-share-prefix-head
 array-share-prefix-head c =
@@ -76,10 +81,12 @@ returns-3 : tie.Need-returns-3
 returns-3 c =
     let p = c .before .before .before .before .before .before .before .before .before .before .before .before .before .before .parts-of in
     let a = c .before .before .before .before .before .before .before .before .before .before .before .before .before .before .before .before .args in
+    let e =
     write-done (a .msg) (p .result) (p .ensures) (now (a .buffer)) (not-false (p .result .ok) (c .before .before .before .before .before .before .before .before .before .before .before .if1 .left)) (c .before .before .before .before .before .before .before .before .before .if2 .left) _ _ _
     (c .before .before .before .before .before .before .copy .ensures .1)
     (c .before .before .fill .ensures)
-    (add-sub-cancel-left (p .result .len) (p .result .size))
+    (add-sub-cancel-left (p .result .len) (p .result .size)) in
+    (e .0, (ap writtenTold (e .0) ∙ write-told (a .msg) (now (a .buffer)), e .1))
 
 pub write-spec : {M : Type 1} → statement M
 write-spec =

@@ -1,6 +1,6 @@
 -- The engine's own promise, and the end of a frame.
 use mathlib.Core.Path.{_∙_, ap}
-use Rattle.engine.specs.Answer.{outcomeNumber}
+use Rattle.engine.specs.Answer.{outcomeTold}
 use Rattle.replaying.specs.Taking.{ended}
 use Rattle.replaying.specs.Line.{received}
 use borrow.Author.Needs.{needs}
@@ -21,7 +21,7 @@ same-length c = search needs
 
 returns : tie.Need-returns
 unfolding received
-returns c = (c .end-frame .ensures ∙ ap (λ n. ended n (c .before .before .before .before .before .receive .result .state)) (c .before .outcome-number .ensures) ∙ ap (λ r. ended (outcomeNumber (r .outcome)) (r .state)) (c .before .before .before .before .before .receive .ensures .0), c .before .before .before .before .before .receive .ensures .1)
+returns c = (c .end-frame .ensures ∙ ap (λ n. ended n (c .before .before .before .before .before .receive .result .state)) (c .before .outcome-number .ensures) ∙ ap (λ r. ended (outcomeTold (r .outcome) .number) (r .state)) (c .before .before .before .before .before .receive .ensures .0), c .before .before .before .before .before .receive .ensures .1 .1)
 
 pub receive-frame-spec : {M : Type 1} → statement M
 receive-frame-spec =

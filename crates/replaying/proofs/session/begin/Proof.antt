@@ -12,7 +12,7 @@ add-requires c κs = search needs
 
 returns : tie.Need-returns
 unfolding beginning
-returns c = simp (c .before .add .ensures, c .before .before .before .fresh .ensures)
+returns c = simp (c .before .add .ensures .0, c .before .before .before .fresh .ensures .0)
 
 pub begin-spec : {M : Type 1} → statement M
 begin-spec = tie.close (tie.spec fresh-requires add-requires returns)

@@ -28,7 +28,7 @@ returns : tie.Need-returns Inv-loop μ-loop
 returns c =
     let l = c .before .before .before .before .loop in
     let refused : isMessage (takeOf (l .out) .answer) ≡ false =
-    sym (ap (λ r. isMessage (r .answer)) (c .before .before .take .ensures)) ∙ sym (c .before .is-message .ensures) ∙ not-true (c .before .is-message .result) (c .if1 .taken)
+    sym (ap (λ r. isMessage (r .answer)) (c .before .before .take .ensures .0)) ∙ sym (c .before .is-message .ensures) ∙ not-true (c .before .is-message .result) (c .if1 .taken)
     in
     sym (ready-step (l .out) (l .left) (c .before .before .before .loop-test .taken) ∙ simp refused) ∙ l .inv
 
@@ -42,9 +42,9 @@ loop-again : tie.Need-loop-again Inv-loop μ-loop
 loop-again c =
     let l = c .before .before .before .before .before .loop in
     let taken : isMessage (takeOf (l .out) .answer) ≡ true =
-    sym (ap (λ r. isMessage (r .answer)) (c .before .before .before .take .ensures)) ∙ sym (c .before .before .is-message .ensures) ∙ not-false (c .before .before .is-message .result) (c .before .if1 .left)
+    sym (ap (λ r. isMessage (r .answer)) (c .before .before .before .take .ensures .0)) ∙ sym (c .before .before .is-message .ensures) ∙ not-false (c .before .before .is-message .result) (c .before .if1 .left)
     in
-    simp (c .before .before .before .take .ensures) (sym (ready-step (l .out) (l .left) (c .before .before .before .before .loop-test .taken) ∙ simp taken) ∙ l .inv)
+    simp (c .before .before .before .take .ensures .0) (sym (ready-step (l .out) (l .left) (c .before .before .before .before .loop-test .taken) ∙ simp taken) ∙ l .inv)
 
 returns-2 : tie.Need-returns-2 Inv-loop μ-loop
 returns-2 c = sym (ready-end (c .before .loop .out) (c .before .loop .left) (c .loop-test .left)) ∙ c .before .loop .inv

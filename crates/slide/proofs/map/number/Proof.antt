@@ -5,10 +5,10 @@ use Rattle.slide.proofs.map.number.Statement.{statement}
 use Rattle.slide.proofs.map.number.Tie as tie
 
 abbrev Inv-loop : tie.InvT-loop
-Inv-loop n width digits count at₀ t6 at = Unit {0}
+Inv-loop tally₀ n width digits places at₀ t7 tally at = Unit {0}
 
 abbrev μ-loop : tie.MeasureT-loop
-μ-loop n width digits count at₀ t6 at = width - at
+μ-loop tally₀ n width digits places at₀ t7 tally at = width - at
 
 decimal-requires : tie.Need-decimal-requires Inv-loop μ-loop
 decimal-requires c κs = search needs

@@ -1,4 +1,6 @@
 -- The digits that the library spells are put.
+use mathlib.Core.Path.{_∙_}
+use Rattle.text.specs.Put.{fewest-text}
 use borrow.Author.Needs.{needs}
 use Rattle.text.proofs.writing.put_decimal.Statement.{statement}
 use Rattle.text.proofs.writing.put_decimal.Tie as tie
@@ -19,7 +21,10 @@ same-length : tie.Need-same-length
 same-length c = search needs
 
 returns : tie.Need-returns
-returns c = let d = c .before .before .before .before .before .decimal in record { count = d .result; fewest = d .ensures .1 .0; ends = simp (d .ensures .1 .1) at (c .before .before .put .ensures .0); leaves = simp (d .ensures .1 .1) at (c .before .before .put .ensures .1) }
+returns c =
+    let d = c .before .before .before .before .before .decimal in
+    let e = d .ensures .1 .1 ∙ fewest-text _ _ (d .ensures .1 .0) in
+    (simp e at (c .before .before .put .ensures .0), simp e at (c .before .before .put .ensures .1))
 
 pub put-decimal-spec : {M : Type 1} → statement M
 put-decimal-spec =

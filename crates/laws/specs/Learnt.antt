@@ -1,0 +1,137 @@
+-- The calls' promises are those that `number` and `next` are made of (Calls): `Reads.Learnt` of a call is its promise, which the
+-- checker makes of the source, and whatever meets it has the number and leaves the state and the stores that `number` and `next` say.
+-- So what `refused`, `kept` and `always-good` say of them holds of the calls, and a promise that comes to cite another definition
+-- is refused here. Assumes nothing.
+use mathlib.Core.Path.{_≡_, refl, ap, sym, subst, _∙_}
+use mathlib.Core.Bool.{Bool}
+use mathlib.Core.List.{List, []}
+use mathlib.Core.Logic.{_≢_}
+use Prim.Native.Nat.{ℕ}
+use lib.ListN.{length}
+use contract.Lifetimes.{Lfts}
+use denote.Ref.{RefT, now}
+use Rattle.seq.specs.declared.Seq.{Seq}
+use Rattle.seq.specs.Numbers.{seqOf}
+use Rattle.msg.specs.declared.reliable.ReliableMsg.{ReliableMsg}
+use Rattle.engine.specs.declared.state.State.{State}
+use Rattle.engine.specs.declared.answer.Changed.{Changed}
+use Rattle.engine.specs.declared.links.Added.{Added}
+use Rattle.engine.specs.declared.sending.SendResult.{SendResult}
+use Rattle.engine.specs.declared.resending.ResendResult.{ResendResult}
+use Rattle.engine.specs.declared.handing_out.HandOut.{HandOut}
+use Rattle.engine.specs.declared.handing_out.TakeResult.{TakeResult}
+use Rattle.engine.specs.declared.handing_out.TakeAckResult.{TakeAckResult}
+use Rattle.engine.specs.declared.handing_out.Due.{Due as DueAnswer}
+use Rattle.engine.specs.Answer.{outcomeTold}
+use Rattle.engine.specs.Decide.{soundb}
+use Rattle.engine.specs.Starting.{freshVerdict, freshOf, Usable}
+use Rattle.engine.specs.Links.{addTold}
+use Rattle.engine.specs.Sending.{sendTold}
+use Rattle.engine.specs.Resending.{resendTold}
+use Rattle.engine.specs.Receiving.{receiveVerdict, receiveOf, receiveStore}
+use Rattle.engine.specs.HandingOut.{handOutTold, shownAt, shownOf, takeAckTold, dueTold}
+use Rattle.refusal.specs.Answers.{toldBy}
+use Rattle.engine.proofs as engine
+use Rattle.laws.specs.Calls.{Call, Add, Remove, Confirm, Unconfirm, Block, Mark, Ping, Pong, Flush, Send, Resend, Ack, Receive, Show, Take, Due, TakeAck, Holding, withState, number, next, Typed}
+use Rattle.laws.specs.Refused.{refused}
+use Rattle.laws.specs.SoundKept.{Good, kept}
+use Rattle.laws.specs.Unique.{Place, lent}
+
+-- a call on what h holds answers the number n and leaves `after`, as `number` and `next` say
+abbrev pub Says : Call → Holding → ℕ → Holding → Type 0
+Says c h n after = (n ≡ number c h) × (after ≡ next c h)
+
+abbrev pub SaysChanged : Call → Holding → Changed → Type 0
+SaysChanged c h r = Says c h (outcomeTold (r .outcome) .number) (withState h (r .state))
+
+-- whatever meets the call's promise says so. A reference at exit stands at its parameter's place: `e .1 .0` is the second's
+abbrev pub Tied : Call → Holding → Type 0
+Tied (Add id roundtrip max blocked unconfirmed) h = (κs : _) (r : Added) (e : _)
+    → engine.links.add.Reads.Learnt κs (h .state, (id, (roundtrip, (max, (blocked, (unconfirmed, tt)))))) r e
+    → Says (Add id roundtrip max blocked unconfirmed) h (addTold (r .answer) .number) (withState h (r .state))
+Tied (Remove slot) h = (κs : _) (r : Changed) (e : _) → engine.unconfirming.remove.Reads.Learnt κs (h .state, (slot, tt)) r e → SaysChanged (Remove slot) h r
+Tied (Confirm slot) h = (κs : _) (r : Changed) (e : _) → engine.links.confirm.Reads.Learnt κs (h .state, (slot, tt)) r e → SaysChanged (Confirm slot) h r
+Tied (Unconfirm slot) h = (κs : _) (r : Changed) (e : _) → engine.unconfirming.unconfirm.Reads.Learnt κs (h .state, (slot, tt)) r e → SaysChanged (Unconfirm slot) h r
+Tied (Block slot blocked) h = (κs : _) (r : Changed) (e : _) → engine.links.block.Reads.Learnt κs (h .state, (slot, (blocked, tt))) r e → SaysChanged (Block slot blocked) h r
+Tied (Mark slot seq) h = (κs : _) (r : Changed) (e : _) → engine.links.mark.Reads.Learnt κs (h .state, (slot, (seq, tt))) r e → SaysChanged (Mark slot seq) h r
+Tied (Ping slot time) h = (κs : _) (r : Changed) (e : _) → engine.links.ping.Reads.Learnt κs (h .state, (slot, (time, tt))) r e → SaysChanged (Ping slot time) h r
+Tied (Pong slot time) h = (κs : _) (r : Changed) (e : _) → engine.links.pong.Reads.Learnt κs (h .state, (slot, (time, tt))) r e → SaysChanged (Pong slot time) h r
+Tied (Flush slot time) h = (κs : _) (r : Changed) (e : _) → engine.flushing.flush.Reads.Learnt κs (h .state, (slot, (time, tt))) r e → SaysChanged (Flush slot time) h r
+Tied (Send slot time msg bytes) h = (κs : Lfts 2) (i j : Place) (r : SendResult) (e : _)
+    → engine.sending.send.Reads.Learnt κs (h .state, (lent i (h .sent), (slot, (time, (msg, (lent j bytes, tt)))))) r e
+    → Says (Send slot time msg bytes) h (sendTold (r .answer) .number) (record { state = r .state; sent = now (e .1 .0); received = h .received })
+Tied (Resend slot time n) h = (κs : _) (r : ResendResult) (e : _)
+    → engine.resending.resend.Reads.Learnt κs (h .state, (slot, (time, (seqOf n, tt)))) r e
+    → Says (Resend slot time n) h (resendTold (r .answer) .number) (withState h (r .state))
+Tied (Ack slot time n) h = (κs : _) (r : Changed) (e : _) → engine.acking.ack.Reads.Learnt κs (h .state, (slot, (time, (seqOf n, tt)))) r e → SaysChanged (Ack slot time n) h r
+Tied (Receive slot msg n bytes) h = (κs : Lfts 2) (i j : Place) (r : Changed) (e : _)
+    → engine.receiving.receive.Reads.Learnt κs (h .state, (lent i (h .received), (slot, (msg, (seqOf n, (lent j bytes, tt)))))) r e
+    → Says (Receive slot msg n bytes) h (outcomeTold (r .outcome) .number) (record { state = r .state; sent = h .sent; received = now (e .1 .0) })
+Tied Show h = (κs : Lfts 1) (i : Place) (r : HandOut) (e : _) → engine.handing_out.showing.Reads.Learnt κs (h .state, (lent i (h .received), tt)) r e → Says Show h (handOutTold r .number) h
+Tied Take h = (κs : _) (r : TakeResult) (e : _) → engine.handing_out.take.Reads.Learnt κs (h .state, tt) r e → Says Take h (handOutTold (r .answer) .number) (withState h (r .state))
+Tied Due h = (κs : _) (r : DueAnswer) (e : _) → engine.handing_out.is_consume_ack_required.Reads.Learnt κs (h .state, tt) r e → Says Due h (dueTold r .number) h
+Tied (TakeAck slot) h = (κs : _) (r : TakeAckResult) (e : _) → engine.handing_out.take_ack.Reads.Learnt κs (h .state, (slot, tt)) r e → Says (TakeAck slot) h (takeAckTold (r .answer) .number) (withState h (r .state))
+
+-- an answer that is the definition's has its number and leaves what it leaves
+same : {R : Type 0} (told : R → ℕ) (left : R → Holding) {r d : R} → r ≡ d → (told r ≡ told d) × (left r ≡ left d)
+same told left p = (ap told p, ap left p)
+
+same-changed : (h : Holding) {r d : Changed} → r ≡ d → (outcomeTold (r .outcome) .number ≡ outcomeTold (d .outcome) .number) × (withState h (r .state) ≡ withState h (d .state))
+same-changed h p = same (λ (a : Changed). outcomeTold (a .outcome) .number) (λ a. withState h (a .state)) p
+
+pub tied : (c : Call) (h : Holding) → Tied c h
+tied (Add id roundtrip max blocked unconfirmed) h = λ κs r e p. same (λ (a : Added). addTold (a .answer) .number) (λ a. withState h (a .state)) (p .0)
+tied (Remove slot) h = λ κs r e p. same-changed h (p .0)
+tied (Confirm slot) h = λ κs r e p. same-changed h (p .0)
+tied (Unconfirm slot) h = λ κs r e p. same-changed h (p .0)
+tied (Block slot blocked) h = λ κs r e p. same-changed h (p .0)
+tied (Mark slot seq) h = λ κs r e p. same-changed h (p .0)
+tied (Ping slot time) h = λ κs r e p. same-changed h (p .0)
+tied (Pong slot time) h = λ κs r e p. same-changed h (p .0)
+tied (Flush slot time) h = λ κs r e p. same-changed h (p .0)
+tied (Send slot time msg bytes) h = λ κs i j r e p. (
+  ap (λ (a : SendResult). sendTold (a .answer) .number) (p .0),
+  λ d. record { state = p .0 d .state; sent = p .1 .1 d; received = h .received },
+)
+tied (Resend slot time n) h = λ κs r e p. same (λ (a : ResendResult). resendTold (a .answer) .number) (λ a. withState h (a .state)) (p .0)
+tied (Ack slot time n) h = λ κs r e p. same-changed h (p .0)
+tied (Receive slot msg n bytes) h = λ κs i j r e p. (
+  ap (λ (a : Changed). outcomeTold (a .outcome) .number) (p .0),
+  λ d. record { state = p .0 d .state; sent = h .sent; received = p .1 .1 d },
+)
+tied Show h = λ κs i r e p. (ap (λ (a : HandOut). handOutTold a .number) (p .0), refl)
+tied Take h = λ κs r e p. same (λ (a : TakeResult). handOutTold (a .answer) .number) (λ a. withState h (a .state)) (p .0)
+tied Due h = λ κs r e p. (ap (λ (a : DueAnswer). dueTold a .number) (p .0), refl)
+tied (TakeAck slot) h = λ κs r e p. same (λ (a : TakeAckResult). takeAckTold (a .answer) .number) (λ a. withState h (a .state)) (p .0)
+
+-- ---- so the laws hold of whatever meets the promises
+
+module _ (c : Call) (h : Holding) (n : ℕ) (after : Holding) (says : Says c h n after) where
+  -- "Each returns its number alone; state and lent bytes stay as they came."
+  pub refused-by-promise : n ≢ 0 → after ≡ h
+  refused-by-promise told = says .1 ∙ refused c h (λ zero. told (says .0 ∙ zero))
+
+  -- "Calls keep a sound state sound."
+  pub kept-by-promise : Typed c → Good (h .state) → Good (after .state)
+  kept-by-promise typed good = subst (λ (k : Holding). Good (k .state)) (sym (says .1)) (kept c h typed good)
+
+-- ---- the promises of the calls that are no `Call`, word by word; and of one that is, to see what is learnt of two `ensures`
+
+fresh-learnt : (κs : _) (start : Seq) (buffer : ℕ) (r : Changed) (e : _)
+    → engine.starting.fresh.Reads.Learnt κs (start, (buffer, tt)) r e
+    ≡ ((r ≡ freshOf (start .0) buffer) × ((outcomeTold (r .outcome) ≡ toldBy (freshVerdict buffer) []) × Usable r))
+fresh-learnt κs start buffer r e = refl
+
+sound-learnt : (κs : _) (s : State) (r : Bool) (e : _) → engine.sound.is_sound.Reads.Learnt κs (s, tt) r e ≡ (r ≡ soundb s)
+sound-learnt κs s r e = refl
+
+show-learnt : (κs : Lfts 1) (s : State) (store : List ℕ) (i : Place) (r : RefT (List ℕ)) (e : _)
+    → engine.handing_out.show.Reads.Learnt κs (s, (lent i store, tt)) r e ≡ ((now r ≡ shownOf s store) × (r .ptr ≡ shownAt s (length store) (i .ptr)))
+show-learnt κs s store i r e = refl
+
+receive-learnt : (κs : Lfts 2) (s : State) (store : List ℕ) (slot : ℕ) (msg : ReliableMsg) (seq : Seq) (payload : List ℕ) (i j : Place) (r : Changed) (e : _)
+    → engine.receiving.receive.Reads.Learnt κs (s, (lent i store, (slot, (msg, (seq, (lent j payload, tt)))))) r e
+    ≡ ((r ≡ receiveOf s (length store) slot msg (seq .0) (length payload))
+    × ((outcomeTold (r .outcome) ≡ toldBy (receiveVerdict s (length store) slot msg (seq .0) (length payload)) [])
+    × (now (e .1 .0) ≡ receiveStore s store slot msg (seq .0) payload)))
+receive-learnt κs s store slot msg seq payload i j r e = refl

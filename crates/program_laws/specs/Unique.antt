@@ -1,0 +1,127 @@
+-- Document 01: "Two conforming answers to one input are proved equal; exceptions go to a list in docs/ with a ground." The lines of the
+-- public calls of the libraries that the programs are made of: the replay, which is a section of the paper, the digits and the tiles. A
+-- crate of its own, so that `laws`, and `ends` above it, need not wait for the replay. Assumes nothing.
+use mathlib.Core.Path.{_≡_, refl, sym, _∙_}
+use mathlib.Core.Bool.{Bool}
+use mathlib.Core.List.{List}
+use Prim.Native.Nat.{ℕ}
+use contract.Lifetimes.{Lfts}
+use denote.Ref.{now}
+use Rattle.seq.specs.declared.Seq.{Seq}
+use Rattle.msg.specs.declared.reading.Reading.{Reading}
+use Rattle.text.specs.declared.hex.HexRun.{HexRun}
+use Rattle.text.specs.declared.reading.Decimal.{Decimal}
+use Rattle.replaying.specs.declared.session.Replay.{Replay}
+use Rattle.replaying.specs.declared.session.Answered.{Answered}
+use Rattle.replaying.specs.declared.feeding.Fed.{Fed}
+use Rattle.replaying.specs.Feeding.{session, feedOf, feedStore, feedLine}
+use Rattle.laws.specs.Unique.{Unique, Place, lent}
+use Rattle.text.proofs as text
+use Rattle.tiles.proofs as tiles
+use Rattle.replaying.proofs as replaying
+
+-- ---- calls that are given values alone
+
+sole : {K : Type 0} {A R E : K → Type 0} {d : (κs : K) → A κs → R κs} → Unique (λ κs a (r : R κs) (e : E κs). r ≡ d κs a)
+sole = record { equal = λ κs a r r′ e e′ p q. p ∙ sym q }
+
+-- crates/text/src/hex.rt
+pub text-hex :
+    Unique text.hex.hex_value.Reads.Learnt
+    × Unique text.hex.hex_digit.Reads.Learnt
+    × Unique text.hex.hex_byte.Reads.Learnt
+text-hex = (sole, sole, sole)
+
+-- crates/tiles/src/lib.rt
+pub tiles-lib : Unique tiles.length.Reads.Learnt × Unique tiles.bytes_of.Reads.Learnt
+tiles-lib = (sole, sole)
+
+-- crates/replaying/src/session.rt
+pub replaying-session : Unique replaying.session.begin.Reads.Learnt
+replaying-session = sole
+
+-- crates/replaying/src/taking.rt
+pub replaying-taking : Unique replaying.taking.end_frame.Reads.Learnt
+replaying-taking = sole
+
+-- ---- calls that are lent bytes: the same bytes, wherever they lie, give the same answer and are left the same
+
+-- crates/text/src/hex.rt; `e .1 .0` is the second parameter at exit, the buffer
+pub read-hex : (κs κs′ : Lfts 2) (run into : List ℕ) (i i′ j j′ : Place) (r r′ : HexRun) (e : _) (e′ : _)
+    → text.hex.read_hex.Reads.Learnt κs (lent i run, (lent j into, tt)) r e
+    → text.hex.read_hex.Reads.Learnt κs′ (lent i′ run, (lent j′ into, tt)) r′ e′
+    → (r ≡ r′) × (now (e .1 .0) ≡ now (e′ .1 .0))
+read-hex κs κs′ run into i i′ j j′ r r′ e e′ p q = (p .0 ∙ sym (q .0), p .1 ∙ sym (q .1))
+
+-- crates/text/src/reading.rt
+pub read-decimal : (κs κs′ : Lfts 1) (word : List ℕ) (limit : ℕ) (i i′ : Place) (r r′ : Decimal) (e : _) (e′ : _)
+    → text.reading.read_decimal.Reads.Learnt κs (lent i word, (limit, tt)) r e
+    → text.reading.read_decimal.Reads.Learnt κs′ (lent i′ word, (limit, tt)) r′ e′
+    → r ≡ r′
+read-decimal κs κs′ word limit i i′ r r′ e e′ p q = p ∙ sym q
+
+-- crates/text/src/writing.rt
+pub put : (κs κs′ : Lfts 2) (run out : List ℕ) (at : ℕ) (i i′ j j′ : Place) (r r′ : ℕ) (e : _) (e′ : _)
+    → text.writing.put.Reads.Learnt κs (lent i run, (lent j out, (at, tt))) r e
+    → text.writing.put.Reads.Learnt κs′ (lent i′ run, (lent j′ out, (at, tt))) r′ e′
+    → (r ≡ r′) × (now (e .1 .0) ≡ now (e′ .1 .0))
+put κs κs′ run out at i i′ j j′ r r′ e e′ p q = (p .0 ∙ sym (q .0), p .1 ∙ sym (q .1))
+
+pub put-decimal : (κs κs′ : Lfts 1) (n : ℕ) (out : List ℕ) (at : ℕ) (i i′ : Place) (r r′ : ℕ) (e : _) (e′ : _)
+    → text.writing.put_decimal.Reads.Learnt κs (n, (lent i out, (at, tt))) r e
+    → text.writing.put_decimal.Reads.Learnt κs′ (n, (lent i′ out, (at, tt))) r′ e′
+    → (r ≡ r′) × (now (e .1 .0) ≡ now (e′ .1 .0))
+put-decimal κs κs′ n out at i i′ r r′ e e′ p q = (p .0 ∙ sym (q .0), p .1 ∙ sym (q .1))
+
+pub put-hex : (κs κs′ : Lfts 1) (b : ℕ) (out : List ℕ) (at : ℕ) (i i′ : Place) (r r′ : ℕ) (e : _) (e′ : _)
+    → text.writing.put_hex.Reads.Learnt κs (b, (lent i out, (at, tt))) r e
+    → text.writing.put_hex.Reads.Learnt κs′ (b, (lent i′ out, (at, tt))) r′ e′
+    → (r ≡ r′) × (now (e .1 .0) ≡ now (e′ .1 .0))
+put-hex κs κs′ b out at i i′ r r′ e e′ p q = (p .0 ∙ sym (q .0), p .1 ∙ sym (q .1))
+
+-- crates/tiles/src/lib.rt
+pub is-tile : (κs κs′ : Lfts 1) (shade n : ℕ) (bytes : List ℕ) (i i′ : Place) (r r′ : Bool) (e : _) (e′ : _)
+    → tiles.is_tile.Reads.Learnt κs (shade, (n, (lent i bytes, tt))) r e
+    → tiles.is_tile.Reads.Learnt κs′ (shade, (n, (lent i′ bytes, tt))) r′ e′
+    → r ≡ r′
+is-tile κs κs′ shade n bytes i i′ r r′ e e′ p q = p ∙ sym q
+
+-- crates/replaying/src/digits.rt
+pub read-frame : (κs κs′ : Lfts 1) (line : List ℕ) (i i′ : Place) (r r′ : Reading) (e : _) (e′ : _)
+    → replaying.digits.read_frame.Reads.Learnt κs (lent i line, tt) r e
+    → replaying.digits.read_frame.Reads.Learnt κs′ (lent i′ line, tt) r′ e′
+    → r ≡ r′
+read-frame κs κs′ line i i′ r r′ e e′ p q = p ∙ sym q
+
+-- crates/replaying/src/lines.rt
+pub answer-line : (κs κs′ : Lfts 2) (replay : Replay) (store line : List ℕ) (i i′ j j′ : Place) (r r′ : Answered) (e : _) (e′ : _)
+    → replaying.lines.answer_line.Reads.Learnt κs (replay, (lent i store, (lent j line, tt))) r e
+    → replaying.lines.answer_line.Reads.Learnt κs′ (replay, (lent i′ store, (lent j′ line, tt))) r′ e′
+    → (r ≡ r′) × (now (e .1 .0) ≡ now (e′ .1 .0))
+answer-line κs κs′ replay store line i i′ j j′ r r′ e e′ p q = (p .0 ∙ sym (q .0), p .1 ∙ sym (q .1))
+
+-- crates/replaying/src/writing.rt; `e .1 .1 .0` is the third parameter at exit, the line's text
+pub write-line : (κs κs′ : Lfts 1) (number : ℕ) (next : Seq) (out : List ℕ) (i i′ : Place) (r r′ : _) (e : _) (e′ : _)
+    → replaying.writing.write_line.Reads.Learnt κs (number, (next, (lent i out, tt))) r e
+    → replaying.writing.write_line.Reads.Learnt κs′ (number, (next, (lent i′ out, tt))) r′ e′
+    → now (e .1 .1 .0) ≡ now (e′ .1 .1 .0)
+write-line κs κs′ number next out i i′ r r′ e e′ p q = p ∙ sym q
+
+-- crates/replaying/src/feeding.rt; `e .1 .0` is the store at exit, `e .1 .1 .0` the carried line
+pub feed : (κs κs′ : Lfts 3) (replay : Replay) (store line : List ℕ) (count : ℕ) (piece : List ℕ) (at : ℕ) (i i′ j j′ k k′ : Place) (r r′ : Fed) (e : _) (e′ : _)
+    → replaying.feeding.feed.Reads.Learnt κs (replay, (lent i store, (lent j line, (count, (lent k piece, (at, tt)))))) r e
+    → replaying.feeding.feed.Reads.Learnt κs′ (replay, (lent i′ store, (lent j′ line, (count, (lent k′ piece, (at, tt)))))) r′ e′
+    → (r ≡ r′) × (now (e .1 .0) ≡ now (e′ .1 .0)) × (now (e .1 .1 .0) ≡ now (e′ .1 .1 .0))
+feed κs κs′ replay store line count piece at i i′ j j′ k k′ r r′ e e′ p q = (p .0 ∙ sym (q .0), p .1 .0 ∙ sym (q .1 .0), p .1 .1 ∙ sym (q .1 .1))
+
+-- to see what is learnt, on this call: the three `ensures` of the source, word by word
+feed-learnt : (κs : Lfts 3) (replay : Replay) (store line : List ℕ) (count : ℕ) (piece : List ℕ) (at : ℕ) (i j k : Place) (r : Fed) (e : _)
+    → replaying.feeding.feed.Reads.Learnt κs (replay, (lent i store, (lent j line, (count, (lent k piece, (at, tt)))))) r e
+    ≡ ((r ≡ feedOf (session replay store line count) piece at) × ((now (e .1 .0) ≡ feedStore (session replay store line count) piece at) × (now (e .1 .1 .0) ≡ feedLine (session replay store line count) piece at)))
+feed-learnt κs replay store line count piece at i j k r e = refl
+
+pub close : (κs κs′ : Lfts 2) (replay : Replay) (store line : List ℕ) (count : ℕ) (i i′ j j′ : Place) (r r′ : Answered) (e : _) (e′ : _)
+    → replaying.feeding.close.Reads.Learnt κs (replay, (lent i store, (lent j line, (count, tt)))) r e
+    → replaying.feeding.close.Reads.Learnt κs′ (replay, (lent i′ store, (lent j′ line, (count, tt)))) r′ e′
+    → (r ≡ r′) × (now (e .1 .0) ≡ now (e′ .1 .0))
+close κs κs′ replay store line count i i′ j j′ r r′ e e′ p q = (p .0 ∙ sym (q .0), p .1 ∙ sym (q .1))

@@ -1,0 +1,1 @@
+// What holds of the libraries that the programs are made of (specs/). Theorems alone.

@@ -1,0 +1,242 @@
+// Whether two states are the same in every field.
+use engine::CELLS;
+use engine::Flushed;
+use engine::Held;
+use engine::InFlight;
+use engine::PACKETS;
+use engine::Receiving;
+use engine::RxCell;
+use engine::SLOTS;
+use engine::Sending;
+use engine::SentReliable;
+use engine::SentReliableStatus;
+use engine::State;
+use link::Limit;
+use link::LinkRow;
+use link::MaxPing;
+use link::Ping;
+use link::sizes::ACKS;
+use msg::ReliableMsg;
+use seq::Seq;
+
+fn numbers(a: [Seq; ACKS], b: [Seq; ACKS]) -> bool {
+    let mut i: usize = 0;
+    while i < ACKS {
+        let x = a[i];
+        let y = b[i];
+        if x.0 != y.0 {
+            return false;
+        }
+        i += 1;
+    }
+    true
+}
+
+// A case and the number that it holds.
+struct Case(u8, u64);
+
+fn alike(a: Case, b: Case) -> bool {
+    a.0 == b.0 && a.1 == b.1
+}
+
+fn max_ping(max: MaxPing) -> Case {
+    match max {
+        MaxPing::Unlimited => Case(0, 0),
+        MaxPing::UpTo(time) => Case(1, time),
+    }
+}
+
+fn limit(limit: Limit) -> Case {
+    match limit {
+        Limit::Clear => Case(0, 0),
+        Limit::At(seq) => Case(1, seq.0 as u64),
+    }
+}
+
+fn ping(ping: Ping) -> Case {
+    match ping {
+        Ping::Idle => Case(0, 0),
+        Ping::Since(time) => Case(1, time),
+    }
+}
+
+fn flags(a: LinkRow, b: LinkRow) -> bool {
+    a.live == b.live
+        && a.blocked == b.blocked
+        && a.unconfirmed == b.unconfirmed
+        && a.zero_estimate == b.zero_estimate
+}
+
+fn row(a: LinkRow, b: LinkRow) -> bool {
+    let a_max = a.max_ping;
+    let b_max = b.max_ping;
+    let a_limit = a.limit_increased;
+    let b_limit = b.limit_increased;
+    let a_ping = a.current_ping_sent;
+    let b_ping = b.current_ping_sent;
+    let a_acks = a.tx_ack_queue;
+    let b_acks = b.tx_ack_queue;
+    flags(a, b)
+        && a.link_id == b.link_id
+        && a.roundtrip == b.roundtrip
+        && a.txed_unacked_data == b.txed_unacked_data
+        && a.ack_count == b.ack_count
+        && alike(max_ping(a_max), max_ping(b_max))
+        && alike(limit(a_limit), limit(b_limit))
+        && alike(ping(a_ping), ping(b_ping))
+        && numbers(a_acks, b_acks)
+}
+
+fn rows(a: [LinkRow; SLOTS], b: [LinkRow; SLOTS]) -> bool {
+    let mut i: usize = 0;
+    while i < SLOTS {
+        let x = a[i];
+        let y = b[i];
+        if !row(x, y) {
+            return false;
+        }
+        i += 1;
+    }
+    true
+}
+
+fn message(a: ReliableMsg, b: ReliableMsg) -> bool {
+    a.kind() == b.kind() && a.count() == b.count()
+}
+
+fn flushed(flushed: Flushed) -> Case {
+    match flushed {
+        Flushed::Unflushed => Case(0, 0),
+        Flushed::FlushedAt(time) => Case(1, time),
+    }
+}
+
+// The case, and the identity that it holds.
+fn status(status: SentReliableStatus) -> Case {
+    match status {
+        SentReliableStatus::Sent(flight) => Case(0, flight.link),
+        SentReliableStatus::Received => Case(1, 0),
+        SentReliableStatus::ResendQueued { sent_link } => Case(2, sent_link),
+    }
+}
+
+// What a Sent packet holds besides.
+fn flight(status: SentReliableStatus) -> InFlight {
+    match status {
+        SentReliableStatus::Sent(flight) => flight,
+        _ => InFlight {
+            sent: 0,
+            flushed: Flushed::Unflushed,
+            slot: 0,
+            link: 0,
+        },
+    }
+}
+
+fn flights(a: InFlight, b: InFlight) -> bool {
+    let x = a.flushed;
+    let y = b.flushed;
+    a.sent == b.sent && a.slot == b.slot && alike(flushed(x), flushed(y))
+}
+
+fn packet(a: SentReliable, b: SentReliable) -> bool {
+    let a_msg = a.msg;
+    let b_msg = b.msg;
+    let a_status = a.status;
+    let b_status = b.status;
+    a.seq.0 == b.seq.0
+        && a.len == b.len
+        && message(a_msg, b_msg)
+        && alike(status(a_status), status(b_status))
+        && flights(flight(a_status), flight(b_status))
+}
+
+fn packets(a: [SentReliable; PACKETS], b: [SentReliable; PACKETS]) -> bool {
+    let mut i: usize = 0;
+    while i < PACKETS {
+        let x = a[i];
+        let y = b[i];
+        if !packet(x, y) {
+            return false;
+        }
+        i += 1;
+    }
+    true
+}
+
+fn totals(a: Sending, b: Sending) -> bool {
+    a.txed_unacked == b.txed_unacked
+        && a.txed_unconsumed == b.txed_unconsumed
+        && a.txed_unconsumable == b.txed_unconsumable
+        && a.txed_last_consumed.0 == b.txed_last_consumed.0
+        && a.send_finish_sent == b.send_finish_sent
+        && a.write_closed == b.write_closed
+}
+
+fn sending(a: Sending, b: Sending) -> bool {
+    let a_packets = a.txed_packets;
+    let b_packets = b.txed_packets;
+    let a_queue = a.resend_queue;
+    let b_queue = b.resend_queue;
+    a.tx_seq.0 == b.tx_seq.0
+        && a.txed_count == b.txed_count
+        && a.resend_count == b.resend_count
+        && totals(a, b)
+        && numbers(a_queue, b_queue)
+        && packets(a_packets, b_packets)
+}
+
+// The message, and whether there is one and how long it is.
+fn held(held: Held) -> ReliableMsg {
+    match held {
+        Held::Nothing => ReliableMsg::Data,
+        Held::Message(msg, _) => msg,
+    }
+}
+
+fn length(held: Held) -> Case {
+    match held {
+        Held::Nothing => Case(0, 0),
+        Held::Message(_, len) => Case(1, len as u64),
+    }
+}
+
+fn cell(a: Held, b: Held) -> bool {
+    alike(length(a), length(b)) && message(held(a), held(b))
+}
+
+fn cells(a: [RxCell; CELLS], b: [RxCell; CELLS]) -> bool {
+    let mut i: usize = 0;
+    while i < CELLS {
+        let x = a[i];
+        let y = b[i];
+        let m = x.held;
+        let n = y.held;
+        if !cell(m, n) {
+            return false;
+        }
+        i += 1;
+    }
+    true
+}
+
+fn receiving(a: Receiving, b: Receiving) -> bool {
+    let a_cells = a.rxed_reliable;
+    let b_cells = b.rxed_reliable;
+    a.rx_seq.0 == b.rx_seq.0
+        && a.rx_oldest.0 == b.rx_oldest.0
+        && a.rxed_reliable_size == b.rxed_reliable_size
+        && a.rxed_reliable_consumed == b.rxed_reliable_consumed
+        && a.recv_buffer == b.recv_buffer
+        && cells(a_cells, b_cells)
+}
+
+pub fn states(a: State, b: State) -> bool {
+    let a_rows = a.links;
+    let b_rows = b.links;
+    let a_tx = a.tx;
+    let b_tx = b.tx;
+    let a_rx = a.rx;
+    let b_rx = b.rx;
+    a.time == b.time && rows(a_rows, b_rows) && sending(a_tx, b_tx) && receiving(a_rx, b_rx)
+}
