@@ -89,9 +89,9 @@ sweptTx tx =
 unfoldable pub placeOk : Sending → ℕ → Bool
 placeOk tx a = cond (inTable tx a) (eqb (lookedAt tx a .seq .0) a) true
 
--- what the code asks: that the number's cell holds it
-unfoldable pub cellOk : Sending → ℕ → Bool
-cellOk tx a = cond (inTable tx a) (eqb (packetOf tx a .seq .0) a) true
+-- what the code asks: that the number's cell, where the table has one, holds it
+unfoldable pub cellHolds : Sending → ℕ → Bool
+cellHolds tx a = cond (inTable tx a) (eqb (packetOf tx a .seq .0) a) true
 
 unfoldable pub ackVerdict : State → ℕ → ℕ → ℕ → Verdict
 ackVerdict s slot time a = timedVerdict s slot time (gate (placeOk (s .tx) a) 18 Pass)
@@ -161,14 +161,14 @@ acked-count s slot a =
     (λ t. simp t)
 
 -- in a sound state both ask the same
-pub place-same : (s : State) (a : ℕ) → Shaped s → a < 2 ^ 32 → Sound s → cellOk (s .tx) a ≡ placeOk (s .tx) a
-unfolding cellOk placeOk
+pub place-same : (s : State) (a : ℕ) → Shaped s → a < 2 ^ 32 → Sound s → cellHolds (s .tx) a ≡ placeOk (s .tx) a
+unfolding cellHolds placeOk
 place-same s a shaped h fine =
     cases (inTable (s .tx) a)
     (λ t. simp t (ap (λ p. eqb (p .seq .0) a) (placed (s .tx) a (shaped .next-u32) h (fine .packet-count) t .here)))
     (λ t. simp t)
 
-pub ack-verdict-same : (s : State) (slot time a : ℕ) → Shaped s → a < 2 ^ 32 → timedVerdict s slot time (gate (cellOk (s .tx) a) 18 Pass) ≡ ackVerdict s slot time a
+pub ack-verdict-same : (s : State) (slot time a : ℕ) → Shaped s → a < 2 ^ 32 → timedVerdict s slot time (gate (cellHolds (s .tx) a) 18 Pass) ≡ ackVerdict s slot time a
 unfolding ackVerdict timedVerdict
 ack-verdict-same s slot time a shaped h =
     cases (soundb s)

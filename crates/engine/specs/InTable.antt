@@ -7,7 +7,7 @@ use native.Mathlib.Omega.{arith}
 use lib.Dec.{leb}
 use lib.ListN.{length, getD}
 use borrow.Author.Tests.{leb-true}
-use Rattle.seq.specs.Numbers.{minus}
+use Rattle.seq.specs.Numbers.{plus, minus}
 use mathlib.Core.List.{List}
 use Rattle.engine.specs.declared.state.SentReliable.{SentReliable}
 use Rattle.engine.specs.declared.state.Sending.{Sending}
@@ -35,6 +35,13 @@ cell-of-place t count back c l h =
 pub back-number : (t n : ℕ) → t < 2 ^ 32 → n < 2 ^ 32 → n ≡ minus t (minus t n)
 unfolding minus
 back-number t n ht hn = omega arith
+
+-- the number `back` before the next is `count − back` past the first
+pub number-past : (t count back : ℕ) → count ≤ PACKETS → back ≤ count → minus t back ≡ plus (minus t count) (count - back)
+unfolding plus minus
+number-past t count back c h =
+    let e : t + (2 ^ 32 - back) ≡ t + (2 ^ 32 - count) + (count - back) = omega arith in
+    ap (λ k. k % 2 ^ 32) e ∙ sym (mod-add-mod (t + (2 ^ 32 - count)) (2 ^ 32) (count - back))
 
 cell-wraps : (t k : ℕ) → minus t k % PACKETS ≡ (t + (2 ^ 32 - k)) % PACKETS
 unfolding minus

@@ -1,6 +1,6 @@
 -- Document 01, "Links. Adding uses the lowest empty slot. .. Confirming, blocking, noting a ping and setting the limit mark to any
 -- number are plain changes of a row (P)", and "Pong". Assumes nothing.
-use mathlib.Core.Path.{_≡_, refl, sym, ap, ap₂, _∙_}
+use mathlib.Core.Path.{_≡_, sym, ap, ap₂, _∙_}
 use mathlib.Core.Bool.{Bool, true, false, cond, not, _&&_, _||_}
 use mathlib.Core.List.{List, [], _∷_}
 use Prim.Native.Nat.{ℕ, zero, suc, _+_, _-_, _≤_, _<_}
@@ -11,7 +11,7 @@ use lib.ListN.{length, getD, drop, drop-of-length-le}
 use lib.Seq.{drop-cons}
 use borrow.Author.Tests.{eq-eqb}
 use borrow.Table.Steps.{cases}
-use Rattle.refusal.specs.Answers.{Told, success, refused, toldBy}
+use Rattle.refusal.specs.Answers.{Told, success, refused}
 use Rattle.refusal.specs.Tests.{false-true}
 use Rattle.refusal.specs.declared.verdict.Verdict.{Verdict}
 use Rattle.refusal.specs.declared.verdict.Verdict.the-variants as verdicts
@@ -96,10 +96,6 @@ unfoldable pub pongOf : State → ℕ → ℕ → Changed
 pongOf s slot time = changedBy (timedVerdict s slot time verdicts.Pass) s (withTime (withRow s slot (ponged (rowOf s slot) time)) time)
 
 -- ---- laws
-
-pub added-told : (v : Verdict) (slot : ℕ) (s next : State) → addTold (addedBy v slot s next .answer) ≡ toldBy v (slot ∷ [])
-added-told verdicts.Pass slot s next = refl
-added-told (verdicts.No e) slot s next = refl
 
 -- the rows from j on are row j and those after it
 module _ (rows : List LinkRow) (j : ℕ) where

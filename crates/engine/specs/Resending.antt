@@ -5,7 +5,6 @@ use mathlib.Core.Path.{_≡_, refl, sym, ap, ap₂, _∙_}
 use mathlib.Core.Bool.{Bool, true, false, not, _&&_, _||_, or-true}
 use mathlib.Core.List.{List, [], _∷_}
 use Prim.Native.Nat.{ℕ, zero, suc, _+_, _-_, _%_, _^_, _≤_, _<_}
-use native.Mathlib.Nat.{mod-add-mod}
 use native.Mathlib.Omega.{arith}
 use lib.Dec.{eqb, ltb}
 use lib.ListN.{length, getD, set}
@@ -14,7 +13,7 @@ use borrow.Table.Steps.{cases}
 use Rattle.seq.specs.declared.Seq.{Seq}
 use Rattle.seq.specs.Numbers.{plus, minus}
 use Rattle.msg.specs.Reliable.{kindOf, countOf}
-use Rattle.refusal.specs.Answers.{Told, success, refused, toldBy}
+use Rattle.refusal.specs.Answers.{Told, success, refused}
 use Rattle.refusal.specs.declared.verdict.Verdict.{Verdict}
 use Rattle.refusal.specs.declared.verdict.Verdict.the-variants as verdicts
 use Rattle.refusal.specs.Verdicts.{gate, gate-pass}
@@ -33,7 +32,7 @@ use Rattle.engine.specs.Rows.{rowOf, slotOk, timeOk, row-of}
 use Rattle.engine.specs.Decide.{soundb, sound}
 use Rattle.engine.specs.Gates.{timedVerdict}
 use Rattle.engine.specs.Sound.{Sound, Shaped, rowAt, packetAt}
-use Rattle.engine.specs.InTable.{back-number, placed, packet-short, row-small}
+use Rattle.engine.specs.InTable.{back-number, number-past, placed, packet-short, row-small}
 use Rattle.engine.specs.declared.resending.ResendAnswer.{ResendAnswer}
 use Rattle.engine.specs.declared.resending.ResendAnswer.the-variants.{Message, No}
 use Rattle.engine.specs.declared.resending.ResendResult.{ResendResult}
@@ -83,11 +82,6 @@ resendOf s slot time n = resentBy (resendVerdict s slot time n) s n (resentState
 
 -- ---- laws
 
-pub resent-told : (v : Verdict) (s : State) (n : ℕ) (next : State)
-    → resendTold (resentBy v s n next .answer) ≡ toldBy v (kindOf (lookedAt (s .tx) n .msg) ∷ countOf (lookedAt (s .tx) n .msg) ∷ lookedAt (s .tx) n .len ∷ [])
-resent-told verdicts.Pass s n next = refl
-resent-told (verdicts.No e) s n next = refl
-
 -- a queued packet's number is listed ..
 listed-in : (ps : List SentReliable) (i : ℕ) → i < length ps → isQueued (getD ps i noPacket .status) ≡ true → isListed (queuedOf ps) (getD ps i noPacket .seq .0) ≡ true
 unfolding isListed queuedOf
@@ -114,13 +108,6 @@ number-back : (t count i : ℕ) → t < 2 ^ 32 → count ≤ PACKETS → i < cou
 unfolding plus minus
 number-back t count i ht c h = omega arith
 
-from-first : (t count back : ℕ) → count ≤ PACKETS → back ≤ count → plus (minus t count) (count - back) ≡ minus t back
-unfolding plus minus
-from-first t count back c h = mod-add-mod (t + (2 ^ 32 - count)) (2 ^ 32) (count - back) ∙ ap (λ k. k % 2 ^ 32) (omega arith)
-
-back-place : (t count n : ℕ) → t < 2 ^ 32 → n < 2 ^ 32 → count ≤ PACKETS → minus t n ≤ count → plus (minus t count) (count - minus t n) ≡ n
-back-place t count n ht hn c h = from-first t count (minus t n) c h ∙ sym (back-number t n ht hn)
-
 module _ (s : State) (n : ℕ) (shaped : Shaped s) (fine : Sound s) (u32 : n < 2 ^ 32) where
   -- a listed number is in the table, and its packet is queued ..
   pub listed-queued : isListed (queue (s .tx)) n ≡ true → (inTable (s .tx) n ≡ true) × (isQueued (lookedAt (s .tx) n .status) ≡ true)
@@ -138,13 +125,14 @@ module _ (s : State) (n : ℕ) (shaped : Shaped s) (fine : Sound s) (u32 : n < 2
   -- .. and back
   pub queued-listed : inTable (s .tx) n ≡ true → isQueued (lookedAt (s .tx) n .status) ≡ true → isListed (queue (s .tx)) n ≡ true
   unfolding place lookedAt
-  queued-listed t q =
-      let p = placed (s .tx) n (shaped .next-u32) u32 (fine .packet-count) t in
+  queued-listed held q =
+      let p = placed (s .tx) n (shaped .next-u32) u32 (fine .packet-count) held in
       let i = place (s .tx) n in
+      let next = s .tx .«tx_seq» .0 in
       let few : i < s .tx .«txed_count» = omega (arith, p .back-low, p .back-high) in
       let number : packetAt s i .seq .0 ≡ n =
       ap (λ (x : Seq). x .0) (fine .consecutive i few)
-      ∙ back-place (s .tx .«tx_seq» .0) (s .tx .«txed_count») n (shaped .next-u32) u32 (fine .packet-count) (p .back-high) in
+      ∙ sym (back-number next n (shaped .next-u32) u32 ∙ number-past next (s .tx .«txed_count») (minus next n) (fine .packet-count) (p .back-high)) in
       ap (λ l. isListed l n) (fine .queued)
       ∙ ap (isListed (queuedOf (packets (s .tx)))) (sym number)
       ∙ listed-in (packets (s .tx)) i (omega (arith, window-length PACKETS noPacket (s .tx .«txed_packets») (firstOf (s .tx) % PACKETS) (s .tx .«txed_count»))) q

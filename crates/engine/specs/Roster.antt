@@ -1,19 +1,16 @@
 -- Who lives in which slot. Assumes nothing.
-use mathlib.Core.Path.{_≡_, refl, sym, ap, _∙_}
+use mathlib.Core.Path.{_≡_, refl, ap}
 use mathlib.Core.Bool.{Bool, true, false, cond, _&&_}
 use mathlib.Core.List.{List, [], _∷_}
 use Prim.Native.Nat.{ℕ, zero, suc, _-_, _≤_, _<_}
 use native.Mathlib.Nat.{not-suc-le-zero}
-use native.Mathlib.Decide.{ℕ-discrete}
 use native.Mathlib.Omega.{arith}
 use lib.Dec.{ltb, eqb}
 use lib.ListN.{getD}
-use borrow.Table.Steps.{cases}
 use Rattle.link.specs.declared.row.LinkRow.{LinkRow}
 use Rattle.link.specs.Row.{noRow}
 use Rattle.engine.specs.declared.roster.Roster.{Roster}
 use Rattle.engine.specs.Sizes.{SLOTS}
-use Rattle.refusal.specs.Tests.{false-true}
 
 liveAt : List LinkRow → ℕ → Bool
 liveAt links j = getD links j noRow .live
@@ -53,14 +50,3 @@ module _ (r : Roster) (id : ℕ) where
   unfolding livesBefore
   lives-none zero h = refl
   lives-none (suc n) h = absurd (not-suc-le-zero h)
-
--- an identity that none of the first n slots holds
-pub lives-nowhere : (r : Roster) (id n i : ℕ) → livesBefore r n id ≡ false → i < n → livesIn r i id ≡ true → ⊥
-unfolding livesBefore
-lives-nowhere r id zero i e h l = omega arith
-lives-nowhere r id (suc n) i e h l =
-    cases (livesIn r n id) (λ t. false-true (sym (simp t at e)))
-    (λ t. elim (ℕ-discrete i n) [
-      | yes q ↦ false-true (sym t ∙ ap (λ k. livesIn r k id) (sym q) ∙ l)
-      | no ne ↦ lives-nowhere r id n i (simp t at e) (omega arith) l
-    ])

@@ -1,7 +1,7 @@
 -- Document 01, "Send. Takes the next number, copies data to its own cell and no other byte, records Sent with time, slot and
 -- identity; `txed_unacked`, `txed_unconsumed` and the link's unacked bytes grow by the data length. The answer is the number. A
 -- Consumed reduces the taken-and-untold count by its amount (P)." Assumes nothing.
-use mathlib.Core.Path.{_≡_, refl}
+use mathlib.Core.Path.{_≡_}
 use mathlib.Core.Bool.{Bool, not, _&&_, _||_}
 use mathlib.Core.List.{List, [], _∷_}
 use Prim.Native.Nat.{ℕ, _+_, _-_, _%_, _^_, _≤_, _<_}
@@ -11,7 +11,7 @@ use borrow.Author.Tests.{eqb-true, leb-true, ltb-true}
 use Rattle.seq.specs.Numbers.{seqOf, plus}
 use Rattle.msg.specs.declared.reliable.ReliableMsg.{ReliableMsg}
 use Rattle.msg.specs.Reliable.{isKind, countOf, MSG_CONSUMED, MSG_SEND_FINISH}
-use Rattle.refusal.specs.Answers.{Told, success, refused, toldBy}
+use Rattle.refusal.specs.Answers.{Told, success, refused}
 use Rattle.refusal.specs.declared.verdict.Verdict.{Verdict}
 use Rattle.refusal.specs.declared.verdict.Verdict.the-variants as verdicts
 use Rattle.refusal.specs.Verdicts.{gate, gate-pass}
@@ -109,10 +109,6 @@ sendStore s store slot time msg bytes =
     storeBy (sendVerdict s (length store) slot time msg (length bytes)) store (copied store (cellStart PACKETS (s .tx .«tx_seq» .0)) bytes)
 
 -- ---- laws
-
-pub sent-told : (v : Verdict) (s next : State) → sendTold (sentBy v s next .answer) ≡ toldBy v (s .tx .«tx_seq» .0 ∷ [])
-sent-told verdicts.Pass s next = refl
-sent-told (verdicts.No e) s next = refl
 
 -- what an accepted message says of its state
 

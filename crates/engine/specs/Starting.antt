@@ -62,9 +62,13 @@ unfoldable pub freshOf : ℕ → ℕ → Changed
 unfolding freshVerdict freshState
 freshOf start buffer = changedBy (freshVerdict buffer) (freshState start buffer) (freshState start buffer)
 
+-- "Each returns its number alone": where a fresh state is refused, what comes with the refusal is not sound
+abbrev pub RefusedUnsound : Changed → Type 0
+RefusedUnsound r = (e : Refusal) → r .outcome ≡ outcomes.No e → soundb (r .state) ≡ false
+
 -- ---- laws
 
--- "Each returns its number alone": the state that comes with refusal 21 has the refused setting, and is none that a call takes
+-- the state that comes with refusal 21 has the refused setting
 pub refused-unsound : (start buffer : ℕ) (e : Refusal) → freshVerdict buffer ≡ No e → soundb (freshState start buffer) ≡ false
 unfolding freshVerdict freshState freshRx
 refused-unsound start buffer e v =
@@ -77,13 +81,9 @@ refused-unsound start buffer e v =
     absurd (omega arith))
     (λ t. t)
 
--- where a fresh state is refused, what comes with the refusal is not sound
-abbrev pub Usable : Changed → Type 0
-Usable r = (e : Refusal) → r .outcome ≡ outcomes.No e → soundb (r .state) ≡ false
-
-pub fresh-usable : (start buffer : ℕ) → Usable (freshOf start buffer)
+pub fresh-refused : (start buffer : ℕ) → RefusedUnsound (freshOf start buffer)
 unfolding freshOf
-fresh-usable start buffer e h = by-verdict (freshVerdict buffer) refl h
+fresh-refused start buffer e h = by-verdict (freshVerdict buffer) refl h
   where
     by-verdict : (v : Verdict) → freshVerdict buffer ≡ v → changedBy v (freshState start buffer) (freshState start buffer) .outcome ≡ outcomes.No e
         → soundb (changedBy v (freshState start buffer) (freshState start buffer) .state) ≡ false

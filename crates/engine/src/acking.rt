@@ -27,7 +27,7 @@ ghost use mathlib.Core.List.{[]};
 ghost use Prim.Native.Nat.{_+_, _≤_, _<_, _^_};
 ghost use Rattle.refusal.specs.Answers.{toldBy};
 ghost use Rattle.engine.specs.Answer.{outcomeTold};
-ghost use Rattle.engine.specs.Acking.{settledRow, receivedTx, settledTx, sweepOf, sweptTx, cellOk, ackVerdict, ackedRow, ackedTx, ackOf};
+ghost use Rattle.engine.specs.Acking.{settledRow, receivedTx, settledTx, sweepOf, sweptTx, cellHolds, ackVerdict, ackedRow, ackedTx, ackOf};
 ghost use Rattle.engine.specs.Sizes.{PACKETS};
 
 // The row, where the packet was Sent over its slot.
@@ -123,7 +123,7 @@ fn sweep(tx: Sending) -> Sending
 
 // The acked place, where there is one, holds the acked number.
 fn place_ok(tx: Sending, seq: Seq) -> bool
-    ensures { λ r. ⌜ r ≡ cellOk tx (seq .0) ⌝ }
+    ensures { λ r. ⌜ r ≡ cellHolds tx (seq .0) ⌝ }
 {
     if !in_table(tx, seq) {
         return true;

@@ -99,7 +99,7 @@ pub enum SlowAnswer {
     No(Refusal),
 }
 
-// The slow links of a lent run of rows, which is to be eight long.
+// The slow links of a lent run of rows, which is to be eight long. The answer and what it tells are one clause: the proof is by hand.
 pub fn slow(rows: &[LinkRow]) -> SlowAnswer
     ensures { λ r. ⌜ (r ≡ slowLinksOf (now (rows .entry))) × (slowTold r ≡ toldBy (slowVerdict (now (rows .entry))) (slowSlots (now (rows .entry)))) ⌝ }
 {

@@ -24,7 +24,7 @@ ghost use mathlib.Core.Path.{_≡_};
 ghost use mathlib.Core.List.{[]};
 ghost use Rattle.refusal.specs.Answers.{toldBy};
 ghost use Rattle.engine.specs.Answer.{outcomeTold};
-ghost use Rattle.engine.specs.Starting.{freshTx, freshRx, freshState, freshVerdict, freshOf, Usable};
+ghost use Rattle.engine.specs.Starting.{freshTx, freshRx, freshState, freshVerdict, freshOf, RefusedUnsound};
 
 fn fresh_tx(start: Seq) -> Sending
     ensures { λ r. ⌜ r ≡ freshTx (start .0) ⌝ }
@@ -79,7 +79,7 @@ fn fresh_state(start: Seq, recv_buffer: u32) -> State
 pub fn fresh(start: Seq, recv_buffer: u32) -> Changed
     ensures { λ r. ⌜ r ≡ freshOf (start .0) «recv_buffer» ⌝ }
     ensures { λ r. ⌜ outcomeTold (r .outcome) ≡ toldBy (freshVerdict «recv_buffer») [] ⌝ }
-    ensures { λ r. ⌜ Usable r ⌝ }
+    ensures { λ r. ⌜ RefusedUnsound r ⌝ }
 {
     let state = fresh_state(start, recv_buffer);
     let ok = both(1 <= recv_buffer, recv_buffer <= MAX_RECV_BUFFER);

@@ -24,7 +24,7 @@ use Rattle.engine.specs.declared.handing_out.TakeAckResult.{TakeAckResult}
 use Rattle.engine.specs.declared.handing_out.Due.{Due as DueAnswer}
 use Rattle.engine.specs.Answer.{outcomeTold}
 use Rattle.engine.specs.Decide.{soundb}
-use Rattle.engine.specs.Starting.{freshVerdict, freshOf, Usable}
+use Rattle.engine.specs.Starting.{freshVerdict, freshOf, RefusedUnsound}
 use Rattle.engine.specs.Links.{addTold}
 use Rattle.engine.specs.Sending.{sendTold}
 use Rattle.engine.specs.Resending.{resendTold}
@@ -119,7 +119,7 @@ module _ (c : Call) (h : Holding) (n : ℕ) (after : Holding) (says : Says c h n
 
 fresh-learnt : (κs : _) (start : Seq) (buffer : ℕ) (r : Changed) (e : _)
     → engine.starting.fresh.Reads.Learnt κs (start, (buffer, tt)) r e
-    ≡ ((r ≡ freshOf (start .0) buffer) × ((outcomeTold (r .outcome) ≡ toldBy (freshVerdict buffer) []) × Usable r))
+    ≡ ((r ≡ freshOf (start .0) buffer) × ((outcomeTold (r .outcome) ≡ toldBy (freshVerdict buffer) []) × RefusedUnsound r))
 fresh-learnt κs start buffer r e = refl
 
 sound-learnt : (κs : _) (s : State) (r : Bool) (e : _) → engine.sound.is_sound.Reads.Learnt κs (s, tt) r e ≡ (r ≡ soundb s)

@@ -3,7 +3,7 @@
 use mathlib.Core.Path.{_≡_, refl, sym, ap, _∙_}
 use mathlib.Core.Bool.{true}
 use mathlib.Core.List.{List, [], _∷_}
-use Prim.Native.Nat.{ℕ, zero, suc, _+_, _-_, _%_, _^_, _≤_, _<_}
+use Prim.Native.Nat.{ℕ, zero, suc, _+_, _%_, _^_, _≤_, _<_}
 use native.Mathlib.Nat.{mod-add-mod}
 use native.Mathlib.Decide.{ℕ-discrete}
 use native.Mathlib.Omega.{arith}
@@ -16,7 +16,7 @@ use Rattle.engine.specs.declared.state.Sending.{Sending}
 use Rattle.engine.specs.Ring.{window, window-set-in}
 use Rattle.engine.specs.Packets.{noPacket, firstOf, packets, isQueued, queuedOf, Pick, weight, sumOf}
 use Rattle.engine.specs.Table.{inTable, place, lookedAt}
-use Rattle.engine.specs.InTable.{cells-divide, placed, back-number}
+use Rattle.engine.specs.InTable.{cells-divide, placed, back-number, number-past}
 use Rattle.engine.specs.Sizes.{PACKETS}
 use Rattle.laws.specs.PacketsKept.{packets-count}
 
@@ -52,13 +52,6 @@ queued-set (q ∷ ps) (suc i) p e u = simp (queued-set ps i p e u)
 -- the packets, oldest first, where the number n has another
 abbrev pub replaced : Sending → ℕ → SentReliable → List SentReliable
 replaced tx n p = window PACKETS noPacket (set (tx .«txed_packets») (n % PACKETS) p) (firstOf tx % PACKETS) (tx .«txed_count»)
-
--- over bare numbers: the number `back` before the next is `count − back` past the first
-pub number-past : (t count back : ℕ) → count ≤ PACKETS → back ≤ count → minus t back ≡ plus (minus t count) (count - back)
-unfolding plus minus
-number-past t count back c h =
-    let e : t + (2 ^ 32 - back) ≡ t + (2 ^ 32 - count) + (count - back) = omega arith in
-    ap (λ k. k % 2 ^ 32) e ∙ sym (mod-add-mod (t + (2 ^ 32 - count)) (2 ^ 32) (count - back))
 
 module _ (tx : Sending) (n : ℕ) (next : tx .«tx_seq» .0 < 2 ^ 32) (number : n < 2 ^ 32) (count : tx .«txed_count» ≤ PACKETS)
     (cells : length (tx .«txed_packets») ≡ PACKETS) (held : inTable tx n ≡ true) where

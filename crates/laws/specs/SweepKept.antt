@@ -17,14 +17,13 @@ use Rattle.engine.specs.declared.state.SentReliable.{SentReliable}
 use Rattle.engine.specs.declared.state.State.{State}
 use Rattle.engine.specs.Ring.{window, window-drop}
 use Rattle.engine.specs.Packets.{noPacket, firstOf, packets, isReceived, isQueued, queuedOf, Pick, SentOn, Outstanding, Settled, weight, weightAs, sumOf}
-use Rattle.engine.specs.InTable.{cells-divide}
+use Rattle.engine.specs.InTable.{cells-divide, number-past}
 use Rattle.engine.specs.Sound.{Shaped, packetAt}
 use Rattle.engine.specs.Acking.{sweepFrom, sweepOf, sweptTx}
 use Rattle.engine.specs.Sizes.{PACKETS}
 use Rattle.engine.specs.Fields.{withTx}
 use Rattle.laws.specs.RowsKept.{here-kept}
 use Rattle.laws.specs.PacketsKept.{packets-count}
-use Rattle.laws.specs.PacketReplaced.{number-past}
 use Rattle.laws.specs.NearlySound.{Nearly}
 use Rattle.refusal.specs.Tests.{false-true}
 

@@ -1,6 +1,6 @@
 -- One gate, and the same state either way.
 use Rattle.engine.specs.Answer.{told-of}
-use Rattle.engine.specs.Starting.{freshVerdict, freshOf, fresh-usable}
+use Rattle.engine.specs.Starting.{freshVerdict, freshOf, fresh-refused}
 use borrow.Author.Needs.{needs}
 use Rattle.engine.proofs.starting.fresh.Statement.{statement}
 use Rattle.engine.proofs.starting.fresh.Tie as tie
@@ -25,7 +25,7 @@ returns c =
       simp (c .change .ensures, c .before .gate .ensures, c .before .before .both .ensures, c .before .before .before .fresh-state .ensures),
       (
         told-of (c .before .gate .result) _ (c .before .before .before .fresh-state .result) (c .before .before .before .fresh-state .result) (c .change .ensures) (simp (c .before .before .both .ensures) at (c .before .gate .ensures)),
-        rw e (fresh-usable (a .start .0) (a .recv-buffer)),
+        rw e (fresh-refused (a .start .0) (a .recv-buffer)),
       ),
     )
 
