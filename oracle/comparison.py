@@ -91,12 +91,13 @@ class Difference:
 
 
 class Tally:
-    """What was run: calls by name, accepted ones, refusals by number."""
+    """What was run: calls by name, accepted ones, refusals by number, and what the accepted deadlines met, as the model saw it."""
 
     def __init__(self):
         self.calls = collections.Counter()
         self.accepted = collections.Counter()
         self.refusals = collections.Counter()
+        self.deadlines = collections.Counter()
 
     def add(self, lines, answers):
         for line, answer in zip(lines, answers):
@@ -114,16 +115,18 @@ class Tally:
         self.calls.update(other.calls)
         self.accepted.update(other.accepted)
         self.refusals.update(other.refusals)
+        self.deadlines.update(other.deadlines)
 
     def __str__(self):
         accepted = sum(self.accepted.values())
         numbers = sorted(self.refusals, key=lambda word: (not word.isdigit(), int(word) if word.isdigit() else 0))
-        return "%d calls, %d accepted, %d of these dumps\naccepted: %s\nrefused: %s" % (
+        return "%d calls, %d accepted, %d of these dumps\naccepted: %s\nrefused: %s\ndeadlines: %s" % (
             sum(self.calls.values()),
             accepted,
             self.accepted["dump"],
             ", ".join("%s %d" % item for item in sorted(self.accepted.items())),
             ", ".join("%s: %d" % (word, self.refusals[word]) for word in numbers),
+            ", ".join("%s: %d" % item for item in self.deadlines.items()) or "none",
         )
 
 
@@ -134,6 +137,8 @@ def compare(sides, seeds, calls, mode="near"):
     port, original = sides.answers(lines)
     tally = Tally()
     tally.add(lines, port)
+    for one in scripts:
+        tally.deadlines.update(one.deadlines)
     differences = []
     at = 0
     for seed, one in zip(seeds, scripts):

@@ -1,9 +1,10 @@
 """Scripts of calls, each from a seed: oracle/generate writes one, oracle/compare runs many.
 
 The model goes along, so that a script can aim at what its state makes interesting: the wrap, a full table, the window's edge, a
-buffer exactly full, repeats, late acks. Its answers come with the script.
+buffer exactly full, repeats, late acks, a deadline's bounds. Its answers come with the script.
 """
 
+import collections
 import random
 
 from model import (
@@ -13,6 +14,7 @@ from model import (
     DATA,
     MOST_BUFFER,
     MOST_DATA,
+    MOST_FACTOR,
     MOST_TIME,
     PACKETS,
     RECEIVE_CLOSE,
@@ -20,6 +22,7 @@ from model import (
     SEND_FINISH,
     SENT,
     STORE,
+    TOO_LARGE,
     USABLE_INTERVAL,
     WRAP,
     Model,
@@ -37,24 +40,32 @@ TURNS = (0, 2**30 - 1, 2**31, 3 * (2**30 - 1), 3 * 2**30)
 
 BUFFERS = (1, 2, 9, 10, 11, 19, 20, 100, 1023, 1024, 1025, 2048, 6553, 65535)
 
+# Products of deadline factors. The round trip that each brings to 2^64 is within 2^56.
+FACTORS_TOGETHER = (256, 257, 999, 1000, 1000**2, 999 * 1000**2, 1000**3)
+
+BAD_FACTORS = (0, MOST_FACTOR + 1, 2**32, 2**32 + 1, 2**64 - 1)
+BAD_BOUNDS = (MOST_TIME + 1, MOST_TIME + 2, 2**57, 2**64 - 1)
+
 # How often each step is taken, mood by mood; a mood lasts for some dozens of calls.
 MOODS = {
-    "fill": {"send": 60, "flush": 3, "ack": 3, "receive": 2, "block": 1},
-    "drain": {"ack": 60, "send": 6, "receive_consumed": 3},
-    "both": {"send": 20, "ack": 18, "receive": 20, "take": 10, "takeack": 10, "flush": 4},
-    "arrive": {"receive": 60, "show": 2, "take": 4, "takeack": 2, "pile": 1},
+    "fill": {"send": 100, "flush": 3, "ack": 3, "receive": 2, "block": 1, "deadline": 10},
+    "drain": {"ack": 70, "send": 6, "receive_consumed": 3, "deadline": 14},
+    "both": {"send": 20, "ack": 20, "receive": 20, "take": 10, "takeack": 10, "flush": 4, "deadline": 16},
+    "arrive": {"receive": 60, "show": 2, "take": 4, "takeack": 2, "pile": 1.3},
     "window": {"receive_edge": 40, "receive": 20, "take": 8, "takeack": 6},
     "hand out": {"take": 40, "takeack": 40, "receive": 10, "due": 6, "send_consumed": 8, "tenth": 2},
-    "repeat": {"receive_again": 40, "takeack": 20, "receive": 10, "pile": 1},
-    "links": {"add": 14, "remove": 10, "unconfirm": 12, "confirm": 8, "block": 6, "resend": 25, "send": 25, "ack": 10},
-    "lost": {"unconfirm": 12, "resend": 50, "ack": 20, "add": 5, "flush": 6, "mark": 6, "send": 12},
-    "trips": {"ping": 12, "pong": 14, "mark": 14, "ack": 30, "send": 30, "slow": 6, "flush": 6},
-    "slow": {"slow": 30, "add": 12, "remove": 8, "block": 10, "confirm": 10, "unconfirm": 6, "pong": 6, "ping": 6},
+    "repeat": {"receive_again": 40, "takeack": 20, "receive": 10, "pile": 1.3},
+    "links": {"add": 14, "remove": 10, "unconfirm": 12, "confirm": 8, "block": 6, "resend": 28, "send": 25, "ack": 10, "deadline": 16},
+    "lost": {"unconfirm": 14, "resend": 60, "ack": 24, "add": 6, "flush": 6, "mark": 8, "send": 12, "deadline": 22},
+    "trips": {"ping": 13, "pong": 15, "mark": 18, "ack": 34, "send": 30, "slow": 6, "flush": 6, "deadline": 20},
+    "deadlines": {"deadline": 120, "send": 10, "flush": 6, "unconfirm": 4, "resend": 12, "ack": 8, "add": 6, "remove": 3, "pong": 2},
+    "slow": {"slow": 32, "add": 12, "remove": 8, "block": 10, "confirm": 10, "unconfirm": 6, "pong": 6, "ping": 7, "deadline": 6},
     "messages": {"read": 50, "write": 50},
     "odd": {"junk": 20, "lend": 6, "fresh": 1, "wrong_slot": 20, "wrong_time": 20, "send": 10, "receive": 10},
 }
 SELDOM = {"junk": 0.3, "lend": 0.3, "wrong_slot": 0.6, "wrong_time": 0.6, "mark": 0.3, "add": 0.4, "due": 0.4, "slow": 0.4}
 SELDOM.update({"ping": 0.4, "pong": 0.4, "read": 0.4, "write": 0.4, "confirm": 0.3, "send_consumed": 0.4, "show": 0.4})
+SELDOM["deadline"] = 3
 
 
 def weights(mood):
@@ -72,8 +83,37 @@ def weights(mood):
 WEIGHTS = {mood: weights(mood) for mood in MOODS}
 
 
+def met(end, roundtrip_factor, resent_factor, unreliable_factor, least, most, unreliable):
+    """What an accepted deadline met, for the tally."""
+    packet = end.first_sent()
+    facts = {"a packet named": packet is not None, "none named": packet is None}
+    if packet is None:
+        return facts
+    factors = [roundtrip_factor, resent_factor, unreliable_factor]
+    in_use = [roundtrip_factor] + [resent_factor] * packet.resent + [unreliable_factor] * unreliable
+    product = end.wait(packet, factors, unreliable)
+    return facts | {
+        "not the table's first": packet is not end.packets[0],
+        "not resent": not packet.resent,
+        "resent": packet.resent,
+        "not flushed": packet.flushed is None,
+        "flushed": packet.flushed is not None,
+        "reliable": not unreliable,
+        "unreliable": unreliable,
+        "all factors 1": factors == [1, 1, 1],
+        "a factor 1,000 in use": MOST_FACTOR in in_use,
+        "product up to 2^60 below 2^64": 0 < TOO_LARGE - product <= 2**60,
+        "product up to 2^60 above 2^64": 0 <= product - TOO_LARGE <= 2**60,
+        "product 2^64 or more": product >= TOO_LARGE,
+        "bounds equal": least == most,
+        "raised to the minimum": product < least,
+        "within the bounds": least <= product <= most,
+        "cut to the maximum": product > most,
+    }
+
+
 class Script:
-    """A script in the making: its lines and the model's answers."""
+    """A script in the making: its lines, the model's answers, and what its deadlines met."""
 
     def __init__(self, seed, calls, far=False):
         self.random = random.Random("farthingkeg %d %d" % (seed, far))
@@ -81,6 +121,7 @@ class Script:
         self.far = far
         self.lines = []
         self.answers = []
+        self.deadlines = collections.Counter()
         self.since_dump = 0
         self.model = Model()
         self.begin()
@@ -105,6 +146,8 @@ class Script:
     def put(self, line):
         self.lines.append(line)
         self.answers.append(self.model.answer(line))
+        if line.startswith("deadline ") and self.answers[-1].startswith("0"):
+            self.deadlines.update(met(self.end, *map(int, line.split(" ")[1:])))
 
     # Choices.
 
@@ -186,11 +229,15 @@ class Script:
 
     def step_add(self):
         identity = self.pick(self.below(12), self.below(12), 2**64 - 1, self.below(2**64))
-        trip = self.pick(0, 1, 50, 99, 100, 101, 1000, self.below(10**9), MOST_TIME)
+        trip = self.pick(0, 1, 50, 99, 100, 101, 1000, self.below(10**9), MOST_TIME, *(self.long_trip() for _ in range(3)))
         limit = self.pick("-", trip, max(0, trip - 1), trip + 1, self.below(2000))
         if self.chance(0.02):
             trip, limit = self.pick((MOST_TIME + 1, "-"), (0, MOST_TIME + 1), (2**64 - 1, 2**64 - 1), (MOST_TIME, MOST_TIME))
         self.call("add", identity, trip, limit, int(self.chance(0.2)), int(self.chance(0.3)))
+
+    def long_trip(self):
+        """A round trip that the factors of a deadline bring to 2^64, from either side."""
+        return min(TOO_LARGE // self.random.choice(FACTORS_TOGETHER) + self.below(2), MOST_TIME)
 
     def step_remove(self):
         if len(self.live()) > 1 or self.chance(0.1):
@@ -257,6 +304,55 @@ class Script:
             first = packets[0].number if packets else self.end.tx
             number = self.pick(self.end.tx, self.end.tx + 1, first - 1, first - 2, self.end.tx - PACKETS, first - self.below(200))
         self.call("ack", slot, self.time(), self.near(number))
+
+    # Deadlines.
+
+    def step_deadline(self):
+        """Factors and bounds at the edges that the named packet gives them; at times bad ones, whether or not one is named."""
+        if self.end.first_sent() is None and self.chance(0.7):
+            self.step_send()
+        packet = self.end.first_sent()
+        unreliable = self.below(2)
+        factors = self.factors(packet, unreliable)
+        wait = self.end.wait(packet, factors, unreliable) if packet else 0
+        settings = factors + self.bounds(wait)
+        if self.chance(0.08):
+            self.spoil(settings)
+        self.call("deadline", *settings, unreliable)
+
+    def factors(self, packet, unreliable):
+        """Three factors; of a long round trip often such that the product comes to 2^64 or stays just below it."""
+        if self.chance(0.3):
+            return [self.pick(1, MOST_FACTOR, self.factor())] * 3
+        factors = [self.factor() for _ in range(3)]
+        if packet and self.chance(0.5):
+            # The first is always in use, so that it can make up for the others.
+            wait = self.end.wait(packet, [1, *factors[1:]], unreliable)
+            fitting = TOO_LARGE // max(wait, 1) + self.pick(-1, 0, 0, 1, 1)
+            if 1 <= fitting <= MOST_FACTOR:
+                factors[0] = fitting
+        return factors
+
+    def factor(self):
+        return self.pick(1, 1, 2, 10, 256, MOST_FACTOR - 1, MOST_FACTOR, 1 + self.below(MOST_FACTOR))
+
+    def bounds(self, wait):
+        """A minimum and a maximum, often at the wait or next to it."""
+        near = [min(max(0, wait + step), MOST_TIME) for step in (-1, 0, 1)]
+        edges = (0, *near, *near, self.below(10**6), self.below(MOST_TIME), MOST_TIME - 1, MOST_TIME)
+        return sorted(self.random.choices(edges, k=2))
+
+    def spoil(self, settings):
+        """Makes a factor bad, or the minimum pass the maximum, or one or both bounds pass 2^56."""
+        how = self.below(4)
+        if how == 0:
+            settings[self.below(3)] = self.random.choice(BAD_FACTORS)
+        elif how == 1:
+            settings[3] = settings[4] + self.pick(1, 1, self.below(MOST_TIME))
+        else:
+            settings[4] = self.random.choice(BAD_BOUNDS)
+            if how == 3:
+                settings[3] = settings[4]
 
     # Receiving and handing out.
 
@@ -406,7 +502,8 @@ class Script:
         name = self.pick("sent", "received")
         self.call("lend", name, self.pick(0, 1, STORE - 1, STORE + 1))
         for _ in range(1 + self.below(4)):
-            getattr(self, self.pick("step_send", "step_receive", "step_show", "step_receive_again", "step_take", "step_ack"))()
+            names = ("step_send", "step_receive", "step_show", "step_receive_again", "step_take", "step_ack", "step_deadline")
+            getattr(self, self.random.choice(names))()
         self.call("lend", name, STORE)
 
     def step_wrong_slot(self):
@@ -447,6 +544,7 @@ class Trips:
 
     def __init__(self, seed, calls):
         self.random = random.Random("farthingkeg trips %d" % seed)
+        self.deadlines = collections.Counter()
         self.lines = []
         while len(self.lines) + 5 <= calls:
             trip, elapsed = self.time(), self.time()
@@ -529,6 +627,14 @@ JUNK = (
     "write 10 14 2",
     "write 10 7 4294967296",
     "due 1",
+    "deadline",
+    "deadline 1 1 1 0 0",
+    "deadline 1 1 1 0 0 0 0",
+    "deadline 1 1 1 0 0 2",
+    "deadline 1 1 1 0 0 -",
+    "deadline 01 1 1 0 0 0",
+    "deadline 18446744073709551616 1 1 0 0 0",
+    "deadline 1 1 1 0 18446744073709551616 0",
     "slow 10",
     "takeack",
     "# dump",

@@ -1,5 +1,5 @@
 #!/usr/bin/env python3
-"""Document 01 as a model: answers the scripted calls of CALLS.md. Written from these two papers alone.
+"""Document 01 and request [1] of 02 as a model: answers the scripted calls of CALLS.md. Written from these papers alone.
 
     python3 oracle/model.py < SCRIPT
     python3 oracle/model.py --sound < SCRIPT     also asks after every call that the state is sound
@@ -13,6 +13,8 @@ import sys
 WRAP = 2**32
 MOST_TOTAL = WRAP - 1
 MOST_TIME = 2**56
+MOST_FACTOR = 1000
+TOO_LARGE = 2**64
 SLOTS = 8
 PACKETS = 64
 CELLS = 64
@@ -66,7 +68,7 @@ class Link:
 
 
 class Packet:
-    """A packet of the table. A queued one remembers the identity that it was last sent on."""
+    """A packet of the table. A queued one remembers the identity that it was last sent on, and every one whether it was resent."""
 
     def __init__(self, number, slot, identity, time, kind, count, length):
         self.number = number
@@ -75,6 +77,7 @@ class Packet:
         self.identity = identity
         self.time = time
         self.flushed = None
+        self.resent = False
         self.kind = kind
         self.count = count
         self.length = length
@@ -240,6 +243,7 @@ class End:
             raise Refused(17)
         packet.status = SENT
         packet.slot, packet.identity, packet.time, packet.flushed = slot, link.identity, time, None
+        packet.resent = True
         self.queue.remove(number)
         link.unacked += packet.length
         if link.mark is not None and before(number, link.mark):
@@ -296,6 +300,35 @@ class End:
         packet.status = RECEIVED
         self.unacked -= packet.length
         self.unconsumable += packet.length
+
+    # Confirmation deadlines (02, [1]).
+
+    def first_sent(self):
+        """The first packet in table order that is Sent."""
+        return next((packet for packet in self.packets if packet.status == SENT), None)
+
+    def wait(self, packet, factors, unreliable):
+        """The round trip of the packet's link times the factors that it meets, before the bounds."""
+        roundtrip_factor, resent_factor, unreliable_factor = factors
+        wait = self.links[packet.slot].roundtrip * roundtrip_factor
+        if packet.resent:
+            wait *= resent_factor
+        if unreliable:
+            wait *= unreliable_factor
+        return wait
+
+    def deadline(self, roundtrip_factor, resent_factor, unreliable_factor, least, most, unreliable):
+        """The first Sent packet's slot, whether it was flushed, and its deadline; nothing when no packet is Sent."""
+        factors = (roundtrip_factor, resent_factor, unreliable_factor)
+        if any(not 1 <= factor <= MOST_FACTOR for factor in factors) or least > most or max(least, most) > MOST_TIME:
+            raise Refused(21)
+        packet = self.first_sent()
+        if packet is None:
+            return []
+        wait = self.wait(packet, factors, unreliable)
+        wait = most if wait >= TOO_LARGE else min(max(wait, least), most)
+        flushed = packet.flushed is not None
+        return [packet.slot, flushed, (packet.flushed if flushed else packet.time) + wait]
 
     # Receiving and handing out.
 
@@ -409,7 +442,8 @@ class End:
                 out.append(" ".join([line, *map(str, link.acks)]))
         for p in self.packets:
             if p.status == SENT:
-                what = "%d %d %d %s %d %d %d" % (p.slot, p.identity, p.time, or_none(p.flushed), p.kind, p.count, p.length)
+                sent = "%d %d %d %s %d" % (p.slot, p.identity, p.time, or_none(p.flushed), p.resent)
+                what = "%s %d %d %d" % (sent, p.kind, p.count, p.length)
             elif p.status == RECEIVED:
                 what = "%d" % p.length
             else:
@@ -590,6 +624,7 @@ CALLS = {
     "take": [],
     "takeack": [u8],
     "due": [],
+    "deadline": [u64, u64, u64, u64, u64, flag],
     "slow": [number_below(SLOTS + 2)],
     "dump": [],
     "read": [data],
@@ -678,6 +713,8 @@ class Model:
             return [" %d" % end.take_ack(*args)]
         elif name == "due":
             return [" %d" % end.due()]
+        elif name == "deadline":
+            return [" %d" % word for word in end.deadline(*args)]
         elif name == "slow":
             return [" %d" % slot for slot in end.slow(*args)]
         elif name == "dump":

@@ -3,6 +3,7 @@ use crate::out;
 use crate::out::Buffer;
 use engine::AddAnswer;
 use engine::CELLS;
+use engine::ConfirmTimeout;
 use engine::DATA_BYTES;
 use engine::Due;
 use engine::HandOut;
@@ -75,6 +76,22 @@ pub fn due(out: &mut Buffer, at: usize, answer: Due) -> usize {
     match answer {
         Due::Is(is) => one(out, at, is as u64),
         Due::No(e) => no(out, at, e),
+    }
+}
+
+fn named(out: &mut Buffer, at: usize, slot: u8, flushed: bool, deadline: u64) -> usize {
+    let a = out::put(out, at, b"0");
+    let b = out::next(out, a, slot as u64);
+    let c = out::next(out, b, flushed as u64);
+    let d = out::next(out, c, deadline);
+    out::end(out, d)
+}
+
+pub fn deadline(out: &mut Buffer, at: usize, answer: ConfirmTimeout) -> usize {
+    match answer {
+        ConfirmTimeout::Packet(slot, flushed, deadline) => named(out, at, slot, flushed, deadline),
+        ConfirmTimeout::Nothing => done(out, at),
+        ConfirmTimeout::No(e) => no(out, at, e),
     }
 }
 

@@ -15,6 +15,7 @@ use crate::words::word;
 use engine::RECEIVED_BYTES;
 use engine::SENT_BYTES;
 use engine::SLOTS;
+use link::AckTimeout;
 use link::MaxPing;
 use msg::LinkMsg;
 use msg::ReliableMsg;
@@ -35,6 +36,7 @@ pub enum Plain {
     Take,
     TakeAck(u8),
     Due,
+    Deadline(AckTimeout, bool),
     // with how many rows are lent
     Slow(usize),
     LendSent(usize),
@@ -58,6 +60,11 @@ pub enum Call {
     OnState(Plain),
     OnStores(Stored),
     Unknown,
+}
+
+enum Settings {
+    Are(AckTimeout),
+    Bad,
 }
 
 // The bytes that `write` may have room for.
@@ -321,6 +328,46 @@ fn long(name: &[u8], line: &[u8], w: Words, payload: &mut [u8]) -> Call {
     }
 }
 
+// The factors and bounds of `deadline`, where each word is a number.
+fn settings_of(line: &[u8], w: Words) -> Settings {
+    let Decimal::Number(roundtrip_factor) = words::long_of(word(line, w, 1)) else {
+        return Settings::Bad;
+    };
+    let Decimal::Number(resent_factor) = words::long_of(word(line, w, 2)) else {
+        return Settings::Bad;
+    };
+    let Decimal::Number(unreliable_factor) = words::long_of(word(line, w, 3)) else {
+        return Settings::Bad;
+    };
+    let Decimal::Number(min) = words::long_of(word(line, w, 4)) else {
+        return Settings::Bad;
+    };
+    let Decimal::Number(max) = words::long_of(word(line, w, 5)) else {
+        return Settings::Bad;
+    };
+    Settings::Are(AckTimeout {
+        roundtrip_factor,
+        resent_factor,
+        unreliable_factor,
+        min,
+        max,
+    })
+}
+
+// A call of seven words: there is one.
+fn deadline(name: &[u8], line: &[u8], w: Words) -> Call {
+    if !check::same(name, b"deadline") {
+        return Call::Unknown;
+    }
+    let Settings::Are(timeout) = settings_of(line, w) else {
+        return Call::Unknown;
+    };
+    match words::flag_of(word(line, w, 6)) {
+        Flag::Is(unreliable) => Call::OnState(Plain::Deadline(timeout, unreliable)),
+        Flag::Bad => Call::Unknown,
+    }
+}
+
 fn write(line: &[u8], w: Words) -> Call {
     let Decimal::Number(room) = text::read_decimal(word(line, w, 1), MOST_ROOM) else {
         return Call::Unknown;
@@ -347,6 +394,7 @@ pub fn parse(line: &[u8], payload: &mut [u8]) -> Call {
         3 => pair(name, a, b),
         4 => timed_number(name, a, b, word(line, w, 3)),
         6 => long(name, line, w, payload),
+        7 => deadline(name, line, w),
         _ => Call::Unknown,
     }
 }

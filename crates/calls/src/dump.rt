@@ -151,7 +151,8 @@ fn packet_sent(out: &mut Buffer, at: usize, flight: InFlight) -> usize {
     let c = out::next(out, b, flight.link);
     let d = out::next(out, c, flight.sent);
     let f = flight.flushed;
-    flushed(out, d, f)
+    let e = flushed(out, d, f);
+    flag(out, e, flight.resent)
 }
 
 fn status(out: &mut Buffer, at: usize, p: SentReliable) -> usize {

@@ -14,6 +14,7 @@ use crate::session::Session;
 use crate::words::first;
 use engine::Changed;
 use engine::Outcome;
+use link::AckTimeout;
 use link::MaxPing;
 use msg::LinkMsg;
 use msg::Reading;
@@ -213,6 +214,13 @@ fn due(s: Session, out: &mut Buffer) -> Session {
     s.to(at)
 }
 
+fn deadline(s: Session, timeout: AckTimeout, unreliable: bool, out: &mut Buffer) -> Session {
+    let state = s.state;
+    let answer = engine::earliest_confirm_timeout(state, timeout, unreliable);
+    let at = answer::deadline(out, s.at, answer);
+    s.to(at)
+}
+
 fn slow(s: Session, n: usize, out: &mut Buffer) -> Session {
     let state = s.state;
     let links = state.links;
@@ -314,6 +322,7 @@ fn on_state(s: Session, call: Plain, out: &mut Buffer) -> Session {
         Plain::Take => take(s, out),
         Plain::TakeAck(slot) => take_ack(s, slot, out),
         Plain::Due => due(s, out),
+        Plain::Deadline(timeout, unreliable) => deadline(s, timeout, unreliable, out),
         Plain::Slow(n) => slow(s, n, out),
         Plain::LendSent(n) => lend_sent(s, n, out),
         Plain::LendReceived(n) => lend_received(s, n, out),

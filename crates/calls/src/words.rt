@@ -5,13 +5,13 @@ use text::HexRun;
 use text::read_decimal;
 
 // The most words that a call has.
-const MOST: usize = 6;
+const MOST: usize = 7;
 
 // The words of a line: where each starts and ends. A count above the most says that there are more.
 pub struct Words {
     pub count: usize,
-    starts: [usize; 6],
-    ends: [usize; 6],
+    starts: [usize; MOST],
+    ends: [usize; MOST],
     next: usize,
 }
 
@@ -35,8 +35,8 @@ impl Words {
 pub fn split(line: &[u8]) -> Words {
     let mut words = Words {
         count: 0,
-        starts: [0; 6],
-        ends: [0; 6],
+        starts: [0; MOST],
+        ends: [0; MOST],
         next: 0,
     };
     let mut i: usize = 0;

@@ -19,8 +19,8 @@ use Rattle.engine.specs.declared.state.Flushed.the-variants.{Unflushed, 
 
 -- ---- a packet
 
-abbrev pub newFlight : (time slot link : ℕ) → InFlight
-newFlight t s l = record { sent = t; flushed = Unflushed; slot = s; link = l }
+abbrev pub newFlight : (time slot link : ℕ) (resent : Bool) → InFlight
+newFlight t s l again = record { sent = t; flushed = Unflushed; slot = s; link = l; resent = again }
 
 -- a flush time that is there stays
 abbrev pub flushTime : Flushed → ℕ → Flushed
@@ -28,7 +28,7 @@ flushTime Unflushed time = FlushedAt time
 flushTime (FlushedAt at) time = FlushedAt at
 
 abbrev pub withFlushed : InFlight → Flushed → InFlight
-withFlushed flight f = record { sent = flight .sent; flushed = f; slot = flight .slot; link = flight .link }
+withFlushed flight f = record { sent = flight .sent; flushed = f; slot = flight .slot; link = flight .link; resent = flight .resent }
 
 abbrev pub flushedFlight : InFlight → ℕ → InFlight
 flushedFlight flight time = withFlushed flight (flushTime (flight .flushed) time)

@@ -31,3 +31,4 @@ pub mod Cells
 pub mod Receiving
 pub mod HandingOut
 pub mod Slowness
+pub mod Deadlines

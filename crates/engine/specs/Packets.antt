@@ -19,7 +19,7 @@ use Rattle.engine.specs.Fields.{newPacket, newFlight}
 
 -- what an index past the table would read
 abbrev pub noPacket : SentReliable
-noPacket = newPacket (seqOf 0) Data 0 (Sent (newFlight 0 0 0))
+noPacket = newPacket (seqOf 0) Data 0 (Sent (newFlight 0 0 0 false))
 
 -- the number of the first packet: the last `txed_count` numbers before the next one are in the table
 abbrev pub firstOf : Sending → ℕ
@@ -32,6 +32,11 @@ packets tx = window PACKETS noPacket (tx .«txed_packets») (firstOf tx % PACKET
 -- the resend queue, oldest first
 abbrev pub queue : Sending → List Seq
 queue tx = take (tx .«resend_count») (tx .«resend_queue»)
+
+abbrev pub isSent : SentReliableStatus → Bool
+isSent (Sent flight) = true
+isSent Received = false
+isSent (ResendQueued id) = false
 
 abbrev pub isReceived : SentReliableStatus → Bool
 isReceived (Sent flight) = false

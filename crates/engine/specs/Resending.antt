@@ -63,7 +63,7 @@ unfoldable pub resentState : State → ℕ → ℕ → ℕ → State
 resentState s slot time n =
     withParts s
     (set (s .links) slot (withUnacked (markResent (rowOf s slot) n) (rowOf s slot .«txed_unacked_data» + lookedAt (s .tx) n .len)))
-    (requeued (withPacket (s .tx) n (withStatus (lookedAt (s .tx) n) (Sent (newFlight time slot (rowOf s slot .«link_id»))))))
+    (requeued (withPacket (s .tx) n (withStatus (lookedAt (s .tx) n) (Sent (newFlight time slot (rowOf s slot .«link_id») true)))))
     (s .rx)
     time
 
@@ -104,7 +104,7 @@ listed-at (p ∷ ps) n e =
     (λ t. let f = listed-at ps n (simp t at e) in (suc (f .0), omega (arith, f .1), f .2, f .3))
 
 -- over bare numbers: the number i past the first of `count` before t, and back
-number-back : (t count i : ℕ) → t < 2 ^ 32 → count ≤ PACKETS → i < count → minus t (plus (minus t count) i) ≡ count - i
+pub number-back : (t count i : ℕ) → t < 2 ^ 32 → count ≤ PACKETS → i < count → minus t (plus (minus t count) i) ≡ count - i
 unfolding plus minus
 number-back t count i ht c h = omega arith
 

@@ -2,7 +2,7 @@
 -- identity; `txed_unacked`, `txed_unconsumed` and the link's unacked bytes grow by the data length. The answer is the number. A
 -- Consumed reduces the taken-and-untold count by its amount (P)." Assumes nothing.
 use mathlib.Core.Path.{_≡_}
-use mathlib.Core.Bool.{Bool, not, _&&_, _||_}
+use mathlib.Core.Bool.{Bool, false, not, _&&_, _||_}
 use mathlib.Core.List.{List, [], _∷_}
 use Prim.Native.Nat.{ℕ, _+_, _-_, _%_, _^_, _≤_, _<_}
 use lib.Dec.{eqb, leb, ltb}
@@ -70,7 +70,7 @@ sentTx tx slot link time msg len =
     withEnds
     (withTotals
     (withNext tx (seqOf (plus (tx .«tx_seq» .0) 1))
-    (set (tx .«txed_packets») (tx .«tx_seq» .0 % PACKETS) (newPacket (tx .«tx_seq») msg len (Sent (newFlight time slot link))))
+    (set (tx .«txed_packets») (tx .«tx_seq» .0 % PACKETS) (newPacket (tx .«tx_seq») msg len (Sent (newFlight time slot link false))))
     (tx .«txed_count» + 1))
     (tx .«txed_unacked» + len) (tx .«txed_unconsumed» + len) (tx .«txed_unconsumable»))
     (tx .«txed_last_consumed») (tx .«send_finish_sent» || isKind MSG_SEND_FINISH msg) (tx .«write_closed»)

@@ -3,6 +3,7 @@
 pub mod acking;
 pub mod answer;
 mod cells;
+pub mod deadlines;
 pub mod flushing;
 mod gates;
 pub mod handing_out;
@@ -29,6 +30,8 @@ pub mod unconfirming;
 pub use acking::ack;
 pub use answer::Changed;
 pub use answer::Outcome;
+pub use deadlines::ConfirmTimeout;
+pub use deadlines::earliest_confirm_timeout;
 pub use flushing::flush;
 pub use handing_out::Due;
 pub use handing_out::HandOut;

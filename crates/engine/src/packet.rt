@@ -9,14 +9,15 @@ ghost use mathlib.Core.Path.{_≡_};
 ghost use Rattle.engine.specs.Fields.{newFlight, flushedFlight, newPacket, withStatus};
 
 impl InFlight {
-    pub(crate) fn new(time: u64, slot: u8, link: u64) -> InFlight
-        ensures { λ r. ⌜ r ≡ newFlight time slot link ⌝ }
+    pub(crate) fn new(time: u64, slot: u8, link: u64, resent: bool) -> InFlight
+        ensures { λ r. ⌜ r ≡ newFlight time slot link resent ⌝ }
     {
         InFlight {
             sent: time,
             flushed: Flushed::Unflushed,
             slot,
             link,
+            resent,
         }
     }
 
@@ -31,6 +32,7 @@ impl InFlight {
                 flushed: Flushed::FlushedAt(time),
                 slot: self.slot,
                 link: self.link,
+                resent: self.resent,
             },
             Flushed::FlushedAt(_) => self,
         }

@@ -16,7 +16,7 @@ use refusal::both;
 use seq::Seq;
 ghost use mathlib.Core.Path.{_≡_};
 ghost use Prim.Native.Nat.{_≤_};
-ghost use Rattle.engine.specs.Packets.{isData, isReceived, isQueued};
+ghost use Rattle.engine.specs.Packets.{isData, isSent, isReceived, isQueued};
 ghost use Rattle.engine.specs.Tally.{lengthOk, flushedOk, statusOk, packetOk, weighed, tallyOf};
 ghost use Rattle.engine.specs.Sizes.{PACKETS};
 
@@ -43,6 +43,16 @@ pub(crate) fn length_ok(msg: ReliableMsg, len: usize) -> bool
         return true;
     }
     both(len <= DATA_BYTES, is_data(msg))
+}
+
+pub(crate) fn is_sent(status: SentReliableStatus) -> bool
+    ensures { λ r. ⌜ r ≡ isSent status ⌝ }
+{
+    match status {
+        SentReliableStatus::Sent(_) => true,
+        SentReliableStatus::Received => false,
+        SentReliableStatus::ResendQueued { sent_link: _ } => false,
+    }
 }
 
 pub(crate) fn is_received(status: SentReliableStatus) -> bool

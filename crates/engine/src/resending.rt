@@ -68,7 +68,8 @@ fn resent_state(s: State, slot: u8, time: u64, seq: Seq) -> State
     let tx = s.tx;
     let p = packet_of(tx, seq);
     let len = p.len;
-    let next = p.with_status(SentReliableStatus::Sent(InFlight::new(time, slot, row.link_id)));
+    let flight = InFlight::new(time, slot, row.link_id, true);
+    let next = p.with_status(SentReliableStatus::Sent(flight));
     let marked = row.mark_resent(seq);
     let mut out = with_row(s, slot, marked.with_unacked(row.txed_unacked_data + len));
     out.tx = requeue(with_packet(tx, seq, next));

@@ -104,7 +104,7 @@ fn sent_tx(tx: Sending, slot: u8, link: u64, time: u64, msg: ReliableMsg, len: u
 {
     let seq = tx.tx_seq;
     let at = (seq.0 % PACKET_ROUND) as usize;
-    let status = SentReliableStatus::Sent(InFlight::new(time, slot, link));
+    let status = SentReliableStatus::Sent(InFlight::new(time, slot, link, false));
     let p = SentReliable::new(seq, msg, len, status);
     let finished = either(tx.send_finish_sent, msg.kind() == LinkMsg::MSG_SEND_FINISH);
     let mut out = tx;

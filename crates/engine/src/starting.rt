@@ -29,7 +29,7 @@ ghost use Rattle.engine.specs.Starting.{freshTx, freshRx, freshState, fr
 fn fresh_tx(start: Seq) -> Sending
     ensures { λ r. ⌜ r ≡ freshTx (start .0) ⌝ }
 {
-    let status = SentReliableStatus::Sent(InFlight::new(0, 0, 0));
+    let status = SentReliableStatus::Sent(InFlight::new(0, 0, 0, false));
     let none = SentReliable::new(Seq::ZERO, ReliableMsg::Data, 0, status);
     Sending {
         tx_seq: start,

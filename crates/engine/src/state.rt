@@ -18,6 +18,8 @@ pub struct InFlight {
     pub flushed: Flushed,
     pub slot: u8,
     pub link: u64,
+    // whether it was sent before
+    pub resent: bool,
 }
 
 pub enum SentReliableStatus {

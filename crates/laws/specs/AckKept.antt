@@ -44,7 +44,7 @@ use Rattle.laws.specs.SweepKept.{swept-nearly, swept-first, swept-shaped
 module _ (s : State) (slot time a : ℕ) (shaped : Shaped s) (sound : Sound s) (number : a < 2 ^ 32)
     (later : s .time ≤ time) (top : time ≤ MAX_TIME) (small : slot < SLOTS) (lives : rowAt s slot .live ≡ true) where
   -- the state before the sweep is shaped, since the row keeps its waiting acks, and nearly sound
-  abbrev Fits : LinkRow → Sending → Type 0
+  abbrev pub Fits : LinkRow → Sending → Type 0
   Fits row tx =
       (SameAcks row (rowOf s slot) → Shaped (withSent s (set (s .links) slot row) tx time)) × Nearly (withSent s (set (s .links) slot row) tx time)
 
@@ -164,7 +164,7 @@ module _ (s : State) (slot time a : ℕ) (shaped : Shaped s) (sound : Sound s) (
 
   -- ---- the sweep
 
-  acked-fits : Fits (ackedRow s slot time a) (ackedTx s slot a)
+  pub acked-fits : Fits (ackedRow s slot time a) (ackedTx s slot a)
   unfolding ackedRow ackedTx
   acked-fits =
       cases (inTable (s .tx) a)

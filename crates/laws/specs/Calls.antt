@@ -7,6 +7,7 @@ use lib.ListN.{length}
 use Rattle.seq.specs.declared.Seq.{Seq}
 use Rattle.msg.specs.declared.reliable.ReliableMsg.{ReliableMsg}
 use Rattle.link.specs.declared.row.MaxPing.{MaxPing}
+use Rattle.link.specs.declared.timeout.AckTimeout.{AckTimeout}
 use Rattle.engine.specs.declared.state.State.{State}
 use Rattle.engine.specs.Answer.{outcomeTold}
 use Rattle.engine.specs.Links.{addOf, addTold, confirmOf, blockOf, markOf, pingOf, pongOf}
@@ -17,6 +18,7 @@ use Rattle.engine.specs.Resending.{resendOf, resendTold}
 use Rattle.engine.specs.Acking.{ackOf}
 use Rattle.engine.specs.Receiving.{receiveOf, receiveStore}
 use Rattle.engine.specs.HandingOut.{handOutTold, showingOf, takeOf, takeAckOf, takeAckTold, dueOf, dueTold}
+use Rattle.engine.specs.Deadlines.{earliestConfirmTimeoutOf, confirmTimeoutTold}
 
 pub data Call : Type 0 where
   Add : (id roundtrip : ℕ) (max : MaxPing) (blocked unconfirmed : Bool) → Call
@@ -29,6 +31,7 @@ pub data Call : Type 0 where
   Receive : (slot : ℕ) (msg : ReliableMsg) (n : ℕ) (bytes : List ℕ) → Call
   Show Take Due : Call
   TakeAck : (slot : ℕ) → Call
+  EarliestConfirmTimeout : (timeout : AckTimeout) (unreliable : Bool) → Call
 
 -- what a caller holds: the state and the two stores that it lends
 pub record Holding : Type 0 where
@@ -58,6 +61,7 @@ number Show h = handOutTold (showingOf (h .state) (length (h .received))) .numbe
 number Take h = handOutTold (takeOf (h .state) .answer) .number
 number Due h = dueTold (dueOf (h .state)) .number
 number (TakeAck slot) h = takeAckTold (takeAckOf (h .state) slot .answer) .number
+number (EarliestConfirmTimeout timeout unreliable) h = confirmTimeoutTold (earliestConfirmTimeoutOf (h .state) timeout unreliable) .number
 
 -- state and stores after the call
 abbrev pub next : Call → Holding → Holding
@@ -86,6 +90,7 @@ next Show h = h
 next Take h = withState h (takeOf (h .state) .state)
 next Due h = h
 next (TakeAck slot) h = withState h (takeAckOf (h .state) slot .state)
+next (EarliestConfirmTimeout timeout unreliable) h = h
 
 -- what the type of a call's number says of it
 abbrev pub Typed : Call → Type 0
@@ -106,3 +111,4 @@ Typed Show = Unit
 Typed Take = Unit
 Typed Due = Unit
 Typed (TakeAck slot) = Unit
+Typed (EarliestConfirmTimeout timeout unreliable) = Unit

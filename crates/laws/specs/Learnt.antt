@@ -22,6 +22,7 @@ use Rattle.engine.specs.declared.handing_out.HandOut.{HandOut}
 use Rattle.engine.specs.declared.handing_out.TakeResult.{TakeResult}
 use Rattle.engine.specs.declared.handing_out.TakeAckResult.{TakeAckResult}
 use Rattle.engine.specs.declared.handing_out.Due.{Due as DueAnswer}
+use Rattle.engine.specs.declared.deadlines.ConfirmTimeout.{ConfirmTimeout}
 use Rattle.engine.specs.Answer.{outcomeTold}
 use Rattle.engine.specs.Decide.{soundb}
 use Rattle.engine.specs.Starting.{freshVerdict, freshOf, RefusedUnsound}
@@ -30,9 +31,10 @@ use Rattle.engine.specs.Sending.{sendTold}
 use Rattle.engine.specs.Resending.{resendTold}
 use Rattle.engine.specs.Receiving.{receiveVerdict, receiveOf, receiveStore}
 use Rattle.engine.specs.HandingOut.{handOutTold, shownAt, shownOf, takeAckTold, dueTold}
+use Rattle.engine.specs.Deadlines.{confirmTimeoutTold}
 use Rattle.refusal.specs.Answers.{toldBy}
 use Rattle.engine.proofs as engine
-use Rattle.laws.specs.Calls.{Call, Add, Remove, Confirm, Unconfirm, Block, Mark, Ping, Pong, Flush, Send, Resend, Ack, Receive, Show, Take, Due, TakeAck, Holding, withState, number, next, Typed}
+use Rattle.laws.specs.Calls.{Call, Add, Remove, Confirm, Unconfirm, Block, Mark, Ping, Pong, Flush, Send, Resend, Ack, Receive, Show, Take, Due, TakeAck, EarliestConfirmTimeout, Holding, withState, number, next, Typed}
 use Rattle.laws.specs.Refused.{refused}
 use Rattle.laws.specs.SoundKept.{Good, kept}
 use Rattle.laws.specs.Unique.{Place, lent}
@@ -71,6 +73,9 @@ Tied Show h = (κs : Lfts 1) (i : Place) (r : HandOut) (e : _) → engine.handin
 Tied Take h = (κs : _) (r : TakeResult) (e : _) → engine.handing_out.take.Reads.Learnt κs (h .state, tt) r e → Says Take h (handOutTold (r .answer) .number) (withState h (r .state))
 Tied Due h = (κs : _) (r : DueAnswer) (e : _) → engine.handing_out.is_consume_ack_required.Reads.Learnt κs (h .state, tt) r e → Says Due h (dueTold r .number) h
 Tied (TakeAck slot) h = (κs : _) (r : TakeAckResult) (e : _) → engine.handing_out.take_ack.Reads.Learnt κs (h .state, (slot, tt)) r e → Says (TakeAck slot) h (takeAckTold (r .answer) .number) (withState h (r .state))
+Tied (EarliestConfirmTimeout timeout unreliable) h = (κs : _) (r : ConfirmTimeout) (e : _)
+    → engine.deadlines.earliest_confirm_timeout.Reads.Learnt κs (h .state, (timeout, (unreliable, tt))) r e
+    → Says (EarliestConfirmTimeout timeout unreliable) h (confirmTimeoutTold r .number) h
 
 -- an answer that is the definition's has its number and leaves what it leaves
 same : {R : Type 0} (told : R → ℕ) (left : R → Holding) {r d : R} → r ≡ d → (told r ≡ told d) × (left r ≡ left d)
@@ -103,6 +108,7 @@ tied Show h = λ κs i r e p. (ap (λ (a : HandOut). handOutTold a .number) (p .
 tied Take h = λ κs r e p. same (λ (a : TakeResult). handOutTold (a .answer) .number) (λ a. withState h (a .state)) (p .0)
 tied Due h = λ κs r e p. (ap (λ (a : DueAnswer). dueTold a .number) (p .0), refl)
 tied (TakeAck slot) h = λ κs r e p. same (λ (a : TakeAckResult). takeAckTold (a .answer) .number) (λ a. withState h (a .state)) (p .0)
+tied (EarliestConfirmTimeout timeout unreliable) h = λ κs r e p. (ap (λ (a : ConfirmTimeout). confirmTimeoutTold a .number) (p .0), refl)
 
 -- ---- so the laws hold of whatever meets the promises
 

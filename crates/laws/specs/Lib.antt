@@ -11,6 +11,7 @@ pub mod NearlySound
 pub mod PacketReplaced
 pub mod PacketsKept
 pub mod PaperExamples
+pub mod Deadlines
 pub mod Parts
 pub mod Passed
 pub mod ReceiveKept

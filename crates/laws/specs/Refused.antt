@@ -37,7 +37,7 @@ use Rattle.engine.specs.declared.handing_out.TakeAck.{TakeAck as AckAnswer}
 use Rattle.engine.specs.HandingOut.{handOutTold, takeOf, takenBy, takeAckOf, takeAckTold, takenAckBy}
 use Rattle.engine.specs.Sizes.{CELLS, PACKETS}
 use Rattle.engine.specs.Fields.{withRow, withTime}
-use Rattle.laws.specs.Calls.{Call, Add, Remove, Confirm, Unconfirm, Block, Mark, Ping, Pong, Flush, Send, Resend, Ack, Receive, Show, Take, Due, TakeAck, Holding, withState, number, next}
+use Rattle.laws.specs.Calls.{Call, Add, Remove, Confirm, Unconfirm, Block, Mark, Ping, Pong, Flush, Send, Resend, Ack, Receive, Show, Take, Due, TakeAck, EarliestConfirmTimeout, Holding, withState, number, next}
 
 -- ---- by the shape of an answer
 
@@ -129,3 +129,4 @@ refused Show h told = refl
 refused Take h told = ap (withState h) (taken-same (takeOf (h .state) .answer) (h .state) told)
 refused Due h told = refl
 refused (TakeAck slot) h told = ap (withState h) (ack-taken-same (takeAckOf (h .state) slot .answer) (h .state) slot told)
+refused (EarliestConfirmTimeout timeout unreliable) h told = refl

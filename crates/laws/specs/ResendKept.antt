@@ -69,7 +69,7 @@ module _ (s : State) (slot time n : ℕ) (shaped : Shaped s) (sound : Sound s) (
   old = lookedAt (s .tx) n
 
   abbrev status : SentReliableStatus
-  status = Sent (newFlight time slot (rowOf s slot .«link_id»))
+  status = Sent (newFlight time slot (rowOf s slot .«link_id») true)
 
   abbrev after : List SentReliable
   after = replaced (s .tx) n (withStatus old status)

@@ -76,7 +76,7 @@ abbrev sentRow : LinkRow → ℕ → LinkRow
 sentRow row len = withUnacked row (row .«txed_unacked_data» + len)
 
 abbrev sentPacket : State → LinkRow → ℕ → ℕ → ReliableMsg → ℕ → SentReliable
-sentPacket s row slot time msg len = newPacket (s .tx .«tx_seq») msg len (Sent (newFlight time slot (row .«link_id»)))
+sentPacket s row slot time msg len = newPacket (s .tx .«tx_seq») msg len (Sent (newFlight time slot (row .«link_id») false))
 
 abbrev sentWith : State → LinkRow → ℕ → ℕ → ReliableMsg → ℕ → State
 sentWith s row slot time msg len = record {

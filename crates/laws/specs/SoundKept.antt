@@ -8,7 +8,7 @@ use Rattle.refusal.specs.declared.verdict.Verdict.the-variants.{Pass}
 use Rattle.engine.specs.declared.state.State.{State}
 use Rattle.engine.specs.Sound.{Sound, Shaped}
 use Rattle.engine.specs.Starting.{freshVerdict, freshOf}
-use Rattle.laws.specs.Calls.{Call, Add, Remove, Confirm, Unconfirm, Block, Mark, Ping, Pong, Flush, Send, Resend, Ack, Receive, Show, Take, Due, TakeAck, Holding, next, Typed}
+use Rattle.laws.specs.Calls.{Call, Add, Remove, Confirm, Unconfirm, Block, Mark, Ping, Pong, Flush, Send, Resend, Ack, Receive, Show, Take, Due, TakeAck, EarliestConfirmTimeout, Holding, next, Typed}
 use Rattle.laws.specs.LinksKept.{confirm-sound, confirm-shaped, block-sound, block-shaped, mark-sound, mark-shaped, ping-sound, ping-shaped, pong-sound, pong-shaped, add-sound, add-shaped, fresh-sound, fresh-shaped}
 use Rattle.laws.specs.UnconfirmKept.{unconfirm-sound, unconfirm-shaped, remove-sound, remove-shaped}
 use Rattle.laws.specs.FlushKept.{flush-sound, flush-shaped}
@@ -47,6 +47,7 @@ kept Show h t g = g
 kept Take h t g = record { shaped = take-shaped (h .state) (g .shaped) (g .sound); sound = take-sound (h .state) (g .shaped) (g .sound) }
 kept Due h t g = g
 kept (TakeAck slot) h t g = record { shaped = take-ack-shaped (h .state) slot (g .shaped); sound = take-ack-sound (h .state) slot (g .shaped) (g .sound) }
+kept (EarliestConfirmTimeout timeout unreliable) h t g = g
 
 -- a fresh state is sound, and so is every state that calls make of it, in any order and with any arguments
 pub fresh-good : (start buffer : ℕ) → start < 2 ^ 32 → freshVerdict buffer ≡ Pass → Good (freshOf start buffer .state)

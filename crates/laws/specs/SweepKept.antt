@@ -16,10 +16,11 @@ use Rattle.engine.specs.declared.state.SentReliableStatus.the-variants.{Sent, R
 use Rattle.engine.specs.declared.state.SentReliable.{SentReliable}
 use Rattle.engine.specs.declared.state.State.{State}
 use Rattle.engine.specs.Ring.{window, window-drop}
-use Rattle.engine.specs.Packets.{noPacket, firstOf, packets, isReceived, isQueued, queuedOf, Pick, SentOn, Outstanding, Settled, weight, weightAs, sumOf}
+use Rattle.engine.specs.Packets.{noPacket, firstOf, packets, isSent, isReceived, isQueued, queuedOf, Pick, SentOn, Outstanding, Settled, weight, weightAs, sumOf}
 use Rattle.engine.specs.InTable.{cells-divide, number-past}
 use Rattle.engine.specs.Sound.{Shaped, packetAt}
 use Rattle.engine.specs.Acking.{sweepFrom, sweepOf, sweptTx}
+use Rattle.engine.specs.Deadlines.{firstSent}
 use Rattle.engine.specs.Sizes.{PACKETS}
 use Rattle.engine.specs.Fields.{withTx}
 use Rattle.laws.specs.RowsKept.{here-kept}
@@ -35,6 +36,7 @@ record Swept (ps : List SentReliable) (held left rest : ℕ) : Type 0 where
   long : length ps ≡ gone + left
   first : 0 < left → isReceived (getD (drop gone ps) 0 noPacket .status) ≡ false
   queued : queuedOf (drop gone ps) ≡ queuedOf ps
+  sent : firstSent (drop gone ps) ≡ firstSent ps
   sums : (k : Pick) → ((len : ℕ) → weightAs k Received len ≡ 0) → sumOf k (drop gone ps) ≡ sumOf k ps
   settled : held ≡ sumOf Settled ps → rest ≡ sumOf Settled (drop gone ps)
   less : rest ≤ held
@@ -58,12 +60,16 @@ module _ (p : SentReliable) (ps : List SentReliable) where
   unfolding queuedOf
   received-queued u = simp (ap isQueued (received-is (p .status) u))
 
+  received-sent : isReceived (p .status) ≡ true → firstSent (p ∷ ps) ≡ firstSent ps
+  unfolding firstSent
+  received-sent u = simp (ap isSent (received-is (p .status) u))
+
   received-weight : (k : Pick) → isReceived (p .status) ≡ true → weight k p ≡ weightAs k Received (p .len)
   received-weight k u = ap (λ st. weightAs k st (p .len)) (received-is (p .status) u)
 
 sweeps : (ps : List SentReliable) (last : Seq) (held : ℕ) → Swept ps held (sweepFrom ps last held .left) (sweepFrom ps last held .held)
 unfolding sweepFrom sumOf
-sweeps [] last held = record { gone = 0; long = refl; first = λ h. absurd (omega arith); queued = refl; sums = λ k z. refl; settled = λ e. e; less = omega arith }
+sweeps [] last held = record { gone = 0; long = refl; first = λ h. absurd (omega arith); queued = refl; sent = refl; sums = λ k z. refl; settled = λ e. e; less = omega arith }
 sweeps (p ∷ ps) last held =
     cases (isReceived (p .status))
     (λ u.
@@ -73,6 +79,7 @@ sweeps (p ∷ ps) last held =
       long = omega (arith, r .long);
       first = r .first;
       queued = r .queued ∙ sym (received-queued p ps u);
+      sent = r .sent ∙ sym (received-sent p ps u);
       sums = λ k z. omega (arith, r .sums k z, z (p .len), received-weight p ps k u);
       settled = λ e. r .settled (omega (arith, e, received-weight p ps Settled u));
       less = omega (arith, r .less);
@@ -83,6 +90,7 @@ sweeps (p ∷ ps) last held =
       long = omega arith;
       first = λ h. u;
       queued = refl;
+      sent = refl;
       sums = λ k z. refl;
       settled = λ e. e;
       less = omega arith;
@@ -135,6 +143,10 @@ module _ (s : State) (near : Nearly s) where
       ap (λ k. window PACKETS noPacket cells k left) at
       ∙ ap (window PACKETS noPacket cells ((firstOf (s .tx) % PACKETS + off) % PACKETS)) n
       ∙ sym (window-drop PACKETS noPacket cells (firstOf (s .tx) % PACKETS) (s .tx .«txed_count») off (omega arith) (omega (arith, counts)))
+
+  -- what is dropped is Received, so that the first Sent packet stays
+  pub swept-sent : firstSent (packets (sweptTx (s .tx))) ≡ firstSent (packets (s .tx))
+  swept-sent = ap firstSent packets-left ∙ swept .sent
 
   -- a place afterwards, and the place that it was
   at-left : (i : ℕ) → getD (packets (sweptTx (s .tx))) i noPacket ≡ packetAt s (off + i)

@@ -119,6 +119,12 @@ pub link-slow :
     × Unique link.row.LinkRow.is_slow.Reads.Learnt
 link-slow = (sole, sole, sole)
 
+-- crates/link/src/timeout.rt
+pub link-timeout :
+    Unique link.timeout.AckTimeout.is_within.Reads.Learnt
+    × Unique link.timeout.AckTimeout.duration.Reads.Learnt
+link-timeout = (sole, sole)
+
 -- crates/engine/src/starting.rt
 pub engine-starting : Unique engine.starting.fresh.Reads.Learnt
 engine-starting = first
@@ -169,6 +175,10 @@ pub engine-handing-out :
     × Unique engine.handing_out.take_ack.Reads.Learnt
     × Unique engine.handing_out.is_consume_ack_required.Reads.Learnt
 engine-handing-out = (first, first, first)
+
+-- crates/engine/src/deadlines.rt
+pub engine-deadlines : Unique engine.deadlines.earliest_confirm_timeout.Reads.Learnt
+engine-deadlines = first
 
 -- ---- calls that are lent bytes: the same bytes, wherever they lie, give the same answer and are left the same
 

@@ -5,3 +5,4 @@ pub mod Roundtrip
 pub mod Acks
 pub mod Slow
 pub mod Sizes
+pub mod Timeout

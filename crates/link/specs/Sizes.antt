@@ -16,6 +16,10 @@ MAX_TIME = 2 ^ 56
 abbrev pub ACKS : ℕ
 ACKS = 64
 
+-- document 02, [1]: "Factors are 1 to 1,000"
+abbrev pub MAX_FACTOR : ℕ
+MAX_FACTOR = 1000
+
 abbrev pub maxPingWithin : MaxPing → Bool
 maxPingWithin Unlimited = true
 maxPingWithin (UpTo limit) = leb limit MAX_TIME

@@ -5,8 +5,10 @@ pub mod roundtrip;
 pub mod row;
 pub mod sizes;
 pub mod slow;
+pub mod timeout;
 
 pub use row::Limit;
 pub use row::LinkRow;
 pub use row::MaxPing;
 pub use row::Ping;
+pub use timeout::AckTimeout;

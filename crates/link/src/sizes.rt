@@ -12,6 +12,9 @@ pub const ACKS: usize = 64;
 // The latest time, 2^56 nanoseconds: some 833 days.
 pub const MAX_TIME: u64 = 0x100_0000_0000_0000;
 
+// The largest factor of a deadline.
+pub const MAX_FACTOR: u64 = 1000;
+
 pub fn max_ping_within(max_ping: MaxPing) -> bool
     ensures { λ r. ⌜ r ≡ maxPingWithin «max_ping» ⌝ }
 {

@@ -50,7 +50,7 @@ pub enum Refusal {
     Nothing,
     // message bytes not as they must be
     Bytes,
-    // receive buffer 0 or above 65,536
+    // receive buffer 0 or above 65,536; of a deadline, bad factors or bounds
     Setting,
 }
 

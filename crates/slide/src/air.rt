@@ -13,7 +13,7 @@ use crate::tally::count;
 // The slots of the links whose fate differs from that of cable 1.
 pub const CABLE_2: u8 = 1;
 
-const RADIO: u8 = 2;
+pub const RADIO: u8 = 2;
 
 // The two ends.
 pub const SCANNER: u8 = 0;

@@ -3,6 +3,7 @@
 use crate::air;
 use crate::air::Air;
 use crate::air::PLACES;
+use crate::air::RADIO;
 use crate::air::ROOM;
 use crate::air::Room;
 use crate::air::part;
@@ -13,6 +14,7 @@ use crate::tally::REFUSED;
 use crate::tally::RESENT;
 use crate::tally::Tally;
 use crate::tally::count;
+use engine::ConfirmTimeout;
 use engine::DATA_BYTES;
 use engine::Outcome;
 use engine::PACKETS;
@@ -20,11 +22,10 @@ use engine::RECEIVED_BYTES;
 use engine::ResendAnswer;
 use engine::SENT_BYTES;
 use engine::SendAnswer;
-use engine::SentReliableStatus;
 use engine::State;
 use engine::TakeAck;
-use engine::packet_of;
 use engine::row_of;
+use link::AckTimeout;
 use msg::LinkMsg;
 use msg::Reading;
 use msg::ReliableMsg;
@@ -38,12 +39,6 @@ pub type ReceivedStore = [u8; RECEIVED_BYTES];
 
 // The links' slots are 0 to 2.
 const LINKS: u8 = 3;
-
-// After how many nanoseconds without an ack a link is doubted: 50 ticks.
-const PATIENCE: u64 = 50_000_000;
-
-// A sound table has at most PACKETS packets, so that a count modulo this is the count.
-const COUNTS: usize = PACKETS + 1;
 
 // Writes a message and gives it to a link.
 fn post(tally: &mut Tally, air: &mut Air, slot: u8, to: u8, msg: LinkMsg, payload: &[u8]) {
@@ -198,25 +193,41 @@ fn doubt(s: State, tally: &mut Tally, slot: u8) -> State {
     confirmed.state
 }
 
-// Doubts the link that the oldest packet was sent on, when its ack is long in coming.
-fn watch(s: State, tally: &mut Tally, now: u64) -> State {
-    let tx = s.tx;
-    if tx.txed_count == 0 {
-        return s;
+// An ack may take four round trips, and twice as long after a resend or over the radio: from 10 to 50 ticks.
+fn timeout() -> AckTimeout {
+    AckTimeout {
+        roundtrip_factor: 4,
+        resent_factor: 2,
+        unreliable_factor: 2,
+        min: 10_000_000,
+        max: 50_000_000,
     }
-    let first = tx.tx_seq.sub((tx.txed_count % COUNTS) as u32);
-    let oldest = packet_of(tx, first);
-    let status = oldest.status;
-    let SentReliableStatus::Sent(flight) = status else {
+}
+
+// The deadline has come: what was not flushed is flushed first, as the original does.
+fn give_up(s: State, tally: &mut Tally, slot: u8, flushed: bool, now: u64) -> State {
+    if flushed {
+        return doubt(s, tally, slot);
+    }
+    let changed = engine::flush(s, slot, now);
+    changed.state
+}
+
+// Gives up on the link of the oldest packet in flight once its deadline has come. The first question tells the link, and the
+// second is asked with the word on that link: the radio's round trip says little.
+fn watch(s: State, tally: &mut Tally, now: u64) -> State {
+    let asked = engine::earliest_confirm_timeout(s, timeout(), false);
+    let ConfirmTimeout::Packet(slot, flushed, _) = asked else {
         return s;
     };
-    if now <= flight.sent {
+    let named = engine::earliest_confirm_timeout(s, timeout(), slot == RADIO);
+    let ConfirmTimeout::Packet(_, _, deadline) = named else {
+        return s;
+    };
+    if now < deadline {
         return s;
     }
-    if now - flight.sent < PATIENCE {
-        return s;
-    }
-    doubt(s, tally, flight.slot)
+    give_up(s, tally, slot, flushed, now)
 }
 
 // Resends the oldest queued message over a link, where the engine allows it.

@@ -111,7 +111,7 @@ fn report_links(tally: &mut Tally) {
 fn report_ends(tally: &mut Tally) {
     line(tally, AHEAD, b"messages ahead of an earlier one");
     line(tally, AGAIN, b"messages again after they had been passed");
-    line(tally, DOUBTED, b"links doubted after a silence");
+    line(tally, DOUBTED, b"links doubted as a deadline passed");
     line(tally, RESENT, b"messages resent over another link");
     line(
         tally,

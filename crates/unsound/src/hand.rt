@@ -8,6 +8,7 @@ use crate::report::Tally;
 use crate::same;
 use engine::AddAnswer;
 use engine::Changed;
+use engine::ConfirmTimeout;
 use engine::Due;
 use engine::HandOut;
 use engine::Outcome;
@@ -15,6 +16,7 @@ use engine::ResendAnswer;
 use engine::SendAnswer;
 use engine::State;
 use engine::TakeAck;
+use link::AckTimeout;
 use link::MaxPing;
 use msg::ReliableMsg;
 use seq::Seq;
@@ -24,6 +26,9 @@ const NOW: u64 = 9;
 
 // What stands for the number of a refusal that did not leave the state as it came.
 const MOVED: u8 = 99;
+
+// .. and what for the answer that no packet is Sent, since the good state has one.
+const NONE_NAMED: u8 = 98;
 
 fn told(number: u8, before: State, after: State) -> u8 {
     if number == 0 {
@@ -125,6 +130,22 @@ fn due(s: State) -> u8 {
     }
 }
 
+fn deadline(s: State) -> u8 {
+    let timeout = AckTimeout {
+        roundtrip_factor: 2,
+        resent_factor: 3,
+        unreliable_factor: 4,
+        min: 5,
+        max: 6,
+    };
+    let answer = engine::earliest_confirm_timeout(s, timeout, true);
+    match answer {
+        ConfirmTimeout::Packet(_, _, _) => 0,
+        ConfirmTimeout::Nothing => NONE_NAMED,
+        ConfirmTimeout::No(e) => e.number(),
+    }
+}
+
 fn is_sound(s: State) -> u8 {
     if engine::is_sound(s) { 0 } else { 1 }
 }
@@ -144,6 +165,7 @@ fn to_packets(sent: &mut SentStore, tally: &mut Tally, number: u8, s: State) {
     report::answered(tally, changed(s, engine::flush(s, 0, NOW)) == number);
     report::answered(tally, send(s, sent) == number);
     report::answered(tally, resend(s) == number);
+    report::answered(tally, deadline(s) == number);
     report::answered(
         tally,
         changed(s, engine::ack(s, 0, NOW, Seq(FIRST))) == number,

@@ -1,6 +1,6 @@
 // Hands states that are not sound to every call of the engine that is given a state: each answers 1 at once, and leaves the state
-// and the lent stores as they came. A line for each field that is set wrong, and how. Last come states that are sound, since what is
-// odd in them stands in an empty slot: every call accepts them.
+// and the lent stores as they came. A line for each field that is set wrong, and how. Last come states that are sound: what is odd in
+// them stands in an empty slot, or Sound asks nothing of it. Every call accepts them.
 mod good;
 mod hand;
 mod links;
@@ -23,7 +23,7 @@ use engine::State;
 // How many kinds of states are not sound, and how many there are with those that are sound all the same.
 const WRONG: usize = 96;
 
-const KINDS: usize = 102;
+const KINDS: usize = 103;
 
 // The good state with something set otherwise, and what that is written. Past the last kind it is the good state.
 fn kind(k: usize, s: State) -> State {
@@ -39,6 +39,7 @@ fn kind(k: usize, s: State) -> State {
         78..=86 => receiving::cells(k - 78, s),
         87..=95 => times::kinds(k - 87, s),
         96..=101 => links::empty(k - 96, s),
+        102 => sending::resent(s),
         _ => s,
     }
 }

@@ -129,6 +129,7 @@ fn flight(status: SentReliableStatus) -> InFlight {
             flushed: Flushed::Unflushed,
             slot: 0,
             link: 0,
+            resent: false,
         },
     }
 }
@@ -136,7 +137,7 @@ fn flight(status: SentReliableStatus) -> InFlight {
 fn flights(a: InFlight, b: InFlight) -> bool {
     let x = a.flushed;
     let y = b.flushed;
-    a.sent == b.sent && a.slot == b.slot && alike(flushed(x), flushed(y))
+    a.sent == b.sent && a.slot == b.slot && a.resent == b.resent && alike(flushed(x), flushed(y))
 }
 
 fn packet(a: SentReliable, b: SentReliable) -> bool {

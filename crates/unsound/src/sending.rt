@@ -4,6 +4,8 @@ use crate::good::SECOND;
 use crate::report::named;
 use crate::set;
 use crate::set::flight;
+use engine::Flushed;
+use engine::InFlight;
 use engine::SentReliable;
 use engine::SentReliableStatus;
 use engine::State;
@@ -44,6 +46,22 @@ pub fn numbers(k: usize, s: State) -> State {
         8 => named(b"the first number 64 more", renumbered(s, 62)),
         _ => s,
     }
+}
+
+// The first packet as it is, but that it was resent: Sound asks nothing of that.
+pub fn resent(s: State) -> State {
+    let again = InFlight {
+        sent: 1,
+        flushed: Flushed::FlushedAt(4),
+        slot: 0,
+        link: 11,
+        resent: true,
+    };
+    let status = SentReliableStatus::Sent(again);
+    named(
+        b"the first packet resent",
+        set::first(s, ReliableMsg::Data, 3, status),
+    )
 }
 
 // The sums are made to fit, so that it is the packet alone that is wrong.

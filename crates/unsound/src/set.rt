@@ -83,6 +83,7 @@ pub fn flight(slot: u8, link: u64) -> SentReliableStatus {
         flushed: Flushed::Unflushed,
         slot,
         link,
+        resent: false,
     })
 }
 

@@ -24,6 +24,7 @@ fn packet(s: State, time: u64, flushed: Flushed) -> State {
         flushed,
         slot: 0,
         link: 11,
+        resent: false,
     };
     set::first(s, ReliableMsg::Data, 3, SentReliableStatus::Sent(flight))
 }

@@ -4,7 +4,10 @@
 //! oracle/README.md lists these places.
 
 use super::*;
-use crate::script::{Asked, Call, SLOTS};
+use crate::{
+    agg::link_int::RELIABLE_ROUNDTRIP_ESTIMATES,
+    script::{Asked, Call, SLOTS},
+};
 use std::{
     any::Any,
     fmt::Write,
@@ -150,6 +153,7 @@ impl Driver {
             Call::Take => self.take(),
             Call::TakeAck { slot } => self.take_ack(slot),
             Call::Due => format!("0 {}", self.end().is_consume_ack_required() as u8),
+            Call::Deadline { factors, min, max, unreliable } => self.deadline(factors, min, max, unreliable),
             // The original looks at its own links, so that no run of another length is asked of it.
             Call::Slow { rows } => if rows == SLOTS { self.slow() } else { "4".into() },
             Call::Dump => self.dump(),
@@ -402,6 +406,41 @@ impl Driver {
         slow_of(&mut second)
     }
 
+    /// Adaptation: the call's settings hold on every link for this question alone, and so does its word on reliability, for which
+    /// the original by itself goes by its count of estimates.
+    fn deadline(&mut self, factors: [u64; 3], min: u64, max: u64, unreliable: bool) -> String {
+        let [Some(roundtrip_factor), Some(resent_factor), Some(unreliable_factor)] = factors.map(factor) else {
+            return "not a factor of its type".into();
+        };
+        let raw = self.raw;
+        let links = self.end().links.iter_mut().flatten();
+        let before: Vec<_> = links.map(|link| (link.link_cfg().clone(), link.roundtrip_estimates)).collect();
+        for link in self.end().links.iter_mut().flatten() {
+            let link_cfg = LinkCfg {
+                ack_timeout_roundtrip_factor: roundtrip_factor,
+                ack_timeout_resent_factor: resent_factor,
+                ack_timeout_unreliable_factor: unreliable_factor,
+                ack_timeout_min: Duration::from_nanos(min),
+                ack_timeout_max: Duration::from_nanos(max),
+                ..link.link_cfg().clone()
+            };
+            set_link_cfg(link, link_cfg);
+            if !raw {
+                link.roundtrip_estimates = Some(if unreliable { 0 } else { RELIABLE_ROUNDTRIP_ESTIMATES });
+            }
+        }
+        let found = panic::catch_unwind(AssertUnwindSafe(|| self.end().earliest_confirm_timeout()));
+        for (link, (link_cfg, estimates)) in self.end().links.iter_mut().flatten().zip(before) {
+            set_link_cfg(link, link_cfg);
+            link.roundtrip_estimates = estimates;
+        }
+        match found {
+            Ok(Some((slot, deadline, flushed))) => format!("0 {slot} {} {}", flushed as u8, deadline.nanoseconds()),
+            Ok(None) => "0".into(),
+            Err(said) => panic::resume_unwind(said),
+        }
+    }
+
     fn dump(&mut self) -> String {
         let time = self.time;
         let mut out = String::from("0\n");
@@ -450,9 +489,10 @@ impl End {
         for packet in &self.txed_packets {
             write!(out, "packet {} ", packet.seq)?;
             match &*packet.status.borrow() {
-                SentReliableStatus::Sent { sent, flushed, link_id, link, msg, .. } => {
+                SentReliableStatus::Sent { sent, flushed, link_id, link, msg, resent } => {
+                    let (sent, resent) = (sent.nanoseconds(), *resent as u8);
                     let flushed = or_none(flushed.map(|flushed| flushed.nanoseconds()));
-                    writeln!(out, "sent {link_id} {link} {} {flushed} {}", sent.nanoseconds(), message(msg))
+                    writeln!(out, "sent {link_id} {link} {sent} {flushed} {resent} {}", message(msg))
                 }
                 SentReliableStatus::Received { size } => writeln!(out, "received {size}"),
                 SentReliableStatus::ResendQueued { msg, sent_link } => {
@@ -538,6 +578,17 @@ fn new_link(
     );
     link.blocked.store(blocked, Ordering::Relaxed);
     link
+}
+
+/// Gives a link other settings, as its handle does.
+fn set_link_cfg(link: &mut LinkInt<Wire, Wire, u64>, link_cfg: LinkCfg) {
+    Link::from(&*link).link_cfg_tx.send_replace(Some(link_cfg));
+    link.update_link_cfg();
+}
+
+/// A factor, if the original's type has it.
+fn factor(number: u64) -> Option<NonZeroU32> {
+    NonZeroU32::new(u32::try_from(number).ok()?)
 }
 
 /// The slots of the links that the check unconfirms.
