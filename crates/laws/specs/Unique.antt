@@ -62,9 +62,10 @@ pub seq-lib :
     × Unique seq.Seq.sub.Reads.Learnt
     × Unique seq.Seq.since.Reads.Learnt
     × Unique seq.Seq.distance.Reads.Learnt
+    × Unique seq.Seq.apart.Reads.Learnt
     × Unique seq.Seq.is_before.Reads.Learnt
     × Unique seq.as_signed.Reads.Learnt
-seq-lib = (sole, sole, sole, sole, sole, sole)
+seq-lib = (sole, sole, sole, sole, sole, sole, sole)
 
 -- crates/msg/src/reliable.rt
 pub msg-reliable :

@@ -1,6 +1,6 @@
 -- Document 01: "Two conforming answers to one input are proved equal; exceptions go to a list in docs/ with a ground." The lines of the
--- public calls of the libraries that the programs are made of: the replay, which is a section of the paper, the digits and the tiles. A
--- crate of its own, so that `laws`, and `ends` above it, need not wait for the replay. Assumes nothing.
+-- public calls of the libraries that the programs are made of: the replay, which is a section of the paper, the recordings, the digits
+-- and the tiles. A crate of its own, so that `laws`, and `ends` above it, need not wait for the replay. Assumes nothing.
 use mathlib.Core.Path.{_≡_, refl, sym, _∙_}
 use mathlib.Core.Bool.{Bool}
 use mathlib.Core.List.{List}
@@ -15,10 +15,15 @@ use Rattle.replaying.specs.declared.session.Replay.{Replay}
 use Rattle.replaying.specs.declared.session.Answered.{Answered}
 use Rattle.replaying.specs.declared.feeding.Fed.{Fed}
 use Rattle.replaying.specs.Feeding.{session, feedOf, feedStore, feedLine}
+use Rattle.refusal.specs.declared.Refusal.{Refusal}
+use Rattle.comparing.specs.declared.comparison.Side.{Side}
+use Rattle.comparing.specs.declared.comparison.Compared.{Compared}
 use Rattle.laws.specs.Unique.{Unique, Place, lent}
 use Rattle.text.proofs as text
 use Rattle.tiles.proofs as tiles
+use Rattle.recording.proofs as recording
 use Rattle.replaying.proofs as replaying
+use Rattle.comparing.proofs as comparing
 
 -- ---- calls that are given values alone
 
@@ -43,6 +48,13 @@ replaying-session = sole
 -- crates/replaying/src/taking.rt
 pub replaying-taking : Unique replaying.taking.end_frame.Reads.Learnt
 replaying-taking = sole
+
+-- crates/comparing/src/listing.rt
+pub comparing-listing :
+    Unique comparing.listing.number_in.Reads.Learnt
+    × Unique comparing.listing.kind_in.Reads.Learnt
+    × Unique comparing.listing.difference_of.Reads.Learnt
+comparing-listing = (sole, sole, sole)
 
 -- ---- calls that are lent bytes: the same bytes, wherever they lie, give the same answer and are left the same
 
@@ -86,12 +98,26 @@ pub is-tile : (κs κs′ : Lfts 1) (shade n : ℕ) (bytes : List ℕ) (i i′ :
     → r ≡ r′
 is-tile κs κs′ shade n bytes i i′ r r′ e e′ p q = p ∙ sym q
 
--- crates/replaying/src/digits.rt
+-- crates/recording/src/frames.rt
 pub read-frame : (κs κs′ : Lfts 1) (line : List ℕ) (i i′ : Place) (r r′ : Reading) (e : _) (e′ : _)
-    → replaying.digits.read_frame.Reads.Learnt κs (lent i line, tt) r e
-    → replaying.digits.read_frame.Reads.Learnt κs′ (lent i′ line, tt) r′ e′
+    → recording.frames.read_frame.Reads.Learnt κs (lent i line, tt) r e
+    → recording.frames.read_frame.Reads.Learnt κs′ (lent i′ line, tt) r′ e′
     → r ≡ r′
 read-frame κs κs′ line i i′ r r′ e e′ p q = p ∙ sym q
+
+-- crates/recording/src/payloads.rt; `e .1 .0` is the second parameter at exit, the buffer
+pub read-payload : (κs κs′ : Lfts 2) (line into : List ℕ) (i i′ j j′ : Place) (r r′ : HexRun) (e : _) (e′ : _)
+    → recording.payloads.read_payload.Reads.Learnt κs (lent i line, (lent j into, tt)) r e
+    → recording.payloads.read_payload.Reads.Learnt κs′ (lent i′ line, (lent j′ into, tt)) r′ e′
+    → (r ≡ r′) × (now (e .1 .0) ≡ now (e′ .1 .0))
+read-payload κs κs′ line into i i′ j j′ r r′ e e′ p q = (p .0 ∙ sym (q .0), p .1 ∙ sym (q .1))
+
+-- crates/recording/src/lines.rt
+pub line-end : (κs κs′ : Lfts 1) (input : List ℕ) (at : ℕ) (i i′ : Place) (r r′ : ℕ) (e : _) (e′ : _)
+    → recording.lines.line_end.Reads.Learnt κs (lent i input, (at, tt)) r e
+    → recording.lines.line_end.Reads.Learnt κs′ (lent i′ input, (at, tt)) r′ e′
+    → r ≡ r′
+line-end κs κs′ input at i i′ r r′ e e′ p q = p ∙ sym q
 
 -- crates/replaying/src/lines.rt
 pub answer-line : (κs κs′ : Lfts 2) (replay : Replay) (store line : List ℕ) (i i′ j j′ : Place) (r r′ : Answered) (e : _) (e′ : _)
@@ -125,3 +151,35 @@ pub close : (κs κs′ : Lfts 2) (replay : Replay) (store line : List ℕ) (cou
     → replaying.feeding.close.Reads.Learnt κs′ (replay, (lent i′ store, (lent j′ line, (count, tt)))) r′ e′
     → (r ≡ r′) × (now (e .1 .0) ≡ now (e′ .1 .0))
 close κs κs′ replay store line count i i′ j j′ r r′ e e′ p q = (p .0 ∙ sym (q .0), p .1 ∙ sym (q .1))
+
+-- crates/comparing/src/comparison.rt; `e .1 .1 .0` is the list at exit
+pub compare : (κs κs′ : Lfts 3) (first second list : List ℕ) (i i′ j j′ k k′ : Place) (r r′ : Compared) (e : _) (e′ : _)
+    → comparing.comparison.compare.Reads.Learnt κs (lent i first, (lent j second, (lent k list, tt))) r e
+    → comparing.comparison.compare.Reads.Learnt κs′ (lent i′ first, (lent j′ second, (lent k′ list, tt))) r′ e′
+    → (r ≡ r′) × (now (e .1 .1 .0) ≡ now (e′ .1 .1 .0))
+compare κs κs′ first second list i i′ j j′ k k′ r r′ e e′ p q = (p .0 ∙ sym (q .0), p .1 .1 ∙ sym (q .1 .1))
+
+-- crates/comparing/src/writing.rt
+pub write-difference : (κs κs′ : Lfts 1) (word : ℕ) (out : List ℕ) (i i′ : Place) (r r′ : ℕ) (e : _) (e′ : _)
+    → comparing.writing.write_difference.Reads.Learnt κs (word, (lent i out, tt)) r e
+    → comparing.writing.write_difference.Reads.Learnt κs′ (word, (lent i′ out, tt)) r′ e′
+    → (r ≡ r′) × (now (e .1 .0) ≡ now (e′ .1 .0))
+write-difference κs κs′ word out i i′ r r′ e e′ p q = (p .0 ∙ sym (q .0), p .1 ∙ sym (q .1))
+
+pub write-refused : (κs κs′ : Lfts 1) (refusal : Refusal) (side : Side) (line : ℕ) (out : List ℕ) (i i′ : Place) (r r′ : ℕ) (e : _) (e′ : _)
+    → comparing.writing.write_refused.Reads.Learnt κs (refusal, (side, (line, (lent i out, tt)))) r e
+    → comparing.writing.write_refused.Reads.Learnt κs′ (refusal, (side, (line, (lent i′ out, tt)))) r′ e′
+    → (r ≡ r′) × (now (e .1 .1 .1 .0) ≡ now (e′ .1 .1 .1 .0))
+write-refused κs κs′ refusal side line out i i′ r r′ e e′ p q = (p .0 ∙ sym (q .0), p .1 ∙ sym (q .1))
+
+pub count-kind : (κs κs′ : Lfts 1) (list : List ℕ) (n kind : ℕ) (i i′ : Place) (r r′ : ℕ) (e : _) (e′ : _)
+    → comparing.writing.count_kind.Reads.Learnt κs (lent i list, (n, (kind, tt))) r e
+    → comparing.writing.count_kind.Reads.Learnt κs′ (lent i′ list, (n, (kind, tt))) r′ e′
+    → r ≡ r′
+count-kind κs κs′ list n kind i i′ r r′ e e′ p q = p ∙ sym q
+
+pub write-summary : (κs κs′ : Lfts 2) (list : List ℕ) (n first second : ℕ) (out : List ℕ) (i i′ j j′ : Place) (r r′ : ℕ) (e : _) (e′ : _)
+    → comparing.writing.write_summary.Reads.Learnt κs (lent i list, (n, (first, (second, (lent j out, tt))))) r e
+    → comparing.writing.write_summary.Reads.Learnt κs′ (lent i′ list, (n, (first, (second, (lent j′ out, tt))))) r′ e′
+    → (r ≡ r′) × (now (e .1 .1 .1 .1 .0) ≡ now (e′ .1 .1 .1 .1 .0))
+write-summary κs κs′ list n first second out i i′ j j′ r r′ e e′ p q = (p .0 ∙ sym (q .0), p .1 ∙ sym (q .1))

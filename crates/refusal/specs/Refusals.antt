@@ -1,4 +1,4 @@
--- Document 01, "Refusal numbers": the one table from numbers to names. The definitions of every layer refuse by number,
+-- Document 01, "Refusal numbers", with those of document 02 that have landed: the one table from numbers to names. The definitions of every layer refuse by number,
 -- as the paper does, `refuse 20`; the code by name. A number that is not in the table is no refusal. Assumes nothing.
 use mathlib.Core.Path.{_≡_, refl, sym, _∙_, ap}
 use mathlib.Core.Bool.{Bool, true, cond, _&&_}
@@ -9,7 +9,7 @@ use lib.Dec.{eqb}
 use borrow.Author.Tests.{eqb-true}
 use borrow.Table.Steps.{cases}
 use Rattle.refusal.specs.declared.Refusal.{Refusal}
-use Rattle.refusal.specs.declared.Refusal.the-variants.{Unsound, StoreLength, Time, Slot, NoSlot, Identity, Length, Finished, Total, Full, Offset, Window, Acks, Buffer, Consumed, NotQueued, SameIdentity, OtherNumber, Nothing, Bytes, Setting}
+use Rattle.refusal.specs.declared.Refusal.the-variants.{Unsound, StoreLength, Time, Slot, NoSlot, Identity, Length, Finished, Total, Full, Offset, Window, Acks, Buffer, Consumed, NotQueued, SameIdentity, OtherNumber, Nothing, Bytes, Setting, Far, Many}
 use Rattle.refusal.specs.Tests.{split}
 
 -- a row of the table
@@ -43,6 +43,8 @@ table =
     ∷ row 19 Nothing
     ∷ row 20 Bytes
     ∷ row 21 Setting
+    ∷ row 22 Far
+    ∷ row 23 Many
     ∷ []
 
 -- what a number stands for
@@ -92,6 +94,8 @@ numberOf OtherNumber = 18
 numberOf Nothing = 19
 numberOf Bytes = 20
 numberOf Setting = 21
+numberOf Far = 22
+numberOf Many = 23
 
 -- ---- laws: the two readings of the table agree
 
@@ -117,6 +121,8 @@ number-named OtherNumber = refl
 number-named Nothing = refl
 number-named Bytes = refl
 number-named Setting = refl
+number-named Far = refl
+number-named Many = refl
 
 -- every row has its name's number
 abbrev numbered : List Row → Bool

@@ -8,7 +8,7 @@ pub use verdict::gate;
 ghost use mathlib.Core.Path.{_≡_};
 ghost use Rattle.refusal.specs.Refusals.{numberOf};
 
-// Why a call is refused. In the order of the numbers, 1 to 21.
+// Why a call is refused. In the order of the numbers, 1 to 23.
 pub enum Refusal {
     // the state handed in is not sound
     Unsound,
@@ -52,6 +52,10 @@ pub enum Refusal {
     Bytes,
     // receive buffer 0 or above 65,536; of a deadline, bad factors or bounds
     Setting,
+    // a number 2^30 or more from the one it is judged against, either way
+    Far,
+    // a recording has more than 1,024 numbers
+    Many,
 }
 
 impl Refusal {
@@ -80,6 +84,8 @@ impl Refusal {
             Refusal::Nothing => 19,
             Refusal::Bytes => 20,
             Refusal::Setting => 21,
+            Refusal::Far => 22,
+            Refusal::Many => 23,
         }
     }
 }

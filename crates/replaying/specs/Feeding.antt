@@ -3,14 +3,14 @@ use mathlib.Core.Path.{_≡_, refl, sym, _∙_, ap}
 use mathlib.Core.Bool.{Bool, true, false, cond}
 use mathlib.Core.List.{List, [], _∷_, _++_}
 use Prim.Native.Nat.{ℕ, _+_, _≤_, _<_}
-use native.Mathlib.Numerals.{add-one}
 use native.Mathlib.Nat.{not-suc-le-zero}
 use native.Mathlib.Omega.{arith}
 use lib.Dec.{eqb, leb, ltb}
-use lib.ListN.{length, getD, take, drop, set, length-append, length-drop, drop-of-length-le}
-use lib.Seq.{drop-cons, drop-drop}
+use lib.ListN.{length, take, drop, set, length-append, length-drop}
+use lib.Seq.{drop-drop}
 use borrow.Author.Tests.{eq-eqb, ne-eqb, eqb-true, le-leb, lt-leb}
 use borrow.Table.Steps.{cases}
+use Rattle.recording.specs.Lines.{untilFeed}
 use Rattle.engine.specs.declared.state.State.{State}
 use Rattle.replaying.specs.declared.session.Waiting.{Waiting}
 use Rattle.replaying.specs.declared.session.Waiting.the-variants.{Frame, Payload}
@@ -101,11 +101,6 @@ unfolding byteFed
 fedBy s [] = s
 fedBy s (b ∷ rest) = fedBy (byteFed s b) rest
 
--- the bytes before the next line feed, or all where there is none
-unfoldable pub untilFeed : List ℕ → List ℕ
-untilFeed [] = []
-untilFeed (b ∷ rest) = cond (eqb b 10) [] (b ∷ untilFeed rest)
-
 -- the bytes up to and with the next line feed, or all where there is none
 unfoldable pub throughFeed : List ℕ → List ℕ
 throughFeed [] = []
@@ -157,23 +152,6 @@ unfolding lineStore
 closeStore s = cond (eqb (s .count) 0) (s .told .store) (lineStore (s .told .replay) (s .told .store) (s .line) (s .count))
 
 -- ---- laws
-
--- the place where a line ends
-module _ (piece : List ℕ) (at : ℕ) where
-  pub byte-first : at < length piece → drop at piece ≡ getD piece at 0 ∷ drop (at + 1) piece
-  byte-first h = drop-cons piece at 0 h ∙ ap (λ k. getD piece at 0 ∷ drop k piece) (sym (add-one at))
-
-  pub until-here : at < length piece → getD piece at 0 ≡ 10 → untilFeed (drop at piece) ≡ []
-  unfolding untilFeed
-  until-here h e = ap untilFeed (byte-first h) ∙ simp (eq-eqb (getD piece at 0) 10 e)
-
-  pub until-next : at < length piece → (getD piece at 0 ≡ 10 → ⊥) → untilFeed (drop at piece) ≡ getD piece at 0 ∷ untilFeed (drop (at + 1) piece)
-  unfolding untilFeed
-  until-next h e = ap untilFeed (byte-first h) ∙ simp (ne-eqb (getD piece at 0) 10 e)
-
-  pub until-end : length piece ≤ at → untilFeed (drop at piece) ≡ []
-  unfolding untilFeed
-  until-end h = ap untilFeed (drop-of-length-le piece h)
 
 -- one run after another is one run
 pub fed-append : (s : Session) (a b : List ℕ) → fedBy s (a ++ b) ≡ fedBy (fedBy s a) b

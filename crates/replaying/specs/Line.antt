@@ -1,13 +1,11 @@
 -- Document 01, "The replay program": what one line answers, what it leaves of the replay, and of the received store. A store is
 -- the list of its bytes; an answer takes its length alone. Assumes nothing.
 use mathlib.Core.Path.{_≡_, ap}
-use mathlib.Core.Bool.{true, false, cond, _&&_}
+use mathlib.Core.Bool.{true, false, cond}
 use mathlib.Core.List.{List, []}
-use Prim.Native.Nat.{ℕ, _≤_, _<_}
+use Prim.Native.Nat.{ℕ, _<_}
 use native.Mathlib.Omega.{arith}
-use lib.Dec.{leb}
 use lib.ListN.{length}
-use borrow.Author.Tests.{le-leb, lt-leb}
 use Rattle.refusal.specs.Refusals.{numberOf}
 use Rattle.seq.specs.declared.Seq.{Seq}
 use Rattle.msg.specs.declared.link_msg.LinkMsg.{LinkMsg}
@@ -26,8 +24,9 @@ use Rattle.replaying.specs.declared.session.Waiting.the-variants.{Frame,
 use Rattle.replaying.specs.declared.session.Answer.the-variants as answers
 use Rattle.replaying.specs.declared.session.Replay.{Replay}
 use Rattle.replaying.specs.declared.session.Answered.{Answered}
-use Rattle.text.specs.HexRun.{spells, spelt}
-use Rattle.replaying.specs.Digits.{frameOf, frame-long}
+use Rattle.text.specs.HexRun.{spelt}
+use Rattle.recording.specs.Frames.{frameOf, frame-long}
+use Rattle.recording.specs.Payloads.{isPayload, long-is-no-payload}
 use Rattle.replaying.specs.Taking.{ended}
 
 -- a message that reaches the engine, over link 0; the answer is the refusal's number, or 0
@@ -83,12 +82,12 @@ storeAfterReading s store (readings.No e) = store
 
 -- "its payload line (possibly blank)"; "a bad or absent payload, or one over 1,024 bytes, gives hex 14": 2,048 digits
 unfoldable pub afterPayload : State → ℕ → Seq → List ℕ → Answered
-unfolding received ended spells spelt
-afterPayload s store seq line = cond (leb (length line) 2048 && spells line) (received s store Data seq (length (spelt line))) (ended 20 s)
+unfolding received ended isPayload spelt
+afterPayload s store seq line = cond (isPayload line) (received s store Data seq (length (spelt line))) (ended 20 s)
 
 unfoldable pub storeAfterPayload : State → List ℕ → Seq → List ℕ → List ℕ
-unfolding spells spelt
-storeAfterPayload s store seq line = cond (leb (length line) 2048 && spells line) (receivedStore s store Data seq (spelt line)) store
+unfolding isPayload spelt
+storeAfterPayload s store seq line = cond (isPayload line) (receivedStore s store Data seq (spelt line)) store
 
 -- "one frame a line; a line that reads as Data is followed by its payload line"
 abbrev pub answerAs : Waiting → State → ℕ → List ℕ → Answered
@@ -109,40 +108,32 @@ storeOf r store line = storeAs (r .waiting) (r .state) store line
 
 -- ---- laws
 
--- the three cases of a payload's line
+-- the two cases of a payload's line
 module _ (s : State) (seq : Seq) (line : List ℕ) where
-  pub payload-long : (store : ℕ) → 2048 < length line → afterPayload s store seq line ≡ ended 20 s
+  pub payload-bad : (store : ℕ) → isPayload line ≡ false → afterPayload s store seq line ≡ ended 20 s
   unfolding afterPayload
-  payload-long store h = simp (lt-leb (length line) 2048 h)
+  payload-bad store f = simp f
 
-  pub payload-bad : (store : ℕ) → length line ≤ 2048 → spells line ≡ false → afterPayload s store seq line ≡ ended 20 s
+  pub payload-good : (store : ℕ) → isPayload line ≡ true → afterPayload s store seq line ≡ received s store Data seq (length (spelt line))
   unfolding afterPayload
-  payload-bad store h f = simp (le-leb (length line) 2048 h, f)
+  payload-good store t = simp t
 
-  pub payload-good : (store : ℕ) → length line ≤ 2048 → spells line ≡ true → afterPayload s store seq line ≡ received s store Data seq (length (spelt line))
-  unfolding afterPayload
-  payload-good store h t = simp (le-leb (length line) 2048 h, t)
-
-  pub store-long : (store : List ℕ) → 2048 < length line → storeAfterPayload s store seq line ≡ store
+  pub store-bad : (store : List ℕ) → isPayload line ≡ false → storeAfterPayload s store seq line ≡ store
   unfolding storeAfterPayload
-  store-long store h = simp (lt-leb (length line) 2048 h)
+  store-bad store f = simp f
 
-  pub store-bad : (store : List ℕ) → length line ≤ 2048 → spells line ≡ false → storeAfterPayload s store seq line ≡ store
+  pub store-good : (store : List ℕ) → isPayload line ≡ true → storeAfterPayload s store seq line ≡ receivedStore s store Data seq (spelt line)
   unfolding storeAfterPayload
-  store-bad store h f = simp (le-leb (length line) 2048 h, f)
-
-  pub store-good : (store : List ℕ) → length line ≤ 2048 → spells line ≡ true → storeAfterPayload s store seq line ≡ receivedStore s store Data seq (spelt line)
-  unfolding storeAfterPayload
-  store-good store h t = simp (le-leb (length line) 2048 h, t)
+  store-good store t = simp t
 
 -- a line that is too long is bad, whatever the replay waits for
 long-as : (w : Waiting) (s : State) (store : ℕ) (line : List ℕ) → 2080 < length line → answerAs w s store line ≡ ended 20 s
 long-as Frame s store line h = ap (afterReading s store) (frame-long line h)
-long-as (Payload seq) s store line h = payload-long s seq line store (omega arith)
+long-as (Payload seq) s store line h = payload-bad s seq line store (long-is-no-payload line (omega arith))
 
 long-store-as : (w : Waiting) (s : State) (store line : List ℕ) → 2080 < length line → storeAs w s store line ≡ store
 long-store-as Frame s store line h = ap (storeAfterReading s store) (frame-long line h)
-long-store-as (Payload seq) s store line h = store-long s seq line store (omega arith)
+long-store-as (Payload seq) s store line h = store-bad s seq line store (long-is-no-payload line (omega arith))
 
 pub long-answer : (r : Replay) (store : ℕ) (line : List ℕ) → 2080 < length line → answerOf r store line ≡ ended 20 (r .state)
 unfolding answerOf

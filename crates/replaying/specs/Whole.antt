@@ -1,7 +1,7 @@
 -- Document 01, "The replay program", over a whole input, line by line; and that input fed in pieces, cut anywhere, says the same.
 -- Assumes nothing.
 use mathlib.Core.Path.{_≡_, refl, sym, _∙_, ap}
-use mathlib.Core.Bool.{Bool, true, false, cond, _&&_}
+use mathlib.Core.Bool.{Bool, true, false, cond}
 use mathlib.Core.List.{List, [], _∷_, _++_, append-nil}
 use Prim.Native.Nat.{ℕ, _+_, _≤_, _<_}
 use native.Mathlib.Numerals.{add-one}
@@ -29,19 +29,13 @@ use Rattle.replaying.specs.declared.session.Answer.the-variants.{Nothing
 use Rattle.replaying.specs.declared.session.Replay.{Replay}
 use Rattle.replaying.specs.declared.session.Answered.{Answered}
 use Rattle.replaying.specs.Session.{beginning}
-use Rattle.text.specs.HexRun.{spells, spelt}
-use Rattle.replaying.specs.Digits.{frameOf}
+use Rattle.text.specs.HexRun.{spelt}
+use Rattle.recording.specs.Frames.{frameOf}
+use Rattle.recording.specs.Lines.{linesFrom, linesOf}
+use Rattle.recording.specs.Payloads.{isPayload}
 use Rattle.replaying.specs.Taking.{ended}
 use Rattle.replaying.specs.Line.{received, awaited, afterReliable, afterCarried, afterReading, afterPayload, answerAs, answerOf, storeOf, long-answer, long-store}
 use Rattle.replaying.specs.Feeding.{Told, Session, saidBy, sessionWith, lineWith, countWith, lineAnswer, lineStore, lineEnded, byteFed, fedBy, absentOf, closeOf, closeStore, fed-append, line-long, line-short, line-long-store, line-short-store, close-none, close-last, close-none-store, close-last-store}
-
--- "one frame a line": the lines of an input, each without its line feed; a last line without one counts, unless it is empty
-unfoldable pub linesFrom : List ℕ → List ℕ → List (List ℕ)
-linesFrom line [] = cond (eqb (length line) 0) [] (line ∷ [])
-linesFrom line (b ∷ rest) = cond (eqb b 10) (line ∷ linesFrom [] rest) (linesFrom (line ++ (b ∷ [])) rest)
-
-abbrev pub linesOf : List ℕ → List (List ℕ)
-linesOf input = linesFrom [] input
 
 abbrev pub toldOf : Replay → List ℕ → List Answer → Told
 toldOf r store said = record { replay = r; store = store; said = said }
@@ -125,7 +119,7 @@ quiet-cond false a a′ p q = q
 quiet-as : (w : Waiting) (s : State) (store : ℕ) (line : List ℕ) → Quiet (answerAs w s store line)
 unfolding afterPayload
 quiet-as Frame s store line = quiet-reading s store (frameOf line)
-quiet-as (Payload seq) s store line = quiet-cond (leb (length line) 2048 && spells line) (received s store Data seq (length (spelt line))) (ended 20 s) (quiet-received s store Data seq (length (spelt line))) (quiet-ended 20 s)
+quiet-as (Payload seq) s store line = quiet-cond (isPayload line) (received s store Data seq (length (spelt line))) (ended 20 s) (quiet-received s store Data seq (length (spelt line))) (quiet-ended 20 s)
 
 quiet : (r : Replay) (store : ℕ) (line : List ℕ) → Quiet (answerOf r store line)
 unfolding answerOf

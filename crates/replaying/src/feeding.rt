@@ -1,16 +1,17 @@
 // Input in pieces: the unfinished line is carried along in a lent buffer, with a count of its bytes.
-use crate::digits::MAX_LINE;
 use crate::lines::answer_line;
 use crate::session::Answer;
 use crate::session::Answered;
 use crate::session::Replay;
 use crate::session::Waiting;
 use crate::taking::end_frame;
+use recording::MAX_LINE;
 use refusal::Refusal;
 ghost use mathlib.Core.Path.{_≡_};
 ghost use Prim.Native.Nat.{_+_};
 ghost use lib.ListN.{length, drop};
-ghost use Rattle.replaying.specs.Feeding.{lineWith, countWith, carriedLine, carriedCount, untilFeed, lineAnswer, lineStore, absentOf, session, feedOf, feedStore, feedLine, closeOf, closeStore};
+ghost use Rattle.recording.specs.Lines.{untilFeed};
+ghost use Rattle.replaying.specs.Feeding.{lineWith, countWith, carriedLine, carriedCount, lineAnswer, lineStore, absentOf, session, feedOf, feedStore, feedLine, closeOf, closeStore};
 
 // What a piece leads to, up to and with the next line feed or to its end: where to go on, the count of bytes carried, and the
 // answer, if a frame ended.

@@ -1,12 +1,10 @@
 // The replay: lines of hexadecimal frames, received by one engine, and an answer for each frame.
-pub mod digits;
 pub mod feeding;
 pub mod lines;
 pub mod session;
 pub mod taking;
 pub mod writing;
 
-pub use digits::MAX_LINE;
 pub use feeding::Fed;
 pub use feeding::close;
 pub use feeding::feed;

@@ -1,7 +1,4 @@
 // What one line does.
-use crate::digits::MAX_FRAME;
-use crate::digits::MAX_PAYLOAD;
-use crate::digits::read_frame;
 use crate::session::Answer;
 use crate::session::Answered;
 use crate::session::Replay;
@@ -13,10 +10,11 @@ use msg::LinkMsg;
 use msg::Reading;
 use msg::ReliableMsg;
 use msg::reliable::FromLink;
+use recording::read_frame;
+use recording::read_payload;
 use refusal::Refusal;
 use seq::Seq;
 use text::HexRun;
-use text::read_hex;
 ghost use mathlib.Core.Path.{_≡_};
 ghost use lib.ListN.{length};
 ghost use Rattle.engine.specs.Answer.{outcomeTold};
@@ -89,11 +87,8 @@ fn answer_payload(s: State, store: &mut [u8], seq: Seq, line: &[u8]) -> Answered
     ensures { λ r. ⌜ r ≡ afterPayload s (length (now (store .entry))) seq (now (line .entry)) ⌝ }
     ensures { λ _. ⌜ now (store .exit) ≡ storeAfterPayload s (now (store .entry)) seq (now (line .entry)) ⌝ }
 {
-    if MAX_PAYLOAD < line.len() {
-        return end_frame(Refusal::Bytes.number(), s);
-    }
-    let mut bytes = [0u8; MAX_FRAME];
-    let HexRun::Count(n) = read_hex(line, &mut bytes) else {
+    let mut bytes = [0u8; 1024];
+    let HexRun::Count(n) = read_payload(line, &mut bytes) else {
         return end_frame(Refusal::Bytes.number(), s);
     };
     receive_frame(s, store, ReliableMsg::Data, seq, &bytes[..n])

@@ -2,9 +2,16 @@
 ghost use mathlib.Core.Path.{_≡_};
 ghost use lib.IntN.{pos};
 ghost use Rattle.seq.specs.Numbers.{seqOf, plus, minus, signed, before, USABLE_INTERVAL};
+ghost use Rattle.seq.specs.Far.{apartOf};
 
 // A sequence number.
 pub struct Seq(pub u32);
+
+// How far a number is from another: by so many, negative where it is before it, or too far for the two to be put in an order.
+pub enum Apart {
+    By(i32),
+    Far,
+}
 
 impl Seq {
     pub const ZERO: Self = Self(0);
@@ -12,6 +19,8 @@ impl Seq {
     pub const MINUS_ONE: Self = Self(0xFFFF_FFFF);
     // The most that a received number may be past the next expected one.
     pub const USABLE_INTERVAL: i32 = 65_536;
+    // From here on, either way, two numbers are far from each other.
+    pub const FAR: u32 = 0x4000_0000;
 
     // The number n past this one.
     pub fn add(self, n: u32) -> Self
@@ -43,6 +52,20 @@ impl Seq {
         ensures { λ r. ⌜ r ≡ signed (minus (self .0) (other .0)) ⌝ }
     {
         as_signed(self.since(other))
+    }
+
+    // The one place that says how far this number is from other, or that it is far from it.
+    pub fn apart(self, other: Self) -> Apart
+        ensures { λ r. ⌜ r ≡ apartOf (self .0) (other .0) ⌝ }
+    {
+        let d = self.since(other);
+        if d < Self::FAR {
+            return Apart::By(as_signed(d));
+        }
+        if 0xFFFF_FFFF - d < Self::FAR - 1 {
+            return Apart::By(as_signed(d));
+        }
+        Apart::Far
     }
 
     // Not by comparing raw numbers: at the wrap the next tile would look old.

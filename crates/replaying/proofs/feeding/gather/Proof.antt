@@ -3,7 +3,8 @@ use mathlib.Core.Path.{_≡_, refl, sym, _∙_, ap}
 use Prim.Native.Nat.{_+_, _-_}
 use lib.ListN.{length, drop}
 use native.Mathlib.Omega.{arith}
-use Rattle.replaying.specs.Feeding.{untilFeed, carriedCount, carriedLine, until-here, until-next, until-end}
+use Rattle.recording.specs.Lines.{untilFeed, until-here, until-next, until-end}
+use Rattle.replaying.specs.Feeding.{carriedCount, carriedLine}
 use Rattle.replaying.proofs.feeding.gather.Statement.{statement}
 use Rattle.replaying.proofs.feeding.gather.Tie as tie
 

@@ -4,10 +4,10 @@ use native.Mathlib.Omega.{arith}
 use lib.Seq.{length-take-le}
 use Rattle.text.specs.HexRun.{count-says, bad-says, counted-start}
 use Rattle.msg.specs.Reading.{readOf}
-use Rattle.replaying.specs.Digits.{frame-long, frame-bad, frame-good}
+use Rattle.recording.specs.Frames.{frame-long, frame-bad, frame-good}
 use borrow.Author.Needs.{needs}
-use Rattle.replaying.proofs.digits.read_frame.Statement.{statement}
-use Rattle.replaying.proofs.digits.read_frame.Tie as tie
+use Rattle.recording.proofs.frames.read_frame.Statement.{statement}
+use Rattle.recording.proofs.frames.read_frame.Tie as tie
 
 returns : tie.Need-returns
 returns c = sym (frame-long (c .before .before .args .line .now) (omega (arith, c .if1 .taken)))

@@ -1,18 +1,16 @@
-// Lines of hexadecimal digits: how long they may be, and what a frame's line reads as.
+// A frame's line: lower-case hexadecimal, two digits a byte.
 use msg::Reading;
 use msg::read;
 use refusal::Refusal;
 use text::HexRun;
 use text::read_hex;
 ghost use mathlib.Core.Path.{_≡_};
-ghost use Rattle.replaying.specs.Digits.{frameOf};
+ghost use Rattle.recording.specs.Frames.{frameOf};
 
-// The most bytes of a frame, and the digits of its line and of a payload's: two a byte.
+// The most bytes of a frame, and the digits of its line: two a byte.
 pub const MAX_FRAME: usize = 1040;
 
 pub const MAX_LINE: usize = 2080;
-
-pub const MAX_PAYLOAD: usize = 2048;
 
 // What a frame's line reads as: a line that is too long is bad, whatever it would read as.
 pub fn read_frame(line: &[u8]) -> Reading

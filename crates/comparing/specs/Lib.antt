@@ -1,0 +1,17 @@
+pub mod Messages
+pub mod Runs
+pub mod Ranks
+pub mod Rows
+pub mod Table
+pub mod Cells
+pub mod Words
+pub mod Writing
+pub mod Differences
+pub mod Judging
+pub mod Compared
+pub mod Says
+pub mod Sanity
+pub mod Tabled
+pub mod Scanning
+pub mod Listing
+pub mod Comparison

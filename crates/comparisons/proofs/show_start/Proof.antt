@@ -1,0 +1,28 @@
+-- The start is within the text.
+use mathlib.Core.Path.{sym}
+use native.Mathlib.Omega.{arith}
+use lib.Seq.{length-take-le}
+use borrow.Author.Needs.{needs}
+use Rattle.comparisons.proofs.show_start.Statement.{statement}
+use Rattle.comparisons.proofs.show_start.Tie as tie
+
+returns : tie.Need-returns
+returns c = search needs
+
+slice-aggregate-write-all : tie.Need-slice-aggregate-write-all
+slice-aggregate-write-all c = sym (length-take-le _ _ (omega (arith, c .before .if1 .left)))
+
+write-all-requires : tie.Need-write-all-requires
+write-all-requires c κs = search needs
+
+returns-2 : tie.Need-returns-2
+returns-2 c = search needs
+
+pub show-start-spec : {M : Type 1} → statement M
+show-start-spec =
+    tie.close
+    (tie.spec
+    returns
+    slice-aggregate-write-all
+    write-all-requires
+    returns-2)
