@@ -1,15 +1,14 @@
 -- Rows in the cells of an array, three each: reading, marking and inserting one. Assumes nothing.
 use mathlib.Core.Path.{_≡_, refl, sym, _∙_, ap}
-use mathlib.Core.Bool.{Bool, true, false, cond}
 use mathlib.Core.List.{List, [], _∷_, _++_, append-assoc}
 use Prim.Native.Nat.{ℕ, zero, suc, _+_, _-_, _*_, _≤_, _<_}
 use native.Mathlib.Nat.{not-suc-le-zero}
 use native.Mathlib.Omega.{arith}
 use lib.Dec.{eqb}
-use lib.ListN.{length, getD, take, drop, set, length-drop, length-take, drop-of-length-le}
+use lib.ListN.{length, getD, take, drop, set, drop-of-length-le}
 use lib.Seq.{drop-cons, set-split, take-at, drop-at, getD-take, take-take, length-take-le, sets-eq}
 use Rattle.comparing.specs.declared.table.Held.the-variants.{Not}
-use Rattle.comparing.specs.Rows.{Row, row, noRow, rowsOf, heldIf, heldFirst, markedAt, insertAt}
+use Rattle.comparing.specs.Rows.{row, noRow, rowsOf, heldIf, heldFirst, markedAt, insertAt, Rising, positionIn, position-after, position-before}
 
 -- the cell of a row's rank, from a row on
 three : (i : ℕ) → suc i * 3 ≡ suc (suc (suc (i * 3)))
@@ -42,6 +41,17 @@ rows-at (suc n) (suc i) (a ∷ b ∷ c ∷ rest) h g =
     ∙ ap (λ k. row (getD (a ∷ b ∷ c ∷ rest) k 0) (getD rest (i * 3 + 1) 0) (getD rest (i * 3 + 2) 0)) (sym (three i))
     ∙ ap (λ k. row (getD (a ∷ b ∷ c ∷ rest) (suc i * 3) 0) (getD (a ∷ b ∷ c ∷ rest) k 0) (getD rest (i * 3 + 2) 0)) (sym e₁)
     ∙ ap (λ k. row (getD (a ∷ b ∷ c ∷ rest) (suc i * 3) 0) (getD (a ∷ b ∷ c ∷ rest) (suc i * 3 + 1) 0) (getD (a ∷ b ∷ c ∷ rest) k 0)) (sym e₂)
+
+-- a row of a lower rank stands before a rank, any other not
+module _ (rank n i : ℕ) (cells : List ℕ) (h : n * 3 ≤ length cells) (g : i < n) where
+  rank-at : getD (rowsOf n cells) i noRow .rank ≡ getD cells (i * 3) 0
+  rank-at = ap (λ x. x .rank) (rows-at n i cells h g)
+
+  pub cells-after : Rising 0 (rowsOf n cells) → getD cells (i * 3) 0 < rank → i < positionIn rank (rowsOf n cells)
+  cells-after rising low = position-after rank 0 i (rowsOf n cells) rising (omega (arith, rows-length n cells h)) (omega (arith, rank-at))
+
+  pub cells-before : rank ≤ getD cells (i * 3) 0 → positionIn rank (rowsOf n cells) ≤ i
+  cells-before high = position-before rank i (rowsOf n cells) (omega (arith, rank-at)) (omega (arith, rows-length n cells h))
 
 -- its flag set
 pub rows-marked : (n i : ℕ) (cells : List ℕ) → n * 3 ≤ length cells → i < n → rowsOf n (set cells (i * 3 + 2) 1) ≡ markedAt i (rowsOf n cells)

@@ -1,5 +1,4 @@
 -- Document 02 [6]: what a comparison answers, and what it leaves of the lent list. Assumes nothing.
-use mathlib.Core.Path.{_≡_, refl, sym, _∙_, ap}
 use mathlib.Core.List.{List, [], _∷_, _++_}
 use Prim.Native.Nat.{ℕ}
 use lib.ListN.{length, drop}

@@ -1,17 +1,17 @@
 -- What two scanned recordings lead to. Assumes nothing.
 use mathlib.Core.Path.{_≡_, refl, sym, _∙_, ap}
 use mathlib.Core.List.{List, [], _++_}
-use Prim.Native.Nat.{ℕ, _+_, _*_, _^_, _≤_, _<_}
+use Prim.Native.Nat.{ℕ, _+_, _^_, _≤_}
 use native.Mathlib.Omega.{arith}
-use lib.ListN.{length, take, drop}
-use lib.Seq.{sets, sets-eq}
+use lib.ListN.{length, drop}
+use lib.Seq.{sets-eq}
 use Rattle.comparing.specs.declared.scanning.Scanned.{Scanned}
 use Rattle.comparing.specs.declared.comparison.Judged.{Judged}
 use Rattle.comparing.specs.declared.comparison.Judged.the-variants.{Pass}
 use Rattle.comparing.specs.Messages.{bodyOf, startOf}
 use Rattle.comparing.specs.Rows.{Rising, rowsOf}
 use Rattle.comparing.specs.Cells.{rows-length}
-use Rattle.comparing.specs.Table.{earliest, noNumbers, tableOf, tabled}
+use Rattle.comparing.specs.Table.{earliest, noNumbers, tabled}
 use Rattle.comparing.specs.Differences.{Listed, listBelow, listOf}
 use Rattle.comparing.specs.Judging.{farLine, manyLine, startsPart, inOrder, verdictOf, passed-says, starts-same}
 use Rattle.comparing.specs.Compared.{wordsOf, howMany, comparedAs, comparedOf, listIn, comparedList}

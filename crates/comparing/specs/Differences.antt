@@ -1,10 +1,9 @@
 -- Document 02 [6]: "lists the messages by number. For each number: only in the first, only in the second, or in both with the first
 -- differing byte's place and both byte values; where one is a beginning of the other, the shorter length. Repeats with equal content count
 -- once; a repeat with other content is listed as a conflict of that recording, and the first stands." Assumes nothing.
-use mathlib.Core.Path.{_≡_, refl, sym, _∙_, ap}
 use mathlib.Core.Bool.{Bool, true, false, cond, not, _&&_, _||_}
 use mathlib.Core.List.{List, [], _∷_, _++_}
-use Prim.Native.Nat.{ℕ, zero, suc, _+_, _^_, _≤_, _<_}
+use Prim.Native.Nat.{ℕ, zero, suc, _+_, _^_}
 use lib.Dec.{eqb}
 use Rattle.comparing.specs.declared.messages.Message.{Message}
 use Rattle.comparing.specs.declared.runs.Content.{Content}

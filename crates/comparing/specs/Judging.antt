@@ -1,16 +1,16 @@
 -- Document 02 [6]: "At most 1,024 numbers a side"; "Refusals: 20 for a bad line; 22 for a number far from the start number; 23 Many, when a
 -- side has more; in that order over both recordings." Each with the recording and the line that gives it. Assumes nothing.
-use mathlib.Core.Path.{_≡_, refl, sym, _∙_, ap}
-use mathlib.Core.Bool.{Bool, true, false, cond, _||_}
+use mathlib.Core.Path.{_≡_}
+use mathlib.Core.Bool.{Bool, false, cond, _||_}
 use mathlib.Core.List.{List, [], _∷_}
-use Prim.Native.Nat.{ℕ, _≤_, _<_}
+use Prim.Native.Nat.{ℕ}
 use native.Mathlib.Omega.{arith}
 use lib.Dec.{eqb, ltb}
 use lib.ListN.{length}
 use borrow.Author.Tests.{eqb-true}
 use borrow.Table.Steps.{cases}
 use Rattle.refusal.specs.declared.Refusal.{Refusal}
-use Rattle.refusal.specs.Refusals.{refuse, numberOf}
+use Rattle.refusal.specs.Refusals.{refuse}
 use Rattle.comparing.specs.declared.messages.Message.{Message}
 use Rattle.comparing.specs.declared.comparison.Side.{Side}
 use Rattle.comparing.specs.declared.comparison.Side.the-variants as sides

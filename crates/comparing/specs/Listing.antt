@@ -6,9 +6,9 @@ use Prim.Native.Nat.{ℕ, zero, suc, _+_, _-_, _*_, _^_, _≤_, _<_}
 use native.Mathlib.Nat.{le-refl, not-suc-le-zero}
 use native.Mathlib.Omega.{arith}
 use lib.Dec.{eqb, leb, ltb}
-use lib.ListN.{length, drop, set, length-append, length-drop, drop-of-length-le}
+use lib.ListN.{length, getD, drop, set, length-append, length-drop, drop-of-length-le}
 use lib.Seq.{sets, drop-drop}
-use borrow.Author.Tests.{eqb-true, eqb-false, eq-eqb, ne-eqb, ltb-true, ltb-false, leb-true}
+use borrow.Author.Tests.{eqb-true, eqb-false, eq-eqb, ne-eqb, lt-ltb, le-ltb, ltb-true, ltb-false, leb-true}
 use borrow.Table.Steps.{cases}
 use Rattle.text.specs.HexRun.{spells, spelt-length}
 use Rattle.recording.specs.Lines.{linesOf}
@@ -24,7 +24,8 @@ use Rattle.comparing.specs.declared.listing.Difference.the-variants.{Con
 use Rattle.comparing.specs.Messages.{lineFound}
 use Rattle.comparing.specs.Runs.{contentFrom, contentOf, lineBytes, payloadAfter, runIn, runAt}
 use Rattle.comparing.specs.Ranks.{numberOf}
-use Rattle.comparing.specs.Rows.{Row, Rising, heldFirst, heldIn, rising-least, held-below}
+use Rattle.comparing.specs.Cells.{rows-length, rows-from, rows-past}
+use Rattle.comparing.specs.Rows.{Row, rowsOf, Rising, heldFirst, heldIn, rising-least, held-below}
 use Rattle.comparing.specs.Differences.{Listed, conflictAs, contentAs, partAs, differencesOn, listedFor, listBelow}
 use Rattle.comparing.specs.Words.{wordOf}
 use Rattle.comparing.specs.Compared.{wordsOf}
@@ -291,21 +292,21 @@ module _ (first second : List ℕ) (start : ℕ) (a b : List Row) (old : List �
         let right = so-far .right .holds r h ∙ first-held r (drop j b) y in
         below-words first second start r ∙ simp (gap r h x y, says .on r l, left, right)
 
-    pub listing-rank : i + j < length a + length b → nextRank (drop i a) (drop j b) < 2 ^ 32
+    listing-rank : i + j < length a + length b → nextRank (drop i a) (drop j b) < 2 ^ 32
     listing-rank more = next-least (so-far .rank) (drop i a) (drop j b) (so-far .left .rises) (so-far .right .rises) (some more) .1
 
-    pub listing-room : i + j < length a + length b → length a ≤ 1024 → length b ≤ 1024
+    listing-room : i + j < length a + length b → length a ≤ 1024 → length b ≤ 1024
         → n + (hasOf (heldFirst (nextRank (drop i a) (drop j b)) (drop i a)) + hasOf (heldFirst (nextRank (drop i a) (drop j b)) (drop j b))) * 2 ≤ 4096
     listing-room more h g =
         let r = nextRank (drop i a) (drop j b) in
         omega (arith, so-far .few, passed-within i a r (so-far .first-rows), passed-within j b r (so-far .second-rows))
 
-    pub listing-less : i + j < length a + length b
+    listing-less : i + j < length a + length b
         → i + j < i + hasOf (heldFirst (nextRank (drop i a) (drop j b)) (drop i a)) + (j + hasOf (heldFirst (nextRank (drop i a) (drop j b)) (drop j b)))
     listing-less more =
         omega (arith, next-least (so-far .rank) (drop i a) (drop j b) (so-far .left .rises) (so-far .right .rises) (some more) .4)
 
-    pub listing-step : (m : ℕ) (next : List ℕ) → i + j < length a + length b
+    listing-step : (m : ℕ) (next : List ℕ) → i + j < length a + length b
         → Pushed (wordsFor (numberOf start (nextRank (drop i a) (drop j b))) (heldDifferences first second (heldFirst (nextRank (drop i a) (drop j b)) (drop i a)) (heldFirst (nextRank (drop i a) (drop j b)) (drop j b)))) new n m next
         → Listing first second start a b old (i + hasOf (heldFirst (nextRank (drop i a) (drop j b)) (drop i a))) (j + hasOf (heldFirst (nextRank (drop i a) (drop j b)) (drop j b))) m next
     listing-step m next more pushed =
@@ -325,7 +326,7 @@ module _ (first second : List ℕ) (start : ℕ) (a b : List Row) (old : List �
               (pushed-then (wordsOf (listBelow first second start (so-far .rank))) (wordsFor (numberOf start r) (heldDifferences first second x y)) old new next 0 n m (so-far .pushed) pushed);
         }
 
-    pub listing-end : length a + length b ≤ i + j → Pushed (wordsOf (listBelow first second start (2 ^ 32))) old 0 n new
+    listing-end : length a + length b ≤ i + j → Pushed (wordsOf (listBelow first second start (2 ^ 32))) old 0 n new
     listing-end done =
         let l = rising-least (so-far .rank) (drop i a) (so-far .left .rises) in
         let x = drop-of-length-le a {i = i} (omega (arith, so-far .first-rows, so-far .second-rows)) in
@@ -377,3 +378,67 @@ run-short input at = lines-few (linesOf (drop at input))
 pub part-near : (first second : List ℕ) (i j : ℕ) (content : Content) → content ≡ contentOf (runAt first i) (runAt second j) → placeOf content < 4096
 part-near first second i j content e =
     omega (arith, ap placeOf e, content-within (runAt first i) (runAt second j), run-short first i)
+
+-- the least rank by the cells: one table is at its end, or both have a row
+module _ (m i : ℕ) (x : List ℕ) (n j : ℕ) (y : List ℕ) (x-room : m * 3 ≤ length x) (y-room : n * 3 ≤ length y) where
+  pub next-second : m ≤ i → j < n → getD y (j * 3) 0 ≡ nextRank (drop i (rowsOf m x)) (drop j (rowsOf n y))
+  unfolding nextRank
+  next-second h g = rw (rows-past m i x x-room h, rows-from n j y y-room g)
+
+  pub next-first : i < m → n ≤ j → getD x (i * 3) 0 ≡ nextRank (drop i (rowsOf m x)) (drop j (rowsOf n y))
+  unfolding nextRank
+  next-first h g = rw (rows-from m i x x-room h, rows-past n j y y-room g)
+
+  next-both : i < m → j < n → nextRank (drop i (rowsOf m x)) (drop j (rowsOf n y)) ≡ cond (ltb (getD x (i * 3) 0) (getD y (j * 3) 0)) (getD x (i * 3) 0) (getD y (j * 3) 0)
+  unfolding nextRank
+  next-both h g = rw (rows-from m i x x-room h, rows-from n j y y-room g)
+
+  pub next-low : i < m → j < n → getD x (i * 3) 0 < getD y (j * 3) 0 → getD x (i * 3) 0 ≡ nextRank (drop i (rowsOf m x)) (drop j (rowsOf n y))
+  next-low h g l = sym (next-both h g ∙ (simp (lt-ltb _ _ l)))
+
+  pub next-high : i < m → j < n → getD y (j * 3) 0 ≤ getD x (i * 3) 0 → getD y (j * 3) 0 ≡ nextRank (drop i (rowsOf m x)) (drop j (rowsOf n y))
+  next-high h g l = sym (next-both h g ∙ (simp (le-ltb _ _ l)))
+
+-- one turn over two tables in their cells: from where the list has come to the differences on the next number
+module _ (m : ℕ) (x : List ℕ) (n : ℕ) (y : List ℕ) (rooms : (m * 3 ≤ length x) × (n * 3 ≤ length y)) {first second : List ℕ} {start : ℕ} {old : List ℕ} {i j k : ℕ} {list : List ℕ}
+    (says : Says first second start (rowsOf m x) (rowsOf n y)) (so-far : Listing first second start (rowsOf m x) (rowsOf n y) old i j k list) where
+  all-rows : length (rowsOf m x) + length (rowsOf n y) ≡ m + n
+  all-rows = omega (arith, rows-length m x (rooms .0), rows-length n y (rooms .1))
+
+  pub turn-rows : (i ≤ m) × (j ≤ n)
+  turn-rows = (omega (arith, so-far .first-rows, rows-length m x (rooms .0)), omega (arith, so-far .second-rows, rows-length n y (rooms .1)))
+
+  pub turn-end : m + n ≤ i + j → Pushed (wordsOf (listBelow first second start (2 ^ 32))) old 0 k list
+  turn-end done = listing-end first second start (rowsOf m x) (rowsOf n y) old i j k list says so-far (omega (arith, all-rows))
+
+  module _ (more : i + j < m + n) (rank : ℕ) (ranked : rank ≡ nextRank (drop i (rowsOf m x)) (drop j (rowsOf n y))) where
+    left-over : i + j < length (rowsOf m x) + length (rowsOf n y)
+    left-over = omega (arith, all-rows)
+
+    pub turn-rank : rank < 2 ^ 32
+    turn-rank = omega (arith, ranked, listing-rank first second start (rowsOf m x) (rowsOf n y) old i j k list says so-far left-over)
+
+    module _ (a b : Held) (held-a : a ≡ heldFirst rank (drop i (rowsOf m x))) (held-b : b ≡ heldFirst rank (drop j (rowsOf n y))) where
+      same-a : a ≡ heldFirst (nextRank (drop i (rowsOf m x)) (drop j (rowsOf n y))) (drop i (rowsOf m x))
+      same-a = held-a ∙ ap (λ r. heldFirst r (drop i (rowsOf m x))) ranked
+
+      same-b : b ≡ heldFirst (nextRank (drop i (rowsOf m x)) (drop j (rowsOf n y))) (drop j (rowsOf n y))
+      same-b = held-b ∙ ap (λ r. heldFirst r (drop j (rowsOf n y))) ranked
+
+      pub turn-room : m ≤ 1024 → n ≤ 1024 → k + (hasOf a + hasOf b) * 2 ≤ 4096
+      turn-room h g =
+          omega (
+            arith,
+            ap hasOf same-a,
+            ap hasOf same-b,
+            listing-room first second start (rowsOf m x) (rowsOf n y) old i j k list says so-far left-over (omega (arith, rows-length m x (rooms .0))) (omega (arith, rows-length n y (rooms .1))),
+          )
+
+      pub turn-less : i + j < i + hasOf a + (j + hasOf b)
+      turn-less = omega (arith, ap hasOf same-a, ap hasOf same-b, listing-less first second start (rowsOf m x) (rowsOf n y) old i j k list says so-far left-over)
+
+      pub turn-step : (number l : ℕ) (next : List ℕ) → number ≡ numberOf start rank → Pushed (wordsFor number (heldDifferences first second a b)) list k l next
+          → Listing first second start (rowsOf m x) (rowsOf n y) old (i + hasOf a) (j + hasOf b) l next
+      turn-step number l next named pushed =
+          rw (same-a, same-b)
+          (listing-step first second start (rowsOf m x) (rowsOf n y) old i j k list says so-far l next left-over (rw (named, ranked, same-a, same-b) at pushed))

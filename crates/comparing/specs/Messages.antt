@@ -1,16 +1,15 @@
 -- Document 02 [6]: "reads both as hexadecimal frames, one frame a line, Data payloads after their frames". What each line of a recording
 -- is, and the messages that it holds. A recording is the list of its bytes. Assumes nothing.
-use mathlib.Core.Path.{_≡_, refl, sym, _∙_, ap}
+use mathlib.Core.Path.{_≡_, refl, sym, _∙_}
 use mathlib.Core.Bool.{Bool, true, false, cond, _&&_}
 use mathlib.Core.List.{List, [], _∷_}
-use Prim.Native.Nat.{ℕ, zero, suc, _+_, _*_, _^_, _<_}
+use Prim.Native.Nat.{ℕ, zero, suc, _+_, _*_, _<_}
 use native.Mathlib.Omega.{arith}
 use lib.Dec.{eqb, leb}
 use lib.ListN.{length, getD}
 use lib.Seq.{take-all}
 use borrow.Author.Tests.{eq-eqb, ne-eqb, leb-false}
 use borrow.Table.Steps.{cases}
-use Rattle.seq.specs.declared.Seq.{Seq}
 use Rattle.seq.specs.Numbers.{seqOf}
 use Rattle.msg.specs.declared.reading.Reading.{Reading}
 use Rattle.msg.specs.declared.reading.Reading.the-variants as readings

@@ -1,14 +1,12 @@
 -- Document 02 [6]: "Distance is taken from a start number". A number's rank is its signed distance from the start number, and 2^31 more,
 -- so that ranks are naturals that rise as the distance does. Assumes nothing.
-use mathlib.Core.Path.{_≡_, refl, sym, _∙_, ap}
-use mathlib.Core.Bool.{Bool, true, false, cond}
+use mathlib.Core.Path.{_≡_}
 use Prim.Native.Nat.{ℕ, _+_, _-_, _^_, _≤_, _<_}
 use native.Mathlib.Omega.{arith}
-use lib.IntN.{ℤ, pos, negsuc}
 use Rattle.seq.specs.declared.Apart.{Apart}
 use Rattle.seq.specs.declared.Apart.the-variants.{By, Far}
-use Rattle.seq.specs.Numbers.{plus, minus, signed}
-use Rattle.seq.specs.Laws.{minus-lt, plus-lt, signed-low, signed-high}
+use Rattle.seq.specs.Numbers.{plus, minus}
+use Rattle.seq.specs.Laws.{minus-lt, plus-lt}
 use Rattle.seq.specs.Far.{apartOf}
 use Rattle.comparing.specs.declared.messages.Message.{Message}
 

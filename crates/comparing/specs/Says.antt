@@ -1,23 +1,18 @@
 -- What the rows of a table say of a recording's messages. Assumes nothing.
-use mathlib.Core.Path.{_≡_, refl, sym, _∙_, ap}
-use mathlib.Core.Bool.{Bool, true, false, cond, not}
+use mathlib.Core.Path.{_≡_}
+use mathlib.Core.Bool.{Bool, false, not}
 use mathlib.Core.List.{List, [], _∷_, _++_}
-use Prim.Native.Nat.{ℕ, zero, suc, _+_, _^_, _≤_, _<_}
-use native.Mathlib.Omega.{arith}
+use Prim.Native.Nat.{ℕ, _+_, _^_, _<_}
 use lib.Dec.{eqb}
-use lib.ListN.{length}
 use Rattle.comparing.specs.declared.messages.Message.{Message}
 use Rattle.comparing.specs.declared.table.Held.{Held}
 use Rattle.comparing.specs.declared.table.Held.the-variants.{Not, At}
 use Rattle.comparing.specs.declared.listing.Difference.{Difference}
 use Rattle.comparing.specs.declared.listing.Difference.the-variants.{ConflictFirst, ConflictSecond}
-use Rattle.comparing.specs.Messages.{bodyOf, startOf}
 use Rattle.comparing.specs.Runs.{runAt}
-use Rattle.comparing.specs.Ranks.{rankOf, numberOf}
-use Rattle.comparing.specs.Rows.{Row, Rising, heldIn}
-use Rattle.comparing.specs.Table.{Table, noNumbers, tabled}
-use Rattle.comparing.specs.Differences.{Standing, Absent, Run, standing, conflicted, conflictAs, partAs, differencesOn}
-use Rattle.comparing.specs.Judging.{farLine, manyLine, numbersWith}
+use Rattle.comparing.specs.Ranks.{numberOf}
+use Rattle.comparing.specs.Rows.{Row, heldIn}
+use Rattle.comparing.specs.Differences.{Standing, Absent, Run, conflictAs, partAs, differencesOn}
 
 -- numbers of 32 bits, and lines that are counted from 1
 unfoldable pub Sane : List Message → Type 0

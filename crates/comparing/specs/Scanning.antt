@@ -15,7 +15,6 @@ use Rattle.comparing.specs.declared.messages.Waiting.{Waiting}
 use Rattle.comparing.specs.declared.messages.Waiting.the-variants.{Frame, Payload}
 use Rattle.comparing.specs.declared.messages.Found.{Found}
 use Rattle.comparing.specs.declared.messages.Found.the-variants as found
-use Rattle.comparing.specs.declared.messages.Start.{Start}
 use Rattle.comparing.specs.declared.messages.Start.the-variants as starts
 use Rattle.comparing.specs.Messages.{Body, startLine, lineFound, waitingAfter, endsAt, badAt, bodyAs, bodyFrom, bodyAfter, bodyIn, bodyOf, startAs, startIn, startOf}
 use Rattle.comparing.specs.Rows.{Rising}

@@ -1,20 +1,18 @@
 -- The table of a recording, message by message. Assumes nothing.
-use mathlib.Core.Path.{_≡_, refl, sym, _∙_, ap}
-use mathlib.Core.Bool.{Bool, true, false, cond}
+use mathlib.Core.Path.{_≡_, _∙_, ap}
+use mathlib.Core.Bool.{true, false, cond}
 use mathlib.Core.List.{List, [], _∷_}
-use Prim.Native.Nat.{ℕ, _+_, _^_, _≤_, _<_}
-use native.Mathlib.Omega.{arith}
+use Prim.Native.Nat.{ℕ, _≤_, _<_}
 use lib.Dec.{eqb, ltb}
 use lib.ListN.{length, drop}
 use borrow.Author.Tests.{lt-ltb, le-ltb}
-use borrow.Table.Steps.{cases}
 use Rattle.comparing.specs.declared.messages.Message.{Message}
 use Rattle.comparing.specs.declared.table.Held.{Held}
 use Rattle.comparing.specs.declared.table.Held.the-variants.{Not, At}
 use Rattle.comparing.specs.declared.table.Counts.{Counts}
 use Rattle.comparing.specs.Runs.{contentFrom, contentOf, isEqual, runAt}
 use Rattle.comparing.specs.Ranks.{rankOf, farAt}
-use Rattle.comparing.specs.Rows.{Row, row, rowsOf, Rising, positionIn, insertAt, heldFirst, markedAt}
+use Rattle.comparing.specs.Rows.{Row, row, rowsOf, positionIn, insertAt, heldFirst, markedAt}
 
 -- the first of two lines to be told, where 0 is none
 unfoldable pub earliest : ℕ → ℕ → ℕ

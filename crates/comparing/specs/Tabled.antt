@@ -3,14 +3,13 @@
 use mathlib.Core.Path.{_≡_, refl, sym, _∙_, ap}
 use mathlib.Core.Bool.{Bool, true, false, cond, not, _||_}
 use mathlib.Core.List.{List, [], _∷_}
-use Prim.Native.Nat.{ℕ, suc, _+_, _^_, _≤_, _<_}
+use Prim.Native.Nat.{ℕ, suc, _^_, _≤_, _<_}
 use native.Mathlib.Omega.{arith}
 use lib.Dec.{eqb, ltb}
 use lib.ListN.{length, drop}
 use borrow.Author.Tests.{eqb-true, eqb-false, eq-eqb, ne-eqb, ltb-true, ltb-false, lt-ltb, le-ltb}
 use borrow.Table.Steps.{cases}
 use Rattle.comparing.specs.declared.messages.Message.{Message}
-use Rattle.comparing.specs.declared.runs.Content.the-variants.{Equal}
 use Rattle.comparing.specs.declared.table.Held.{Held}
 use Rattle.comparing.specs.declared.table.Held.the-variants.{Not, At}
 use Rattle.comparing.specs.Messages.{bodyOf, startOf}

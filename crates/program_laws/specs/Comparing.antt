@@ -1,10 +1,10 @@
 -- Document 02 [6]: "lists the messages by number"; "Listing each difference exactly once, in number order". What the list of two recordings
 -- is, in theorems: each difference is there, each once and in order, nothing else is, and the list of the two exchanged is the list
--- exchanged. Assumes nothing.
+-- exchanged; and each message stands at its place. Assumes nothing.
 use mathlib.Core.Path.{_≡_, refl, sym, _∙_, ap, subst}
-use mathlib.Core.Bool.{Bool, true, false, _&&_}
+use mathlib.Core.Bool.{Bool, true, false}
 use mathlib.Core.Logic.{_↔_, _≢_, inl, inr}
-use mathlib.Core.List.{List, [], _∷_, _++_, map, List·Memᴰ, List·Memᴰ·head, List·Memᴰ·tail, List·Memᴰ·not-nil, List·Memᴰ·append-cases, Memᴰ·append-left, Memᴰ·append-right, Memᴰ·map}
+use mathlib.Core.List.{List, [], _∷_, _++_, append-nil, map, List·Memᴰ, List·Memᴰ·head, List·Memᴰ·tail, List·Memᴰ·not-nil, List·Memᴰ·append-cases, Memᴰ·append-left, Memᴰ·append-right, Memᴰ·map}
 use Prim.Native.Nat.{ℕ, zero, suc, _+_, _-_, _*_, _^_, _≤_, _<_, min}
 use native.Mathlib.Numerals.{add-one}
 use native.Mathlib.Nat.{le-refl, le-trans}
@@ -12,17 +12,35 @@ use native.Mathlib.Omega.{arith}
 use lib.Dec.{eqb, ltb}
 use lib.IntN.{ℤ, pos, negsuc}
 use lib.Signed.{mag, ltZ}
-use lib.ListN.{length, getD, take}
+use lib.ListN.{length, getD, take, drop}
+use lib.Seq.{drop-drop}
 use borrow.Author.Tests.{eq-eqb, ne-eqb, eqb-true, eqb-false, lt-ltb, le-ltb, ltb-true, ltb-false}
 use borrow.Table.Steps.{cases}
+use Rattle.seq.specs.declared.Seq.{Seq}
 use Rattle.seq.specs.Numbers.{minus, signed}
 use Rattle.seq.specs.Laws.{minus-lt, signed-low, signed-high}
+use Rattle.msg.specs.declared.reading.Reading.{Reading}
+use Rattle.msg.specs.declared.reading.Reading.the-variants as readings
+use Rattle.msg.specs.declared.reliable.ReliableMsg.the-variants as reliable
+use Rattle.msg.specs.declared.reliable.FromLink.{FromLink}
+use Rattle.msg.specs.declared.reliable.FromLink.the-variants.{Reliable, Other}
+use Rattle.msg.specs.Reliable.{fromLink}
+use Rattle.recording.specs.Lines.{linesOf, untilFeed, line-ended, line-last, line-none}
+use Rattle.recording.specs.Frames.{frameOf}
+use Rattle.recording.specs.Payloads.{isPayload}
+use Rattle.comparing.specs.declared.messages.Message.{Message}
+use Rattle.comparing.specs.declared.messages.Waiting.{Waiting}
+use Rattle.comparing.specs.declared.messages.Waiting.the-variants.{Frame, Payload}
+use Rattle.comparing.specs.declared.messages.Found.{Found}
+use Rattle.comparing.specs.declared.messages.Found.the-variants as found
+use Rattle.comparing.specs.declared.messages.Start.{Start}
+use Rattle.comparing.specs.declared.messages.Start.the-variants as starts
 use Rattle.comparing.specs.declared.runs.Content.{Content}
 use Rattle.comparing.specs.declared.runs.Content.the-variants as contents
 use Rattle.comparing.specs.declared.listing.Difference.{Difference}
 use Rattle.comparing.specs.declared.listing.Difference.the-variants.{First, Second, Differ, Begins, ConflictFirst, ConflictSecond}
-use Rattle.comparing.specs.Messages.{bodyOf, startOf}
-use Rattle.comparing.specs.Runs.{contentFrom, contentOf, content-same}
+use Rattle.comparing.specs.Messages.{Body, startLine, foundCarried, foundReading, foundPayload, lineFound, bodyAs, bodyFrom, bodyAfter, bodyIn, bodyOf, startOf}
+use Rattle.comparing.specs.Runs.{contentFrom, contentOf, content-same, lineBytes, payloadAfter, runIn, runAt}
 use Rattle.comparing.specs.Sanity.{start-small}
 use Rattle.comparing.specs.Ranks.{rankOf, numberOf, rank-lt, rank-of-number, number-of-rank, number-lt, rank-ahead, rank-behind}
 use Rattle.comparing.specs.Differences.{Standing, Absent, Run, standing, conflicted, conflictAs, contentAs, partAs, differencesOn, Listed, listedFor, listBelow, listOf}
@@ -360,3 +378,172 @@ pub listed-exchanged : (a b : List ℕ) (d : Listed) → d ∈ listOf a b → ex
 listed-exchanged a b d m =
     let h = listed-exact a b d m in
     listed-complete b a (d .number) (turned (d .what)) (h .0) (rw on-says (all-turned _ _ _ _ (rw on-says at (h .1))))
+
+-- ---- the place of a message
+
+-- the lines of a recording from a place and a line on, counted from 1
+abbrev pub LinesAt : List ℕ → ℕ → ℕ → List (List ℕ) → Type 0
+LinesAt input at line lines = (linesOf (drop at input) ≡ lines) × (drop (line - 1) (linesOf input) ≡ lines)
+
+-- the line of a message's frame begins at its place, a Data's payload is the next line, and its run is what they spell
+pub data Stands (input : List ℕ) (m : Message) : Type 0 where
+  alone : (frame : List ℕ) (rest : List (List ℕ)) → LinesAt input (m .at) (m .line) (frame ∷ rest) → lineFound Frame (m .at) (m .line) frame ≡ found.Holds m
+      → runAt input (m .at) ≡ lineBytes frame → Stands input m
+  with-payload : (frame payload : List ℕ) (rest : List (List ℕ)) → LinesAt input (m .at) (m .line) (frame ∷ payload ∷ rest)
+      → lineFound Frame (m .at) (m .line) frame ≡ found.Awaits m → isPayload payload ≡ true → runAt input (m .at) ≡ lineBytes frame ++ lineBytes payload
+      → Stands input m
+
+clash : {X : Type 0} → _≡_ {A = ℕ} 0 1 → X
+clash z = absurd (omega arith)
+
+-- a frame's line is found the same wherever it stands, but for the place and the line
+abbrev HoldsAt : Found → Found → ℕ → ℕ → Message → Type 0
+HoldsAt f g at line m = f ≡ found.Holds m → (m .at ≡ at) × (m .line ≡ line) × ((text : List ℕ) → payloadAfter g text ≡ [])
+
+abbrev AwaitsAt : Found → Found → ℕ → ℕ → Message → Type 0
+AwaitsAt f g at line m = f ≡ found.Awaits m → (m .at ≡ at) × (m .line ≡ line) × ((text : List ℕ) → payloadAfter g text ≡ lineBytes text)
+
+module _ (at line : ℕ) (m : Message) where
+  placed : {P : Type 0} (n : Seq) → m ≡ record { number = n; at = at; line = line } → P → (m .at ≡ at) × (m .line ≡ line) × P
+  placed n e p = (ap (λ x. x .at) e, ap (λ x. x .line) e, p)
+
+  carried-holds : (f : FromLink) → HoldsAt (foundCarried f at line) (foundCarried f 0 0) at line m
+  carried-holds (Reliable reliable.Data n) e = clash (cc)
+  carried-holds (Reliable (reliable.Consumed k) n) e = placed n (cc) (λ text. refl)
+  carried-holds (Reliable reliable.SendFinish n) e = placed n (cc) (λ text. refl)
+  carried-holds (Reliable reliable.ReceiveClose n) e = placed n (cc) (λ text. refl)
+  carried-holds (Reliable reliable.ReceiveFinish n) e = placed n (cc) (λ text. refl)
+  carried-holds Other e = clash (cc)
+
+  carried-awaits : (f : FromLink) → AwaitsAt (foundCarried f at line) (foundCarried f 0 0) at line m
+  carried-awaits (Reliable reliable.Data n) e = placed n (cc) (λ text. refl)
+  carried-awaits (Reliable (reliable.Consumed k) n) e = clash (cc)
+  carried-awaits (Reliable reliable.SendFinish n) e = clash (cc)
+  carried-awaits (Reliable reliable.ReceiveClose n) e = clash (cc)
+  carried-awaits (Reliable reliable.ReceiveFinish n) e = clash (cc)
+  carried-awaits Other e = clash (cc)
+
+  reading-holds : (r : Reading) → HoldsAt (foundReading r at line) (foundReading r 0 0) at line m
+  reading-holds (readings.Message msg) e = carried-holds (fromLink msg) e
+  reading-holds (readings.No r) e = clash (cc)
+
+  reading-awaits : (r : Reading) → AwaitsAt (foundReading r at line) (foundReading r 0 0) at line m
+  reading-awaits (readings.Message msg) e = carried-awaits (fromLink msg) e
+  reading-awaits (readings.No r) e = clash (cc)
+
+  frame-holds : (text : List ℕ) → HoldsAt (lineFound Frame at line text) (lineFound Frame 0 0 text) at line m
+  unfolding lineFound
+  frame-holds text e = reading-holds (frameOf text) e
+
+  frame-awaits : (text : List ℕ) → AwaitsAt (lineFound Frame at line text) (lineFound Frame 0 0 text) at line m
+  unfolding lineFound
+  frame-awaits text e = reading-awaits (frameOf text) e
+
+payload-holds : (b : Bool) (n m : Message) → foundPayload b n ≡ found.Holds m → (b ≡ true) × (m ≡ n)
+payload-holds true n m e = (refl, cc)
+payload-holds false n m e = clash (cc)
+
+payload-waits : (b : Bool) (n m : Message) → foundPayload b n ≡ found.Awaits m → ⊥
+payload-waits true n m e = clash (cc)
+payload-waits false n m e = clash (cc)
+
+-- the run of a line with nothing behind it that is its payload
+run-alone : (frame : List ℕ) (rest : List (List ℕ)) → ((text : List ℕ) → payloadAfter (lineFound Frame 0 0 frame) text ≡ []) → runIn (frame ∷ rest) ≡ lineBytes frame
+run-alone frame [] h = refl
+run-alone frame (payload ∷ rest) h = ap (λ l. lineBytes frame ++ l) (h payload) ∙ append-nil (lineBytes frame)
+
+-- the line after one begins behind its line feed
+next-lines : (input : List ℕ) (at : ℕ) (text : List ℕ) (rest : List (List ℕ)) → linesOf (drop at input) ≡ text ∷ rest → linesOf (drop (at + length text + 1) input) ≡ rest
+next-lines input at text rest e =
+    let first = untilFeed (drop at input) in
+    cases (ltb (at + length first) (length input))
+    (λ t.
+    let l = line-ended input at (ltb-true (at + length first) (length input) t) in
+    let same : first ≡ text = cc in
+    let others : linesOf (drop (at + length first + 1) input) ≡ rest = cc in
+    ap (λ x. linesOf (drop (at + length x + 1) input)) (sym same) ∙ others)
+    (λ f.
+    let past = ltb-false (at + length first) (length input) f in
+    cases (ltb at (length input))
+    (λ t.
+    let l = line-last input at (ltb-true at (length input) t) past in
+    let same : first ≡ text = cc in
+    let none : [] ≡ rest = cc in
+    line-none input (at + length text + 1) (omega (arith, ap length same)) ∙ none)
+    (λ g. never (sym e ∙ line-none input at (ltb-false at (length input) g))))
+
+next-at : (input : List ℕ) (at line : ℕ) (text : List ℕ) (rest : List (List ℕ)) → 0 < line → LinesAt input at line (text ∷ rest)
+    → LinesAt input (at + length text + 1) (line + 1) rest
+next-at input at line text rest h here =
+    let k : line - 1 + 1 ≡ line + 1 - 1 = omega arith in
+    (next-lines input at text rest (here .0), sym (ap (λ n. drop n (linesOf input)) k) ∙ sym (drop-drop 1 (line - 1) (linesOf input)) ∙ ap (drop 1) (here .1))
+
+-- the frame of a payload that is waited for stands just before
+abbrev Before : List ℕ → Waiting → List (List ℕ) → Type 0
+Before input Frame lines = Unit {0}
+Before input (Payload m) lines = (frame : List ℕ) × LinesAt input (m .at) (m .line) (frame ∷ lines) × (lineFound Frame (m .at) (m .line) frame ≡ found.Awaits m)
+
+module _ (input : List ℕ) where
+  -- a message's own place and line are those at which it was found
+  own : (at line : ℕ) (m : Message) (lines : List (List ℕ)) → m .at ≡ at → m .line ≡ line → LinesAt input at line lines → LinesAt input (m .at) (m .line) lines
+  own at line m lines p q here = (ap (λ k. linesOf (drop k input)) p ∙ here .0, ap (λ k. drop (k - 1) (linesOf input)) q ∙ here .1)
+
+  is-alone : (at line : ℕ) (m : Message) (text : List ℕ) (rest : List (List ℕ)) → LinesAt input at line (text ∷ rest)
+      → lineFound Frame at line text ≡ found.Holds m → Stands input m
+  unfolding runAt
+  is-alone at line m text rest here e =
+      let h = frame-holds at line m text e in
+      let lines = own at line m (text ∷ rest) (h .0) (h .1) here in
+      alone text rest lines (cc) (ap runIn (lines .0) ∙ run-alone text rest (h .2))
+
+  is-before : (at line : ℕ) (m : Message) (text : List ℕ) (rest : List (List ℕ)) → LinesAt input at line (text ∷ rest)
+      → lineFound Frame at line text ≡ found.Awaits m → Before input (Payload m) rest
+  is-before at line m text rest here e =
+      let h = frame-awaits at line m text e in
+      (text, own at line m (text ∷ rest) (h .0) (h .1) here, cc)
+
+  is-with : (m : Message) (text : List ℕ) (rest : List (List ℕ)) → Before input (Payload m) (text ∷ rest) → isPayload text ≡ true → Stands input m
+  unfolding runAt
+  is-with m text rest b t =
+      let h = frame-awaits (m .at) (m .line) m (b .0) (b .2) in
+      with-payload (b .0) text rest (b .1) (b .2) t (ap runIn (b .1 .0) ∙ ap (λ l. lineBytes (b .0) ++ l) (h .2 text))
+
+  module _ (text : List ℕ) (rest : List (List ℕ)) (at line : ℕ) (here : LinesAt input at line (text ∷ rest)) (after : Waiting → Body)
+      (later-stands : (v : Waiting) → Before input v rest → (m : Message) → m ∈ after v .messages → Stands input m) (m : Message) where
+    step-stands : (w : Waiting) (f : Found) → Before input w (text ∷ rest) → lineFound w at line text ≡ f → m ∈ bodyAs f line after .messages → Stands input m
+    unfolding lineFound
+    step-stands w found.Bad b e i = absurd (List·Memᴰ·not-nil i)
+    step-stands Frame (found.Awaits n) b e i = later-stands (Payload n) (is-before at line n text rest here e) m i
+    step-stands (Payload n) (found.Awaits k) b e i = absurd (payload-waits (isPayload text) n k e)
+    step-stands Frame (found.Holds n) b e (List·Memᴰ·head p) = is-alone at line m text rest here (e ∙ ap found.Holds (sym p))
+    step-stands (Payload n) (found.Holds k) b e (List·Memᴰ·head p) =
+        let h = payload-holds (isPayload text) n k e in
+        let same : n ≡ m = sym (p ∙ h .1) in
+        is-with m text rest (subst (λ x. Before input (Payload x) (text ∷ rest)) same b) (h .0)
+    step-stands w (found.Holds n) b e (List·Memᴰ·tail i) = later-stands Frame tt m i
+    step-stands w found.Passes b e i = later-stands Frame tt m i
+
+  from-stands : (w : Waiting) (at line : ℕ) (lines : List (List ℕ)) → 0 < line → LinesAt input at line lines → Before input w lines
+      → (m : Message) → m ∈ bodyFrom w at line lines .messages → Stands input m
+  unfolding bodyFrom
+  from-stands w at line [] h here b m i = absurd (List·Memᴰ·not-nil i)
+  from-stands w at line (text ∷ rest) h here b m i =
+      step-stands text rest at line here (λ v. bodyFrom v (at + length text + 1) (line + 1) rest)
+      (λ v. from-stands v (at + length text + 1) (line + 1) rest (omega arith) (next-at input at line text rest h here))
+      m w (lineFound w at line text) b refl i
+
+  after-stands : (s : Start) (text : List ℕ) (rest : List (List ℕ)) → linesOf input ≡ text ∷ rest → (m : Message) → m ∈ bodyAfter s text rest .messages → Stands input m
+  after-stands (starts.Number start) text rest e m i =
+      let same : length text ≡ 0 + length text = omega arith in
+      let next = next-at input 0 1 text rest (omega arith) (e, e) in
+      from-stands Frame (length text + 1) 2 rest (omega arith) (ap (λ k. linesOf (drop (k + 1) input)) same ∙ next .0, next .1) tt m i
+  after-stands starts.Bad text rest e m i = absurd (List·Memᴰ·not-nil i)
+
+  in-stands : (lines : List (List ℕ)) → linesOf input ≡ lines → (m : Message) → m ∈ bodyIn lines .messages → Stands input m
+  in-stands [] e m i = absurd (List·Memᴰ·not-nil i)
+  in-stands (text ∷ rest) e m i = after-stands (startLine text) text rest e m i
+
+  -- each message of a recording stands at its place and its line
+  pub message-stands : (m : Message) → m ∈ bodyOf input .messages → Stands input m
+  unfolding bodyOf
+  message-stands m i = in-stands (linesOf input) refl m i

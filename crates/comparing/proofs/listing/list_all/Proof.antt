@@ -1,14 +1,12 @@
 -- Each turn lists the differences on the next number of either table.
-use mathlib.Core.Path.{_≡_, refl, sym, _∙_, ap}
-use Prim.Native.Nat.{_+_, _-_, _*_, _≤_, _<_}
+use mathlib.Core.Path.{_≡_, refl, ap}
+use Prim.Native.Nat.{_+_, _-_}
 use native.Mathlib.Omega.{arith}
 use denote.Ref.{now}
-use lib.ListN.{length, drop}
+use lib.ListN.{length}
 use borrow.Author.Needs.{needs}
-use Rattle.comparing.specs.Ranks.{numberOf}
-use Rattle.comparing.specs.Rows.{rowsOf, heldFirst}
-use Rattle.comparing.specs.Cells.{rows-length}
-use Rattle.comparing.specs.Listing.{Listing, hasOf, has-one, nextRank, listing-start, listing-rank, listing-room, listing-less, listing-step, listing-end}
+use Rattle.comparing.specs.Rows.{rowsOf}
+use Rattle.comparing.specs.Listing.{Listing, has-one, listing-start, turn-rows, turn-rank, turn-room, turn-less, turn-step, turn-end}
 use Rattle.comparing.proofs.listing.list_all.Statement.{statement}
 use Rattle.comparing.proofs.listing.list_all.Tie as tie
 
@@ -28,9 +26,8 @@ add-loop : tie.Need-add-loop Inv-loop μ-loop
 add-loop c =
     let s = c .before .before .before .before .before .before in
     let l = c .loop in
-    let rows-a = rows-length (s .args .acount) (now (s .args .a)) (omega (arith, s .pre .0 .0, s .pre .1 .0 .0)) in
-    let rows-b = rows-length (s .args .bcount) (now (s .args .b)) (omega (arith, s .pre .0 .1, s .pre .1 .0 .1)) in
-    omega (arith, l .inv .0 .first-rows, l .inv .0 .second-rows, s .pre .1 .0 .0, s .pre .1 .0 .1)
+    let rows = turn-rows (s .args .acount) (now (s .args .a)) (s .args .bcount) (now (s .args .b)) (omega (arith, s .pre .0 .0, s .pre .1 .0 .0), omega (arith, s .pre .0 .1, s .pre .1 .0 .1)) (s .pre .1 .1 .1) (l .inv .0) in
+    omega (arith, rows .0, rows .1, s .pre .1 .0 .0, s .pre .1 .0 .1)
 
 add-loop-2 : tie.Need-add-loop-2 Inv-loop μ-loop
 add-loop-2 c = omega (arith, c .before .before .before .before .before .before .pre .1 .0 .0, c .before .before .before .before .before .before .pre .1 .0 .1)
@@ -39,9 +36,8 @@ next-rank-requires : tie.Need-next-rank-requires Inv-loop μ-loop
 next-rank-requires c κs =
     let s = c .before .before .before .before .before .before .before in
     let l = c .before .loop in
-    let rows-a = rows-length (s .args .acount) (now (s .args .a)) (omega (arith, s .pre .0 .0, s .pre .1 .0 .0)) in
-    let rows-b = rows-length (s .args .bcount) (now (s .args .b)) (omega (arith, s .pre .0 .1, s .pre .1 .0 .1)) in
-    ((s .pre .0 .0, s .pre .0 .1), (s .pre .1 .0, (omega (arith, l .inv .0 .first-rows), omega (arith, l .inv .0 .second-rows), c .loop-test .taken)))
+    let rows = turn-rows (s .args .acount) (now (s .args .a)) (s .args .bcount) (now (s .args .b)) (omega (arith, s .pre .0 .0, s .pre .1 .0 .0), omega (arith, s .pre .0 .1, s .pre .1 .0 .1)) (s .pre .1 .1 .1) (l .inv .0) in
+    ((s .pre .0 .0, s .pre .0 .1), (s .pre .1 .0, (rows .0, rows .1, c .loop-test .taken)))
 
 held-at-requires : tie.Need-held-at-requires Inv-loop μ-loop
 held-at-requires c κs = (c .before .before .before .before .before .before .before .before .pre .0 .0, c .before .before .before .before .before .before .before .before .pre .1 .0 .0)
@@ -53,39 +49,14 @@ number-of-requires : tie.Need-number-of-requires Inv-loop μ-loop
 number-of-requires c κs =
     let s = c .before .before .before .before .before .before .before .before .before .before in
     let l = c .before .before .before .before .loop in
-    let first = now (s .args .first) in
-    let second = now (s .args .second) in
-    let x = rowsOf (s .args .acount) (now (s .args .a)) in
-    let y = rowsOf (s .args .bcount) (now (s .args .b)) in
-    let rows-a = rows-length (s .args .acount) (now (s .args .a)) (omega (arith, s .pre .0 .0, s .pre .1 .0 .0)) in
-    let rows-b = rows-length (s .args .bcount) (now (s .args .b)) (omega (arith, s .pre .0 .1, s .pre .1 .0 .1)) in
-    let old = now (s .args .list) in
-    let start = s .args .start .0 in
-    let says = s .pre .1 .1 .1 in
-    let more : l .i + l .j < length x + length y = omega (arith, c .before .before .before .loop-test .taken) in
-    let ranked : c .before .before .next-rank .result ≡ nextRank (drop (l .i) x) (drop (l .j) y) = c .before .before .next-rank .ensures in
-    let low = listing-rank first second start x y old (l .i) (l .j) (l .n) (l .list) says (l .inv .0) more in
-    omega (arith, ranked, low)
+    turn-rank (s .args .acount) (now (s .args .a)) (s .args .bcount) (now (s .args .b)) (omega (arith, s .pre .0 .0, s .pre .1 .0 .0), omega (arith, s .pre .0 .1, s .pre .1 .0 .1)) (s .pre .1 .1 .1) (l .inv .0) (c .before .before .before .loop-test .taken) (c .before .before .next-rank .result) (c .before .before .next-rank .ensures)
 
 list-number-requires : tie.Need-list-number-requires Inv-loop μ-loop
 list-number-requires c κs =
     let s = c .before .before .before .before .before .before .before .before .before .before .before .before in
     let l = c .before .before .before .before .before .before .loop in
-    let first = now (s .args .first) in
-    let second = now (s .args .second) in
-    let x = rowsOf (s .args .acount) (now (s .args .a)) in
-    let y = rowsOf (s .args .bcount) (now (s .args .b)) in
-    let rows-a = rows-length (s .args .acount) (now (s .args .a)) (omega (arith, s .pre .0 .0, s .pre .1 .0 .0)) in
-    let rows-b = rows-length (s .args .bcount) (now (s .args .b)) (omega (arith, s .pre .0 .1, s .pre .1 .0 .1)) in
-    let old = now (s .args .list) in
-    let start = s .args .start .0 in
-    let says = s .pre .1 .1 .1 in
-    let more : l .i + l .j < length x + length y = omega (arith, c .before .before .before .before .before .loop-test .taken) in
-    let ranked : c .before .before .before .before .next-rank .result ≡ nextRank (drop (l .i) x) (drop (l .j) y) = c .before .before .before .before .next-rank .ensures in
-    let held : c .before .before .before .held-at .result ≡ heldFirst (nextRank (drop (l .i) x) (drop (l .j) y)) (drop (l .i) x) = c .before .before .before .held-at .ensures ∙ ap (λ r. heldFirst r (drop (l .i) x)) ranked in
-    let held₂ : c .before .before .held-at2 .result ≡ heldFirst (nextRank (drop (l .i) x) (drop (l .j) y)) (drop (l .j) y) = c .before .before .held-at2 .ensures ∙ ap (λ r. heldFirst r (drop (l .j) y)) ranked in
-    let room = listing-room first second start x y old (l .i) (l .j) (l .n) (l .list) says (l .inv .0) more (omega (arith, s .pre .1 .0 .0)) (omega (arith, s .pre .1 .0 .1)) in
-    omega (arith, room, ap hasOf held, ap hasOf held₂, l .inv .1, s .pre .0 .2)
+    let room = turn-room (s .args .acount) (now (s .args .a)) (s .args .bcount) (now (s .args .b)) (omega (arith, s .pre .0 .0, s .pre .1 .0 .0), omega (arith, s .pre .0 .1, s .pre .1 .0 .1)) (s .pre .1 .1 .1) (l .inv .0) (c .before .before .before .before .before .loop-test .taken) (c .before .before .before .before .next-rank .result) (c .before .before .before .before .next-rank .ensures) (c .before .before .before .held-at .result) (c .before .before .held-at2 .result) (c .before .before .before .held-at .ensures) (c .before .before .held-at2 .ensures) (s .pre .1 .0 .0) (s .pre .1 .0 .1) in
+    omega (arith, room, l .inv .1, s .pre .0 .2)
 
 has-requires : tie.Need-has-requires Inv-loop μ-loop
 has-requires c κs = search needs
@@ -94,8 +65,8 @@ add-i : tie.Need-add-i Inv-loop μ-loop
 add-i c =
     let s = c .before .before .before .before .before .before .before .before .before .before .before .before .before .before .before .before in
     let l = c .before .before .before .before .before .before .before .before .before .before .loop in
-    let rows = rows-length (s .args .acount) (now (s .args .a)) (omega (arith, s .pre .0 .0, s .pre .1 .0 .0)) in
-    omega (arith, l .inv .0 .first-rows, s .pre .1 .0 .0, c .has .ensures, has-one (c .before .before .before .before .before .before .before .held-at .result))
+    let rows = turn-rows (s .args .acount) (now (s .args .a)) (s .args .bcount) (now (s .args .b)) (omega (arith, s .pre .0 .0, s .pre .1 .0 .0), omega (arith, s .pre .0 .1, s .pre .1 .0 .1)) (s .pre .1 .1 .1) (l .inv .0) in
+    omega (arith, rows .0, s .pre .1 .0 .0, c .has .ensures, has-one (c .before .before .before .before .before .before .before .held-at .result))
 
 has-requires-2 : tie.Need-has-requires-2 Inv-loop μ-loop
 has-requires-2 c κs = search needs
@@ -104,50 +75,23 @@ add-j : tie.Need-add-j Inv-loop μ-loop
 add-j c =
     let s = c .before .before .before .before .before .before .before .before .before .before .before .before .before .before .before .before .before in
     let l = c .before .before .before .before .before .before .before .before .before .before .before .loop in
-    let rows = rows-length (s .args .bcount) (now (s .args .b)) (omega (arith, s .pre .0 .1, s .pre .1 .0 .1)) in
-    omega (arith, l .inv .0 .second-rows, s .pre .1 .0 .1, c .has2 .ensures, has-one (c .before .before .before .before .before .before .before .held-at2 .result))
+    let rows = turn-rows (s .args .acount) (now (s .args .a)) (s .args .bcount) (now (s .args .b)) (omega (arith, s .pre .0 .0, s .pre .1 .0 .0), omega (arith, s .pre .0 .1, s .pre .1 .0 .1)) (s .pre .1 .1 .1) (l .inv .0) in
+    omega (arith, rows .1, s .pre .1 .0 .1, c .has2 .ensures, has-one (c .before .before .before .before .before .before .before .held-at2 .result))
 
 loop-less : tie.Need-loop-less Inv-loop μ-loop
 loop-less c =
     let s = c .before .before .before .before .before .before .before .before .before .before .before .before .before .before .before .before .before in
     let l = c .before .before .before .before .before .before .before .before .before .before .before .loop in
-    let first = now (s .args .first) in
-    let second = now (s .args .second) in
-    let x = rowsOf (s .args .acount) (now (s .args .a)) in
-    let y = rowsOf (s .args .bcount) (now (s .args .b)) in
-    let rows-a = rows-length (s .args .acount) (now (s .args .a)) (omega (arith, s .pre .0 .0, s .pre .1 .0 .0)) in
-    let rows-b = rows-length (s .args .bcount) (now (s .args .b)) (omega (arith, s .pre .0 .1, s .pre .1 .0 .1)) in
-    let old = now (s .args .list) in
-    let start = s .args .start .0 in
-    let says = s .pre .1 .1 .1 in
-    let more : l .i + l .j < length x + length y = omega (arith, c .before .before .before .before .before .before .before .before .before .before .loop-test .taken) in
-    let ranked : c .before .before .before .before .before .before .before .before .before .next-rank .result ≡ nextRank (drop (l .i) x) (drop (l .j) y) = c .before .before .before .before .before .before .before .before .before .next-rank .ensures in
-    let held : c .before .before .before .before .before .before .before .before .held-at .result ≡ heldFirst (nextRank (drop (l .i) x) (drop (l .j) y)) (drop (l .i) x) = c .before .before .before .before .before .before .before .before .held-at .ensures ∙ ap (λ r. heldFirst r (drop (l .i) x)) ranked in
-    let held₂ : c .before .before .before .before .before .before .before .held-at2 .result ≡ heldFirst (nextRank (drop (l .i) x) (drop (l .j) y)) (drop (l .j) y) = c .before .before .before .before .before .before .before .held-at2 .ensures ∙ ap (λ r. heldFirst r (drop (l .j) y)) ranked in
-    let less = listing-less first second start x y old (l .i) (l .j) (l .n) (l .list) says (l .inv .0) more in
-    omega (arith, less, c .before .has .ensures, c .has2 .ensures, ap hasOf held, ap hasOf held₂, c .before .before .before .before .before .before .before .before .before .before .loop-test .taken)
+    let less = turn-less (s .args .acount) (now (s .args .a)) (s .args .bcount) (now (s .args .b)) (omega (arith, s .pre .0 .0, s .pre .1 .0 .0), omega (arith, s .pre .0 .1, s .pre .1 .0 .1)) (s .pre .1 .1 .1) (l .inv .0) (c .before .before .before .before .before .before .before .before .before .before .loop-test .taken) (c .before .before .before .before .before .before .before .before .before .next-rank .result) (c .before .before .before .before .before .before .before .before .before .next-rank .ensures) (c .before .before .before .before .before .before .before .before .held-at .result) (c .before .before .before .before .before .before .before .held-at2 .result) (c .before .before .before .before .before .before .before .before .held-at .ensures) (c .before .before .before .before .before .before .before .held-at2 .ensures) in
+    omega (arith, less, c .before .has .ensures, c .has2 .ensures, c .before .before .before .before .before .before .before .before .before .before .loop-test .taken)
 
 loop-again : tie.Need-loop-again Inv-loop μ-loop
 loop-again c =
     let s = c .before .before .before .before .before .before .before .before .before .before .before .before .before .before .before .before .before in
     let l = c .before .before .before .before .before .before .before .before .before .before .before .loop in
-    let first = now (s .args .first) in
-    let second = now (s .args .second) in
-    let x = rowsOf (s .args .acount) (now (s .args .a)) in
-    let y = rowsOf (s .args .bcount) (now (s .args .b)) in
-    let rows-a = rows-length (s .args .acount) (now (s .args .a)) (omega (arith, s .pre .0 .0, s .pre .1 .0 .0)) in
-    let rows-b = rows-length (s .args .bcount) (now (s .args .b)) (omega (arith, s .pre .0 .1, s .pre .1 .0 .1)) in
-    let old = now (s .args .list) in
-    let start = s .args .start .0 in
-    let says = s .pre .1 .1 .1 in
-    let more : l .i + l .j < length x + length y = omega (arith, c .before .before .before .before .before .before .before .before .before .before .loop-test .taken) in
-    let ranked : c .before .before .before .before .before .before .before .before .before .next-rank .result ≡ nextRank (drop (l .i) x) (drop (l .j) y) = c .before .before .before .before .before .before .before .before .before .next-rank .ensures in
-    let held : c .before .before .before .before .before .before .before .before .held-at .result ≡ heldFirst (nextRank (drop (l .i) x) (drop (l .j) y)) (drop (l .i) x) = c .before .before .before .before .before .before .before .before .held-at .ensures ∙ ap (λ r. heldFirst r (drop (l .i) x)) ranked in
-    let held₂ : c .before .before .before .before .before .before .before .held-at2 .result ≡ heldFirst (nextRank (drop (l .i) x) (drop (l .j) y)) (drop (l .j) y) = c .before .before .before .before .before .before .before .held-at2 .ensures ∙ ap (λ r. heldFirst r (drop (l .j) y)) ranked in
-    let number : c .before .before .before .before .before .before .number-of .result .0 ≡ numberOf start (nextRank (drop (l .i) x) (drop (l .j) y)) = ap (λ n. n .0) (c .before .before .before .before .before .before .number-of .ensures) ∙ ap (numberOf start) ranked in
-    let pushed = rw (number, held, held₂) at (c .before .before .before .before .list-number .ensures) in
-    let step = listing-step first second start x y old (l .i) (l .j) (l .n) (l .list) says (l .inv .0) _ _ more pushed in
-    (rw (c .before .has .ensures, c .has2 .ensures, held, held₂) step, search needs)
+    let number = ap (λ n. n .0) (c .before .before .before .before .before .before .number-of .ensures) in
+    let step = turn-step (s .args .acount) (now (s .args .a)) (s .args .bcount) (now (s .args .b)) (omega (arith, s .pre .0 .0, s .pre .1 .0 .0), omega (arith, s .pre .0 .1, s .pre .1 .0 .1)) (s .pre .1 .1 .1) (l .inv .0) (c .before .before .before .before .before .before .before .before .before .before .loop-test .taken) (c .before .before .before .before .before .before .before .before .before .next-rank .result) (c .before .before .before .before .before .before .before .before .before .next-rank .ensures) (c .before .before .before .before .before .before .before .before .held-at .result) (c .before .before .before .before .before .before .before .held-at2 .result) (c .before .before .before .before .before .before .before .before .held-at .ensures) (c .before .before .before .before .before .before .before .held-at2 .ensures) _ _ _ number (c .before .before .before .before .list-number .ensures) in
+    (rw (c .before .has .ensures, c .has2 .ensures) step, search needs)
 
 same-length : tie.Need-same-length Inv-loop μ-loop
 same-length c = c .before .loop .inv .1
@@ -156,16 +100,8 @@ returns : tie.Need-returns Inv-loop μ-loop
 returns c =
     let s = c .before .before .before .before .before .before .before in
     let l = c .before .loop in
-    let first = now (s .args .first) in
-    let second = now (s .args .second) in
-    let x = rowsOf (s .args .acount) (now (s .args .a)) in
-    let y = rowsOf (s .args .bcount) (now (s .args .b)) in
-    let rows-a = rows-length (s .args .acount) (now (s .args .a)) (omega (arith, s .pre .0 .0, s .pre .1 .0 .0)) in
-    let rows-b = rows-length (s .args .bcount) (now (s .args .b)) (omega (arith, s .pre .0 .1, s .pre .1 .0 .1)) in
-    let old = now (s .args .list) in
-    let start = s .args .start .0 in
-    let says = s .pre .1 .1 .1 in
-    (listing-end first second start x y old (l .i) (l .j) (l .n) (l .list) says (l .inv .0) (omega (arith, c .loop-test .left)), omega (arith, l .inv .0 .few, l .inv .0 .first-rows, l .inv .0 .second-rows, s .pre .1 .0 .0, s .pre .1 .0 .1))
+    let rows = turn-rows (s .args .acount) (now (s .args .a)) (s .args .bcount) (now (s .args .b)) (omega (arith, s .pre .0 .0, s .pre .1 .0 .0), omega (arith, s .pre .0 .1, s .pre .1 .0 .1)) (s .pre .1 .1 .1) (l .inv .0) in
+    (turn-end (s .args .acount) (now (s .args .a)) (s .args .bcount) (now (s .args .b)) (omega (arith, s .pre .0 .0, s .pre .1 .0 .0), omega (arith, s .pre .0 .1, s .pre .1 .0 .1)) (s .pre .1 .1 .1) (l .inv .0) (c .loop-test .left), omega (arith, l .inv .0 .few, rows .0, rows .1, s .pre .1 .0 .0, s .pre .1 .0 .1))
 
 pub list-all-spec : {M : Type 1} → statement M
 list-all-spec =

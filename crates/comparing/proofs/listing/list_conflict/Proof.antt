@@ -1,14 +1,12 @@
 -- No conflict, or one difference more.
-use mathlib.Core.Path.{_≡_, sym, _∙_, ap}
-use Prim.Native.Nat.{_≤_, _+_}
+use mathlib.Core.Path.{_≡_, ap}
 use native.Mathlib.Omega.{arith}
 use denote.Ref.{now}
-use lib.ListN.{length}
 use borrow.Author.Needs.{needs}
 use borrow.Author.Tests.{eq-eqb, ne-eqb}
 use Rattle.comparing.specs.Differences.{conflictAs}
 use Rattle.comparing.specs.Says.{flagHeld}
-use Rattle.comparing.specs.Listing.{wordsFor, Pushed, hasOf, pushed-none}
+use Rattle.comparing.specs.Listing.{wordsFor, hasOf, pushed-none}
 use Rattle.comparing.proofs.listing.list_conflict.Statement.{statement}
 use Rattle.comparing.proofs.listing.list_conflict.Tie as tie
 

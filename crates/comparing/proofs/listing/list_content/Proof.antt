@@ -1,9 +1,8 @@
 -- Equal, or one difference more.
-use mathlib.Core.Path.{_≡_, sym, _∙_, ap}
+use mathlib.Core.Path.{ap}
 use native.Mathlib.Omega.{arith}
 use denote.Ref.{now}
 use borrow.Author.Needs.{needs}
-use Rattle.comparing.specs.Differences.{contentAs}
 use Rattle.comparing.specs.Listing.{wordsFor, placeOf, pushed-none}
 use Rattle.comparing.proofs.listing.list_content.Statement.{statement}
 use Rattle.comparing.proofs.listing.list_content.Tie as tie

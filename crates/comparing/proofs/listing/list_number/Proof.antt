@@ -1,5 +1,4 @@
 -- The conflicts of both, then what each has.
-use mathlib.Core.Path.{_≡_, sym, _∙_, ap}
 use native.Mathlib.Omega.{arith}
 use denote.Ref.{now}
 use borrow.Author.Needs.{needs}

@@ -1,5 +1,5 @@
 -- Half of the numbers past the start number, and the rank.
-use mathlib.Core.Path.{sym, _∙_, ap}
+use mathlib.Core.Path.{_∙_, ap}
 use borrow.Author.Needs.{needs}
 use Rattle.seq.specs.Numbers.{seqOf, plus}
 use Rattle.comparing.specs.Ranks.{numberOf}

@@ -1,5 +1,5 @@
 -- One word is set.
-use mathlib.Core.Path.{sym, _∙_, ap}
+use mathlib.Core.Path.{ap}
 use native.Mathlib.Omega.{arith}
 use denote.Ref.{now}
 use lib.ListN.{set}

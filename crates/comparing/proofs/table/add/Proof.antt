@@ -1,10 +1,10 @@
 -- The table is full, or has room for one row more.
-use mathlib.Core.Path.{_≡_, sym, _∙_, ap}
+use mathlib.Core.Path.{sym, _∙_, ap}
 use native.Mathlib.Omega.{arith}
 use denote.Ref.{now}
 use borrow.Author.Needs.{needs}
 use Rattle.comparing.specs.Cells.{rows-length}
-use Rattle.comparing.specs.Table.{Table, tableOf, added-room, added-full}
+use Rattle.comparing.specs.Table.{tableOf, added-room, added-full}
 use Rattle.comparing.proofs.table.add.Statement.{statement}
 use Rattle.comparing.proofs.table.add.Tie as tie
 

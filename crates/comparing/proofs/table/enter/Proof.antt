@@ -1,12 +1,10 @@
 -- The number is new to the table, or its row is there.
-use mathlib.Core.Path.{_≡_, sym, _∙_, ap}
+use mathlib.Core.Path.{sym, _∙_, ap}
 use native.Mathlib.Omega.{arith}
 use denote.Ref.{now}
-use lib.ListN.{length}
 use borrow.Author.Needs.{needs}
 use Rattle.comparing.specs.Rows.{position-within, found-within}
 use Rattle.comparing.specs.Cells.{rows-length}
-use Rattle.comparing.specs.Ranks.{farAt}
 use Rattle.comparing.specs.Table.{earliest, tableOf, entered-new, entered-again}
 use Rattle.comparing.proofs.table.enter.Statement.{statement}
 use Rattle.comparing.proofs.table.enter.Tie as tie

@@ -1,11 +1,10 @@
 -- The later rows make room, and the new one takes it.
-use mathlib.Core.Path.{_≡_, sym, _∙_, ap}
-use Prim.Native.Nat.{suc, _+_, _*_, _≤_}
-use native.Mathlib.Numerals.{add-one}
+use mathlib.Core.Path.{_≡_, _∙_, ap}
+use Prim.Native.Nat.{suc, _+_, _*_}
 use native.Mathlib.Omega.{arith}
 use denote.Ref.{now}
 use mathlib.Core.List.{_∷_, _++_}
-use lib.ListN.{length, take, drop, length-set}
+use lib.ListN.{take, drop, length-set}
 use borrow.Author.Needs.{needs}
 use Rattle.comparing.specs.Rows.{rowsOf}
 use Rattle.comparing.specs.Cells.{row-set, rows-inserted}

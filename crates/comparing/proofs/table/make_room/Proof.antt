@@ -1,9 +1,9 @@
 -- Each turn moves one cell more.
-use mathlib.Core.Path.{_≡_, refl, sym, _∙_, ap}
-use Prim.Native.Nat.{suc, _+_, _*_, _-_, _≤_, _<_}
+use mathlib.Core.Path.{_≡_, refl, _∙_}
+use Prim.Native.Nat.{suc, _+_, _*_, _-_, _≤_}
 use native.Mathlib.Omega.{arith}
 use denote.Ref.{now}
-use lib.ListN.{length, getD, set, length-set}
+use lib.ListN.{length, getD, length-set}
 use Rattle.comparing.specs.Cells.{Moved, moved-none, moved-step}
 use Rattle.comparing.proofs.table.make_room.Statement.{statement}
 use Rattle.comparing.proofs.table.make_room.Tie as tie

@@ -1,11 +1,9 @@
 -- The place lies between the bounds, which come together.
-use mathlib.Core.Path.{_≡_, ap}
-use Prim.Native.Nat.{_+_, _*_, _/_, _-_, _≤_, _<_}
+use Prim.Native.Nat.{_+_, _/_, _-_, _≤_}
 use native.Mathlib.Omega.{arith}
 use denote.Ref.{now}
-use lib.ListN.{length, getD}
-use Rattle.comparing.specs.Rows.{noRow, rowsOf, positionIn, position-within, position-after, position-before}
-use Rattle.comparing.specs.Cells.{rows-length, rows-at}
+use Rattle.comparing.specs.Rows.{rowsOf, positionIn, position-within}
+use Rattle.comparing.specs.Cells.{rows-length, cells-after, cells-before}
 use Rattle.comparing.proofs.table.position.Statement.{statement}
 use Rattle.comparing.proofs.table.position.Tie as tie
 
@@ -45,14 +43,7 @@ loop-again : tie.Need-loop-again Inv-loop μ-loop
 loop-again c =
     let s = c .before .before .before .before in
     let l = c .before .before .before .loop in
-    let middle = l .low + (l .high - l .low) / 2 in
-    let cells = now (s .args .cells) in
-    let count = s .args .count in
-    let below : middle < count = omega arith in
-    let room : count * 3 ≤ length cells = omega (arith, s .pre .0, s .pre .1 .0) in
-    let rows = rows-length count cells room in
-    let rank : getD (rowsOf count cells) middle noRow .rank ≡ getD cells (middle * 3) 0 = ap (λ x. x .rank) (rows-at count middle cells room below) in
-    let after = position-after (s .args .rank) 0 middle (rowsOf count cells) (s .pre .1 .1) (omega arith) (omega (arith, c .if1 .taken)) in
+    let after = cells-after (s .args .rank) (s .args .count) (l .low + (l .high - l .low) / 2) (now (s .args .cells)) (omega (arith, s .pre .0, s .pre .1 .0)) (omega arith) (s .pre .1 .1) (c .if1 .taken) in
     (omega arith, l .inv .1, l .inv .2)
 
 loop-less-2 : tie.Need-loop-less-2 Inv-loop μ-loop
@@ -62,14 +53,8 @@ loop-again-2 : tie.Need-loop-again-2 Inv-loop μ-loop
 loop-again-2 c =
     let s = c .before .before .before .before in
     let l = c .before .before .before .loop in
-    let middle = l .low + (l .high - l .low) / 2 in
-    let cells = now (s .args .cells) in
-    let count = s .args .count in
-    let below : middle < count = omega arith in
-    let room : count * 3 ≤ length cells = omega (arith, s .pre .0, s .pre .1 .0) in
-    let rows = rows-length count cells room in
-    let rank : getD (rowsOf count cells) middle noRow .rank ≡ getD cells (middle * 3) 0 = ap (λ x. x .rank) (rows-at count middle cells room below) in
-    (l .inv .0, position-before (s .args .rank) middle (rowsOf count cells) (omega (arith, c .if1 .left)) (omega arith), omega arith)
+    let before = cells-before (s .args .rank) (s .args .count) (l .low + (l .high - l .low) / 2) (now (s .args .cells)) (omega (arith, s .pre .0, s .pre .1 .0)) (omega arith) (c .if1 .left) in
+    (l .inv .0, before, omega arith)
 
 returns : tie.Need-returns Inv-loop μ-loop
 returns c = omega arith

@@ -1,5 +1,5 @@
 -- The difference to the number 2^31 before the start number.
-use mathlib.Core.Path.{sym, _∙_, ap}
+use mathlib.Core.Path.{_∙_, ap}
 use borrow.Author.Needs.{needs}
 use Rattle.seq.specs.Numbers.{minus}
 use Rattle.comparing.specs.Ranks.{rankOf}
