@@ -11,6 +11,7 @@ use borrow.Author.Tests.{eqb-true}
 use borrow.Table.Steps.{cases}
 use Rattle.refusal.specs.declared.Refusal.{Refusal}
 use Rattle.refusal.specs.Refusals.{refuse}
+use Rattle.comparing.specs.Sizes.{NUMBERS}
 use Rattle.comparing.specs.declared.messages.Message.{Message}
 use Rattle.comparing.specs.declared.comparison.Side.{Side}
 use Rattle.comparing.specs.declared.comparison.Side.the-variants as sides
@@ -44,7 +45,7 @@ numbersWith seen (m ∷ rest) = numbersWith (withNumber (m .number .0) seen) res
 unfoldable pub manyLine : List ℕ → List Message → ℕ
 unfolding withNumber
 manyLine seen [] = 0
-manyLine seen (m ∷ rest) = cond (ltb 1024 (length (withNumber (m .number .0) seen))) (m .line) (manyLine (withNumber (m .number .0) seen) rest)
+manyLine seen (m ∷ rest) = cond (ltb NUMBERS (length (withNumber (m .number .0) seen))) (m .line) (manyLine (withNumber (m .number .0) seen) rest)
 
 -- a refusal where a line is told, else what the later ones say
 unfoldable pub toldAt : ℕ → Refusal → Side → Judged → Judged

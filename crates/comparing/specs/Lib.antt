@@ -1,3 +1,4 @@
+pub mod Sizes
 pub mod Messages
 pub mod Runs
 pub mod Ranks

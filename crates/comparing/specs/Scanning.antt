@@ -11,6 +11,7 @@ use borrow.Author.Tests.{eqb-true, ltb-true, ltb-false}
 use borrow.Table.Steps.{cases}
 use Rattle.recording.specs.Lines.{linesFrom, linesOf, untilFeed, until-within, line-first, line-none}
 use Rattle.seq.specs.declared.Seq.{Seq}
+use Rattle.comparing.specs.Sizes.{NUMBERS}
 use Rattle.comparing.specs.declared.messages.Waiting.{Waiting}
 use Rattle.comparing.specs.declared.messages.Waiting.the-variants.{Frame, Payload}
 use Rattle.comparing.specs.declared.messages.Found.{Found}
@@ -48,7 +49,7 @@ pub record Scans (input : List ℕ) (from : ℕ) (body : Body) (found : Scanned)
   pub starts : found .start .0 ≡ from
   pub bads : found .bad ≡ body .bad
   pub tables : tableOf (found .counts) cells ≡ tabled input from noNumbers (body .messages)
-  pub counts : found .counts .count ≤ 1024
+  pub counts : found .counts .count ≤ NUMBERS
 
 -- ---- laws
 

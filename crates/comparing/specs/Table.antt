@@ -6,6 +6,7 @@ use Prim.Native.Nat.{ℕ, _≤_, _<_}
 use lib.Dec.{eqb, ltb}
 use lib.ListN.{length, drop}
 use borrow.Author.Tests.{lt-ltb, le-ltb}
+use Rattle.comparing.specs.Sizes.{NUMBERS}
 use Rattle.comparing.specs.declared.messages.Message.{Message}
 use Rattle.comparing.specs.declared.table.Held.{Held}
 use Rattle.comparing.specs.declared.table.Held.the-variants.{Not, At}
@@ -39,7 +40,7 @@ repeated input first at i rows = cond (isEqual (contentOf (runAt input first) (r
 unfoldable pub added : ℕ → ℕ → Message → Table → Table
 unfolding insertAt earliest
 added i rank m t =
-    cond (ltb (length (t .rows)) 1024)
+    cond (ltb (length (t .rows)) NUMBERS)
     (record { rows = insertAt i (row rank (m .at) 0) (t .rows); far = t .far; many = t .many })
     (record { rows = t .rows; far = t .far; many = earliest (t .many) (m .line) })
 

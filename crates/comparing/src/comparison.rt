@@ -8,6 +8,7 @@ use refusal::Refusal;
 use seq::Seq;
 ghost use mathlib.Core.Path.{_≡_};
 ghost use lib.ListN.{length};
+ghost use Rattle.comparing.specs.Sizes.{CELLS, DIFFERENCES};
 ghost use Rattle.comparing.specs.Judging.{toldAt, startsPart};
 ghost use Rattle.comparing.specs.Compared.{comparedOf, comparedList, comparedTold, comparisonTold};
 ghost use Rattle.comparing.specs.Comparison.{Scanning, judgedOf};
@@ -74,7 +75,7 @@ fn compare_scanned(
     y: &[usize],
     list: &mut [u64],
 ) -> Compared
-    requires { ⌜ (length (now x) ≡ 3072) × (length (now y) ≡ 3072) × (length (now list) ≡ 4096) ⌝ }
+    requires { ⌜ (length (now x) ≡ CELLS) × (length (now y) ≡ CELLS) × (length (now list) ≡ DIFFERENCES) ⌝ }
     requires { ⌜ Scanning (now first) a (now x) ⌝ }
     requires { ⌜ Scanning (now second) b (now y) ⌝ }
     ensures { λ r. ⌜ r ≡ comparedOf (now (first .entry)) (now (second .entry)) ⌝ }

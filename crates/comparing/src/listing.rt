@@ -9,6 +9,7 @@ ghost use mathlib.Core.List.{[], _∷_};
 ghost use Prim.Native.Nat.{_+_, _*_, _^_, _≤_, _<_};
 ghost use lib.ListN.{length, drop};
 ghost use Rattle.seq.specs.Numbers.{seqOf};
+ghost use Rattle.comparing.specs.Sizes.{CELLS, DIFFERENCES, NUMBERS};
 ghost use Rattle.comparing.specs.Ranks.{numberOf};
 ghost use Rattle.comparing.specs.Rows.{Rising, rowsOf};
 ghost use Rattle.comparing.specs.Differences.{conflictAs, contentAs, partAs, listBelow};
@@ -218,8 +219,8 @@ fn number_of(start: Seq, rank: usize) -> Seq
 
 // The least rank that is left in two tables, of which one has a row left.
 fn next_rank(a: &[usize], acount: usize, i: usize, b: &[usize], bcount: usize, j: usize) -> usize
-    requires { ⌜ (length (now a) ≡ 3072) × (length (now b) ≡ 3072) ⌝ }
-    requires { ⌜ (acount ≤ 1024) × (bcount ≤ 1024) ⌝ }
+    requires { ⌜ (length (now a) ≡ CELLS) × (length (now b) ≡ CELLS) ⌝ }
+    requires { ⌜ (acount ≤ NUMBERS) × (bcount ≤ NUMBERS) ⌝ }
     requires { ⌜ (i ≤ acount) × (j ≤ bcount) × (i + j < acount + bcount) ⌝ }
     ensures { λ r. ⌜ r ≡ nextRank (drop i (rowsOf acount (now (a .entry)))) (drop j (rowsOf bcount (now (b .entry)))) ⌝ }
 {
@@ -245,12 +246,12 @@ pub(crate) fn list_all(
     bcount: usize,
     list: &mut [u64],
 ) -> usize
-    requires { ⌜ (length (now a) ≡ 3072) × (length (now b) ≡ 3072) × (length (now list) ≡ 4096) ⌝ }
-    requires { ⌜ (acount ≤ 1024) × (bcount ≤ 1024) ⌝ }
+    requires { ⌜ (length (now a) ≡ CELLS) × (length (now b) ≡ CELLS) × (length (now list) ≡ DIFFERENCES) ⌝ }
+    requires { ⌜ (acount ≤ NUMBERS) × (bcount ≤ NUMBERS) ⌝ }
     requires { ⌜ Rising 0 (rowsOf acount (now a)) × Rising 0 (rowsOf bcount (now b)) ⌝ }
     requires { ⌜ Says (now first) (now second) (start .0) (rowsOf acount (now a)) (rowsOf bcount (now b)) ⌝ }
     ensures { λ r. ⌜ Pushed (wordsOf (listBelow (now (first .entry)) (now (second .entry)) (start .0) (2 ^ 32))) (now (list .entry)) 0 r (now (list .exit)) ⌝ }
-    ensures { λ r. ⌜ r ≤ 4096 ⌝ }
+    ensures { λ r. ⌜ r ≤ DIFFERENCES ⌝ }
 {
     let mut i: usize = 0;
     let mut j: usize = 0;

@@ -11,6 +11,7 @@ ghost use mathlib.Core.Path.{_≡_};
 ghost use mathlib.Core.List.{_++_};
 ghost use Prim.Native.Nat.{_+_, _≤_};
 ghost use lib.ListN.{length, take, drop};
+ghost use Rattle.comparing.specs.Sizes.{RUN};
 ghost use Rattle.comparing.specs.Runs.{contentOf, lineBytes, payloadAfter, runAt};
 
 // Where two runs part.
@@ -74,9 +75,9 @@ fn append_payload(found: Found, line: &[u8], run: &mut [u8], n: usize) -> usize
 
 // Puts the run of the message that begins at a place into a buffer, and says how long it is.
 fn read_run(input: &[u8], at: usize, run: &mut [u8]) -> usize
-    requires { ⌜ 2080 ≤ length (now run) ⌝ }
+    requires { ⌜ RUN ≤ length (now run) ⌝ }
     ensures { λ r. ⌜ take r (now (run .exit)) ≡ runAt (now (input .entry)) at ⌝ }
-    ensures { λ r. ⌜ r ≤ 2080 ⌝ }
+    ensures { λ r. ⌜ r ≤ RUN ⌝ }
 {
     if input.len() <= at {
         return 0;

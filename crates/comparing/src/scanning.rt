@@ -13,6 +13,7 @@ use seq::Seq;
 ghost use mathlib.Core.Path.{_≡_};
 ghost use Prim.Native.Nat.{_≤_};
 ghost use lib.ListN.{length};
+ghost use Rattle.comparing.specs.Sizes.{CELLS, NUMBERS};
 ghost use Rattle.comparing.specs.declared.messages.Waiting.the-variants.{Frame};
 ghost use Rattle.comparing.specs.Messages.{bodyOf, startOf};
 ghost use Rattle.comparing.specs.Rows.{Rising, rowsOf};
@@ -45,11 +46,11 @@ fn enter_found(
     cells: &mut [usize],
     counts: Counts,
 ) -> Counts
-    requires { ⌜ length (now cells) ≡ 3072 ⌝ }
-    requires { ⌜ counts .count ≤ 1024 ⌝ }
+    requires { ⌜ length (now cells) ≡ CELLS ⌝ }
+    requires { ⌜ counts .count ≤ NUMBERS ⌝ }
     requires { ⌜ Rising 0 (rowsOf (counts .count) (now cells)) ⌝ }
     ensures { λ r. ⌜ tableOf r (now (cells .exit)) ≡ enteredFound (now (input .entry)) (start .0) (tableOf counts (now (cells .entry))) found ⌝ }
-    ensures { λ r. ⌜ r .count ≤ 1024 ⌝ }
+    ensures { λ r. ⌜ r .count ≤ NUMBERS ⌝ }
 {
     match found {
         Found::Bad => counts,
@@ -68,7 +69,7 @@ fn next_line(input: &[u8], end: usize) -> usize
 
 // Reads the lines from a place on, the second line's.
 fn scan_body(input: &[u8], start: Seq, from: usize, cells: &mut [usize]) -> Scanned
-    requires { ⌜ length (now cells) ≡ 3072 ⌝ }
+    requires { ⌜ length (now cells) ≡ CELLS ⌝ }
     requires { ⌜ 2 ≤ from ⌝ }
     ensures { λ r. ⌜ Scans (now (input .entry)) (start .0) (bodyLeft (now (input .entry)) Frame from 2) r (now (cells .exit)) ⌝ }
 {
@@ -104,7 +105,7 @@ fn scan_body(input: &[u8], start: Seq, from: usize, cells: &mut [usize]) -> Scan
 
 // Reads a whole recording.
 pub(crate) fn scan(input: &[u8], cells: &mut [usize]) -> Scanned
-    requires { ⌜ length (now cells) ≡ 3072 ⌝ }
+    requires { ⌜ length (now cells) ≡ CELLS ⌝ }
     ensures { λ r. ⌜ Scans (now (input .entry)) (startOf (now (input .entry))) (bodyOf (now (input .entry))) r (now (cells .exit)) ⌝ }
 {
     let end = line_end(input, 0);

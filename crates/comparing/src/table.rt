@@ -9,6 +9,7 @@ use seq::Seq;
 ghost use mathlib.Core.Path.{_≡_};
 ghost use Prim.Native.Nat.{_+_, _*_, _≤_, _<_};
 ghost use lib.ListN.{length, drop, set, getD};
+ghost use Rattle.comparing.specs.Sizes.{CELLS, NUMBERS};
 ghost use Rattle.comparing.specs.Runs.{isEqual};
 ghost use Rattle.comparing.specs.Ranks.{rankOf, farAt};
 ghost use Rattle.comparing.specs.Rows.{Rising, row, rowsOf, positionIn, insertAt, heldFirst};
@@ -56,8 +57,8 @@ fn earliest(told: usize, next: usize) -> usize
 
 // How many of the rising ranks are below a rank.
 fn position(cells: &[usize], count: usize, rank: usize) -> usize
-    requires { ⌜ length (now cells) ≡ 3072 ⌝ }
-    requires { ⌜ count ≤ 1024 ⌝ }
+    requires { ⌜ length (now cells) ≡ CELLS ⌝ }
+    requires { ⌜ count ≤ NUMBERS ⌝ }
     requires { ⌜ Rising 0 (rowsOf count (now cells)) ⌝ }
     ensures { λ r. ⌜ r ≡ positionIn rank (rowsOf count (now (cells .entry))) ⌝ }
 {
@@ -76,8 +77,8 @@ fn position(cells: &[usize], count: usize, rank: usize) -> usize
 
 // What row i has, if it is of this rank.
 pub(crate) fn held_at(cells: &[usize], count: usize, i: usize, rank: usize) -> Held
-    requires { ⌜ length (now cells) ≡ 3072 ⌝ }
-    requires { ⌜ count ≤ 1024 ⌝ }
+    requires { ⌜ length (now cells) ≡ CELLS ⌝ }
+    requires { ⌜ count ≤ NUMBERS ⌝ }
     ensures { λ r. ⌜ r ≡ heldFirst rank (drop i (rowsOf count (now (cells .entry)))) ⌝ }
 {
     if count <= i {
@@ -91,8 +92,8 @@ pub(crate) fn held_at(cells: &[usize], count: usize, i: usize, rank: usize) -> H
 
 // Moves the rows from row i on by one row.
 fn make_room(cells: &mut [usize], count: usize, i: usize)
-    requires { ⌜ length (now cells) ≡ 3072 ⌝ }
-    requires { ⌜ count < 1024 ⌝ }
+    requires { ⌜ length (now cells) ≡ CELLS ⌝ }
+    requires { ⌜ count < NUMBERS ⌝ }
     requires { ⌜ i ≤ count ⌝ }
     ensures { λ _. ⌜ Moved (now (cells .entry)) (now (cells .exit)) (count * 3) (i * 3) ⌝ }
 {
@@ -106,8 +107,8 @@ fn make_room(cells: &mut [usize], count: usize, i: usize)
 
 // Puts a new row at its place.
 fn insert(cells: &mut [usize], count: usize, i: usize, rank: usize, at: usize)
-    requires { ⌜ length (now cells) ≡ 3072 ⌝ }
-    requires { ⌜ count < 1024 ⌝ }
+    requires { ⌜ length (now cells) ≡ CELLS ⌝ }
+    requires { ⌜ count < NUMBERS ⌝ }
     requires { ⌜ i ≤ count ⌝ }
     ensures { λ _. ⌜ rowsOf (count + 1) (now (cells .exit)) ≡ insertAt i (row rank at 0) (rowsOf count (now (cells .entry))) ⌝ }
 {
@@ -129,8 +130,8 @@ fn is_equal(content: Content) -> bool
 
 // A repeat of the number of row i: the first stands, and other content is a conflict.
 fn repeat(input: &[u8], cells: &mut [usize], count: usize, i: usize, first: usize, at: usize)
-    requires { ⌜ length (now cells) ≡ 3072 ⌝ }
-    requires { ⌜ count ≤ 1024 ⌝ }
+    requires { ⌜ length (now cells) ≡ CELLS ⌝ }
+    requires { ⌜ count ≤ NUMBERS ⌝ }
     requires { ⌜ i < count ⌝ }
     ensures { λ _. ⌜ rowsOf count (now (cells .exit)) ≡ repeated (now (input .entry)) first at i (rowsOf count (now (cells .entry))) ⌝ }
 {
@@ -143,11 +144,11 @@ fn repeat(input: &[u8], cells: &mut [usize], count: usize, i: usize, first: usiz
 
 // A number that the table does not have, for row i: past 1,024 its line is told.
 fn add(cells: &mut [usize], counts: Counts, i: usize, rank: usize, m: Message) -> Counts
-    requires { ⌜ length (now cells) ≡ 3072 ⌝ }
-    requires { ⌜ counts .count ≤ 1024 ⌝ }
+    requires { ⌜ length (now cells) ≡ CELLS ⌝ }
+    requires { ⌜ counts .count ≤ NUMBERS ⌝ }
     requires { ⌜ i ≤ counts .count ⌝ }
     ensures { λ r. ⌜ tableOf r (now (cells .exit)) ≡ added i rank m (tableOf counts (now (cells .entry))) ⌝ }
-    ensures { λ r. ⌜ r .count ≤ 1024 ⌝ }
+    ensures { λ r. ⌜ r .count ≤ NUMBERS ⌝ }
 {
     let count = counts.count;
     let far = counts.far;
@@ -174,11 +175,11 @@ pub(crate) fn enter(
     cells: &mut [usize],
     before: Counts,
 ) -> Counts
-    requires { ⌜ length (now cells) ≡ 3072 ⌝ }
-    requires { ⌜ before .count ≤ 1024 ⌝ }
+    requires { ⌜ length (now cells) ≡ CELLS ⌝ }
+    requires { ⌜ before .count ≤ NUMBERS ⌝ }
     requires { ⌜ Rising 0 (rowsOf (before .count) (now cells)) ⌝ }
     ensures { λ r. ⌜ tableOf r (now (cells .exit)) ≡ entered (now (input .entry)) (start .0) (tableOf before (now (cells .entry))) m ⌝ }
-    ensures { λ r. ⌜ r .count ≤ 1024 ⌝ }
+    ensures { λ r. ⌜ r .count ≤ NUMBERS ⌝ }
 {
     let number = m.number;
     let rank = rank(start, number);
