@@ -7,7 +7,7 @@ use native.Mathlib.Omega.{arith}
 use lib.Dec.{leb}
 use lib.ListN.{length, getD}
 use borrow.Author.Tests.{leb-true}
-use Rattle.seq.specs.Numbers.{plus, minus}
+use Rattle.seq.specs.Numbers.{seqOf, plus, minus}
 use mathlib.Core.List.{List}
 use Rattle.engine.specs.declared.state.SentReliable.{SentReliable}
 use Rattle.engine.specs.declared.state.Sending.{Sending}
@@ -50,9 +50,10 @@ cell-wraps t k = mod-mod-of-dvd _ (t + (2 ^ 32 - k)) cells-divide
 pub record Placed (tx : Sending) (n : ℕ) : Type 0 where
   pub back-low : 1 ≤ minus (tx .«tx_seq» .0) n
   pub back-high : minus (tx .«tx_seq» .0) n ≤ tx .«txed_count»
+  pub number : n ≡ plus (firstOf tx) (place tx n)
   pub here : packetOf tx n ≡ lookedAt tx n
 
--- the packet at count − back is the one in the number's cell
+-- the number is `place` past the first, and the packet at count − back is the one in the number's cell
 pub placed : (tx : Sending) (n : ℕ) → tx .«tx_seq» .0 < 2 ^ 32 → n < 2 ^ 32 → tx .«txed_count» ≤ PACKETS → inTable tx n ≡ true → Placed tx n
 unfolding inTable packetOf lookedAt place
 placed tx n ht hn c e =
@@ -70,6 +71,7 @@ placed tx n ht hn c e =
     record {
       back-low = low;
       back-high = high;
+      number = back-number t n ht hn ∙ number-past t (tx .«txed_count») (minus t n) c high;
       here =
           ap (λ k. getD (tx .«txed_packets») k noPacket) cell
           ∙ sym (window-at PACKETS noPacket (tx .«txed_packets») (firstOf tx % PACKETS) (tx .«txed_count») (tx .«txed_count» - minus t n) at (omega arith));
@@ -94,6 +96,13 @@ module _ (s : State) (shaped : Shaped s) (sound : Sound s) where
       let p = placed (s .tx) n (shaped .next-u32) h (sound .packet-count) e in
       let i = place (s .tx) n in
       length-le (packetAt s i .msg) (packetAt s i .len) (sound .packet-length i (omega (arith, p .back-low, p .back-high)))
+
+  -- the packet looked at holds the number
+  pub looked-number : (n : ℕ) → n < 2 ^ 32 → inTable (s .tx) n ≡ true → lookedAt (s .tx) n .seq ≡ seqOf n
+  unfolding place lookedAt
+  looked-number n h e =
+      let p = placed (s .tx) n (shaped .next-u32) h (sound .packet-count) e in
+      sound .consecutive (place (s .tx) n) (omega (arith, p .back-low, p .back-high)) ∙ ap seqOf (sym (p .number))
 
   -- sums over the table are small
   pub sum-small : (k : Pick) → sumOf k (packets (s .tx)) ≤ SENT_BYTES

@@ -32,7 +32,7 @@ use Rattle.engine.specs.Rows.{rowOf, slotOk, timeOk, row-of}
 use Rattle.engine.specs.Decide.{soundb, sound}
 use Rattle.engine.specs.Gates.{timedVerdict}
 use Rattle.engine.specs.Sound.{Sound, Shaped, rowAt, packetAt}
-use Rattle.engine.specs.InTable.{back-number, number-past, placed, packet-short, row-small}
+use Rattle.engine.specs.InTable.{placed, packet-short, looked-number, row-small}
 use Rattle.engine.specs.declared.resending.ResendAnswer.{ResendAnswer}
 use Rattle.engine.specs.declared.resending.ResendAnswer.the-variants.{Message, No}
 use Rattle.engine.specs.declared.resending.ResendResult.{ResendResult}
@@ -128,11 +128,8 @@ module _ (s : State) (n : ℕ) (shaped : Shaped s) (fine : Sound s) (u32 : n < 2
   queued-listed held q =
       let p = placed (s .tx) n (shaped .next-u32) u32 (fine .packet-count) held in
       let i = place (s .tx) n in
-      let next = s .tx .«tx_seq» .0 in
       let few : i < s .tx .«txed_count» = omega (arith, p .back-low, p .back-high) in
-      let number : packetAt s i .seq .0 ≡ n =
-      ap (λ (x : Seq). x .0) (fine .consecutive i few)
-      ∙ sym (back-number next n (shaped .next-u32) u32 ∙ number-past next (s .tx .«txed_count») (minus next n) (fine .packet-count) (p .back-high)) in
+      let number : packetAt s i .seq .0 ≡ n = ap (λ (x : Seq). x .0) (looked-number s shaped fine n u32 held) in
       ap (λ l. isListed l n) (fine .queued)
       ∙ ap (isListed (queuedOf (packets (s .tx)))) (sym number)
       ∙ listed-in (packets (s .tx)) i (omega (arith, window-length PACKETS noPacket (s .tx .«txed_packets») (firstOf (s .tx) % PACKETS) (s .tx .«txed_count»))) q

@@ -37,11 +37,12 @@ use Rattle.engine.specs.Fields.{newFlight, withStatus}
 use Rattle.engine.specs.Flushing.{flushedPacket, flushedState, flushOf}
 use Rattle.engine.specs.Unconfirming.{unconfirmedPacket, unconfirmedState, unconfirmOf}
 use Rattle.engine.specs.Resending.{number-back, resendVerdict, resentState, resentBy, resendOf, resend-passed}
+use Rattle.engine.specs.InTable.{looked-number}
 use Rattle.engine.specs.Acking.{receivedTx, settledTxAs, ackVerdict, ackedTx, ackedRow, ackedState, ackOf}
 use Rattle.engine.specs.Deadlines.{inFlight, firstSent, wasFlushed, definitelySent, deadlineOf, namedBy, confirmTimeoutVerdict, confirmTimeoutBy, earliestConfirmTimeoutOf, Oldest, found-oldest, timeout-passed}
 use Rattle.laws.specs.Passed.{timed-passed}
 use Rattle.laws.specs.PacketsKept.{packets-count, map-length, map-at, packets-mapped}
-use Rattle.laws.specs.PacketReplaced.{replaced, replaced-set, place-length, place-number}
+use Rattle.laws.specs.PacketReplaced.{replaced, replaced-set, place-length}
 use Rattle.laws.specs.NearlySound.{withSent}
 use Rattle.laws.specs.SweepKept.{swept-sent}
 use Rattle.laws.specs.AckKept.{acked-fits}
@@ -179,9 +180,7 @@ module _ (s : State) (shaped : Shaped s) (sound : Sound s) where
         let ps = packets (s .tx) in
         let at = place (s .tx) n in
         let inside = place-length (s .tx) n (shaped .next-u32) u32 (sound .packet-count) (shaped .packets-full) held in
-        let number : getD ps at noPacket .seq .0 ≡ n =
-        ap (λ (x : Seq). x .0) (sound .consecutive at (omega (arith, inside, packets-count (s .tx))))
-        ∙ sym (place-number (s .tx) n (shaped .next-u32) u32 (sound .packet-count) (shaped .packets-full) held) in
+        let number : getD ps at noPacket .seq .0 ≡ n = ap (λ (x : Seq). x .0) (looked-number s shaped sound n u32 held) in
         ap firstSent (replaced-set (s .tx) n (shaped .next-u32) u32 (sound .packet-count) (shaped .packets-full) held q)
         ∙ first-changed (changedAt n f) ps (set ps at q) (length-set ps at q)
         (λ i h.

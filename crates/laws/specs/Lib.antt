@@ -1,4 +1,5 @@
 pub mod AckKept
+pub mod AckedPlace
 pub mod AcksKept
 pub mod Calls
 pub mod CellsKept

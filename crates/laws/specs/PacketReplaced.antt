@@ -9,14 +9,13 @@ use native.Mathlib.Decide.{ℕ-discrete}
 use native.Mathlib.Omega.{arith}
 use lib.ListN.{length, getD, set}
 use lib.Seq.{getD-set-same, getD-set-other}
-use Rattle.seq.specs.Numbers.{plus, minus}
 use Rattle.seq.specs.Laws.{cell-counted}
 use Rattle.engine.specs.declared.state.SentReliable.{SentReliable}
 use Rattle.engine.specs.declared.state.Sending.{Sending}
 use Rattle.engine.specs.Ring.{window, window-set-in}
 use Rattle.engine.specs.Packets.{noPacket, firstOf, packets, isQueued, queuedOf, Pick, weight, sumOf}
 use Rattle.engine.specs.Table.{inTable, place, lookedAt}
-use Rattle.engine.specs.InTable.{cells-divide, placed, back-number, number-past}
+use Rattle.engine.specs.InTable.{cells-divide, placed}
 use Rattle.engine.specs.Sizes.{PACKETS}
 use Rattle.laws.specs.PacketsKept.{packets-count}
 
@@ -62,17 +61,9 @@ module _ (tx : Sending) (n : ℕ) (next : tx .«tx_seq» .0 < 2 ^ 32) (number : 
   pub place-length : place tx n < length (packets tx)
   place-length = omega (arith, place-in, packets-count tx)
 
-  -- the place's number
-  pub place-number : n ≡ plus (firstOf tx) (place tx n)
-  unfolding place
-  place-number =
-      let at = placed tx n next number count held in
-      let t = tx .«tx_seq» .0 in
-      back-number t n next number ∙ number-past t (tx .«txed_count») (minus t n) count (at .back-high)
-
   place-cell : n % PACKETS ≡ (firstOf tx % PACKETS + place tx n) % PACKETS
   place-cell =
-      ap (λ k. k % PACKETS) place-number
+      ap (λ k. k % PACKETS) (placed tx n next number count held .number)
       ∙ cell-counted PACKETS (firstOf tx) (place tx n) cells-divide
       ∙ sym (mod-add-mod (firstOf tx) PACKETS (place tx n))
 
