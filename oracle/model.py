@@ -266,8 +266,6 @@ class End:
         packet = None
         if 1 <= back <= len(self.packets):
             packet = self.packets[len(self.packets) - back]
-            if packet.number != number:
-                raise Refused(18)
         if link.mark is not None:
             if link.mark == number or before(link.mark, number):
                 link.mark = None

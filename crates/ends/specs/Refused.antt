@@ -15,7 +15,7 @@ use Rattle.engine.specs.declared.state.State.{State}
 use Rattle.engine.specs.declared.answer.Outcome.the-variants as outcomes
 use Rattle.engine.specs.Answer.{changedBy}
 use Rattle.engine.specs.Stores.{storeBy, cellStart, copied}
-use Rattle.engine.specs.Gates.{slotVerdict}
+use Rattle.engine.specs.Gates.{slotVerdict, timedVerdict}
 use Rattle.engine.specs.declared.links.AddAnswer.the-variants as adds
 use Rattle.engine.specs.Links.{addOf, addedBy, addVerdict, lowestIn}
 use Rattle.engine.specs.Unconfirming.{unconfirmedState, removedState, unconfirmOf, removeOf}
@@ -23,7 +23,7 @@ use Rattle.engine.specs.declared.sending.SendAnswer.the-variants as sends
 use Rattle.engine.specs.declared.resending.ResendAnswer.the-variants as resends
 use Rattle.engine.specs.Sending.{sendOf, sendStore, sentBy, sentState, sendVerdict}
 use Rattle.engine.specs.Resending.{resendOf, resentBy, resentState, resendVerdict}
-use Rattle.engine.specs.Acking.{ackOf, ackVerdict, ackedState}
+use Rattle.engine.specs.Acking.{ackOf, ackedState}
 use Rattle.engine.specs.Receiving.{receiveOf, receiveStore, receiveVerdict, repeatedState, receivedState}
 use Rattle.engine.specs.Cells.{isRepeat}
 use Rattle.engine.specs.declared.handing_out.HandOut.{HandOut}
@@ -76,7 +76,7 @@ taken-ack-no (acks.No x) s slot e h = refl
 module _ (s : State) (e : Refusal) where
   pub ack-no : (slot time n : ℕ) → ackOf s slot time n .outcome ≡ outcomes.No e → ackOf s slot time n .state ≡ s
   unfolding ackOf
-  ack-no slot time n h = changed-no (ackVerdict s slot time n) s (ackedState s slot time n) e h
+  ack-no slot time n h = changed-no (timedVerdict s slot time verdicts.Pass) s (ackedState s slot time n) e h
 
   pub unconfirm-no : (slot : ℕ) → unconfirmOf s slot .outcome ≡ outcomes.No e → unconfirmOf s slot .state ≡ s
   unfolding unconfirmOf

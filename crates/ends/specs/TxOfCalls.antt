@@ -29,7 +29,7 @@ use Rattle.engine.specs.Answer.{changedBy}
 use Rattle.engine.specs.Decide.{soundb}
 use Rattle.engine.specs.Gates.{slotVerdict, timedVerdict}
 use Rattle.engine.specs.Packets.{noPacket, firstOf, packets, isReceived, isQueued}
-use Rattle.engine.specs.InTable.{placed}
+use Rattle.engine.specs.InTable.{looked-cell}
 use Rattle.laws.specs.PacketsKept.{table-at}
 use Rattle.engine.specs.Queue.{requeued}
 use Rattle.engine.specs.Ring.{window, window-length, nextCell, refill-length, refilled}
@@ -42,7 +42,7 @@ use Rattle.engine.specs.declared.resending.ResendAnswer.the-variants as resends
 use Rattle.engine.specs.Sending.{sendVerdict, sentTx, toldRx, sentState, sentBy, sendOf, sendStore, send-passed}
 use Rattle.engine.specs.Resending.{resendVerdict, resentState, resentBy, resendOf, resend-passed}
 use Rattle.engine.specs.Flushing.{flushedAs, flushedPacket, flushedState, flushOf}
-use Rattle.engine.specs.Acking.{receivedTx, settledTxAs, sweepFrom, sweepOf, sweptTx, ackVerdict, ackedRow, ackedTx, ackedState, ackOf, acked-count}
+use Rattle.engine.specs.Acking.{receivedTx, settledTxAs, sweepFrom, sweepOf, sweptTx, ackedRow, ackedTx, ackedState, ackOf, acked-count}
 use Rattle.engine.specs.Sizes.{PACKETS, SLOTS, DATA_BYTES, SENT_BYTES}
 use Rattle.engine.specs.Fields.{withStatus, withRow}
 use Rattle.laws.specs.RowAcks.{unacked-acks, unconfirm-acks, resent-acks, acked-acks}
@@ -109,7 +109,7 @@ table-seen t n store = refl
 -- the packet that is looked at, of a sound state
 looked-seen : (s : State) (n : ℕ) (store : List ℕ) → Whole s → n < 2 ^ 32 → inTable (s .tx) n ≡ true → pktAt (half (s .tx) store) n ≡ packetSeen (lookedAt (s .tx) n)
 looked-seen s n store whole u h =
-    packet-seen (s .tx) n store ∙ ap packetSeen (placed (s .tx) n (whole .shaped .next-u32) u (whole .sound .packet-count) h .here)
+    packet-seen (s .tx) n store ∙ ap packetSeen (looked-cell s (whole .shaped) (whole .sound) n u h)
 
 -- the table's packets changed in their places: the table is seen as the whole of the cells with the change seen
 changed-like : (s : State) (f : SentReliable → SentReliable) (g : Pkt → Pkt) (store : List ℕ) → Whole s → ((p : SentReliable) → packetSeen (f p) ≡ g (packetSeen p))
@@ -365,8 +365,8 @@ unfolding sweptTx
 sweep-like t store few = same-like _ _ refl (sweep-count t store few) refl refl
 
 module _ (s : State) (slot time n : ℕ) (whole : Whole s) (u : n < 2 ^ 32) where
-  ack-passed : ackVerdict s slot time n ≡ Pass → Acks s slot n (ackedState s slot time n)
-  unfolding ackVerdict ackedState
+  ack-passed : timedVerdict s slot time Pass ≡ Pass → Acks s slot n (ackedState s slot time n)
+  unfolding ackedState
   ack-passed e =
       let p = timed-passed s slot time _ e in
       let after = ackedState s slot time n in
@@ -380,7 +380,7 @@ module _ (s : State) (slot time n : ℕ) (whole : Whole s) (u : n < 2 ^ 32) wher
 
   ack-law : ackOf s slot time n .outcome ≡ outcomes.Done → Acks s slot n (ackOf s slot time n .state)
   unfolding ackOf
-  ack-law e = done-keeps s (ackedState s slot time n) (λ s′. Acks s slot n s′) (ackVerdict s slot time n) e ack-passed
+  ack-law e = done-keeps s (ackedState s slot time n) (λ s′. Acks s slot n s′) (timedVerdict s slot time Pass) e ack-passed
 
 -- ---- the laws
 

@@ -1,5 +1,5 @@
 -- Document 01, "Ack of number a": what it does to the acked packet and its link, then the sweep, then the whole call. Assumes nothing.
-use mathlib.Core.Bool.{cond, true, false, Bool}
+use mathlib.Core.Bool.{cond, true, false}
 use Prim.Native.Nat.{ℕ, _+_, _-_, _%_, suc, _^_, _≤_, _<_}
 use lib.Dec.{eqb}
 use lib.ListN.{set, length, getD}
@@ -11,7 +11,7 @@ use Rattle.engine.specs.declared.state.SentReliableStatus.the-variants.{
 use Rattle.engine.specs.declared.state.SentReliable.{SentReliable}
 use Rattle.engine.specs.declared.state.Sending.{Sending}
 use Rattle.engine.specs.Queue.{requeued}
-use Rattle.engine.specs.Table.{inTable, lookedAt, packetOf}
+use Rattle.engine.specs.Table.{inTable, lookedAt}
 use mathlib.Core.Path.{_≡_, refl, ap, _∙_}
 use mathlib.Core.List.{List, [], _∷_}
 use native.Mathlib.Omega.{arith}
@@ -20,18 +20,15 @@ use Rattle.seq.specs.declared.Seq.{Seq}
 use Rattle.engine.specs.Ring.{window, window-step, window-none, window-length, nextCell}
 use Rattle.engine.specs.Packets.{noPacket, packets, isReceived, Settled}
 use Rattle.engine.specs.declared.acking.Front.{Front}
-use Rattle.refusal.specs.declared.verdict.Verdict.{Verdict}
 use Rattle.refusal.specs.declared.verdict.Verdict.the-variants.{Pass}
-use Rattle.refusal.specs.Verdicts.{gate, gate-pass}
 use Rattle.link.specs.Limit.{markAcked}
 use Rattle.engine.specs.declared.state.State.{State}
 use Rattle.engine.specs.declared.answer.Changed.{Changed}
 use Rattle.engine.specs.Rows.{rowOf}
-use Rattle.engine.specs.Decide.{soundb, sound}
 use Rattle.engine.specs.Gates.{timedVerdict}
 use Rattle.engine.specs.Answer.{changedBy}
 use Rattle.engine.specs.Sound.{Sound, Shaped}
-use Rattle.engine.specs.InTable.{placed, packet-short, sum-small}
+use Rattle.engine.specs.InTable.{packet-short, sum-small}
 use Rattle.engine.specs.Sizes.{PACKETS}
 use Rattle.engine.specs.Fields.{withStatus, withNext, withPackets, withTotals, withEnds, withParts}
 
@@ -85,17 +82,6 @@ sweptTx tx =
 
 -- ---- the whole call
 
--- not "on ack, the acked place holds another number" (18)
-unfoldable pub placeOk : Sending → ℕ → Bool
-placeOk tx a = cond (inTable tx a) (eqb (lookedAt tx a .seq .0) a) true
-
--- what the code asks: that the number's cell, where the table has one, holds it
-unfoldable pub cellHolds : Sending → ℕ → Bool
-cellHolds tx a = cond (inTable tx a) (eqb (packetOf tx a .seq .0) a) true
-
-unfoldable pub ackVerdict : State → ℕ → ℕ → ℕ → Verdict
-ackVerdict s slot time a = timedVerdict s slot time (gate (placeOk (s .tx) a) 18 Pass)
-
 -- "First, a mark at or before a is cleared; any other mark makes the zero-estimate flag true. Let back = next number − a. If 1 ≤
 -- back ≤ packet count, the packet at count − back is looked at"
 unfoldable pub ackedRow : State → ℕ → ℕ → ℕ → LinkRow
@@ -110,9 +96,10 @@ unfoldable pub ackedState : State → ℕ → ℕ → ℕ → State
 unfolding ackedRow ackedTx
 ackedState s slot time a = withParts s (set (s .links) slot (ackedRow s slot time a)) (sweptTx (ackedTx s slot a)) (s .rx) time
 
+-- 1, 3 and 4 alone: that the place looked at holds another number is given for no input (document 02, [9])
 unfoldable pub ackOf : State → ℕ → ℕ → ℕ → Changed
-unfolding ackVerdict ackedState
-ackOf s slot time a = changedBy (ackVerdict s slot time a) s (ackedState s slot time a)
+unfolding ackedState
+ackOf s slot time a = changedBy (timedVerdict s slot time Pass) s (ackedState s slot time a)
 
 -- ---- laws
 
@@ -139,11 +126,8 @@ module _ (cells : List SentReliable) (at left : ℕ) (last : Seq) (held : ℕ) w
       ap (λ ps. sweepFrom ps last held) (window-none PACKETS noPacket cells at left h) ∙ simp z
 
 -- what waits to be consumed stays small
-pub ack-fits : (s : State) (slot time a : ℕ) → Shaped s → a < 2 ^ 32 → ackVerdict s slot time a ≡ Pass → inTable (s .tx) a ≡ true
-    → s .tx .«txed_unconsumable» + lookedAt (s .tx) a .len < 2 ^ 32
-unfolding ackVerdict timedVerdict
-ack-fits s slot time a shaped h e held =
-    let fine = sound s (gate-pass (soundb s) _ _ e .0) in
+pub ack-fits : (s : State) (a : ℕ) → Shaped s → Sound s → a < 2 ^ 32 → inTable (s .tx) a ≡ true → s .tx .«txed_unconsumable» + lookedAt (s .tx) a .len < 2 ^ 32
+ack-fits s a shaped fine h held =
     omega (arith, packet-short s shaped fine a h held, sum-small s shaped fine Settled, fine .unconsumable)
 
 -- how many packets there are moves in the sweep alone
@@ -159,27 +143,3 @@ acked-count s slot a =
     cases (inTable (s .tx) a)
     (λ t. simp t (settled-count (lookedAt (s .tx) a .status) (s .tx) slot a (lookedAt (s .tx) a)))
     (λ t. simp t)
-
--- in a sound state both ask the same
-pub place-same : (s : State) (a : ℕ) → Shaped s → a < 2 ^ 32 → Sound s → cellHolds (s .tx) a ≡ placeOk (s .tx) a
-unfolding cellHolds placeOk
-place-same s a shaped h fine =
-    cases (inTable (s .tx) a)
-    (λ t. simp t (ap (λ p. eqb (p .seq .0) a) (placed (s .tx) a (shaped .next-u32) h (fine .packet-count) t .here)))
-    (λ t. simp t)
-
-pub ack-verdict-same : (s : State) (slot time a : ℕ) → Shaped s → a < 2 ^ 32 → timedVerdict s slot time (gate (cellHolds (s .tx) a) 18 Pass) ≡ ackVerdict s slot time a
-unfolding ackVerdict timedVerdict
-ack-verdict-same s slot time a shaped h =
-    cases (soundb s)
-    (λ t. let e = place-same s a shaped h (sound s t) in simp e)
-    (λ t. simp t)
-
--- an ack that passes is given a sound state
-pub ack-sound : (s : State) (slot time a : ℕ) → ackVerdict s slot time a ≡ Pass → Sound s
-unfolding ackVerdict timedVerdict
-ack-sound s slot time a e = sound s (gate-pass (soundb s) _ _ e .0)
-
--- .. and the packet that it looks at is in the number's cell
-pub ack-cell : (s : State) (slot time a : ℕ) → Shaped s → a < 2 ^ 32 → ackVerdict s slot time a ≡ Pass → inTable (s .tx) a ≡ true → packetOf (s .tx) a ≡ lookedAt (s .tx) a
-ack-cell s slot time a shaped h e t = placed (s .tx) a (shaped .next-u32) h (ack-sound s slot time a e .packet-count) t .here

@@ -32,7 +32,7 @@ cell-of-place t count back c l h =
     ∙ ap (λ k. k % PACKETS) (omega arith)
 
 -- a number is as far before the next one as their difference says
-pub back-number : (t n : ℕ) → t < 2 ^ 32 → n < 2 ^ 32 → n ≡ minus t (minus t n)
+back-number : (t n : ℕ) → t < 2 ^ 32 → n < 2 ^ 32 → n ≡ minus t (minus t n)
 unfolding minus
 back-number t n ht hn = omega arith
 
@@ -97,7 +97,11 @@ module _ (s : State) (shaped : Shaped s) (sound : Sound s) where
       let i = place (s .tx) n in
       length-le (packetAt s i .msg) (packetAt s i .len) (sound .packet-length i (omega (arith, p .back-low, p .back-high)))
 
-  -- the packet looked at holds the number
+  -- the packet looked at is in the number's cell ..
+  pub looked-cell : (n : ℕ) → n < 2 ^ 32 → inTable (s .tx) n ≡ true → packetOf (s .tx) n ≡ lookedAt (s .tx) n
+  looked-cell n h e = placed (s .tx) n (shaped .next-u32) h (sound .packet-count) e .here
+
+  -- .. and holds the number
   pub looked-number : (n : ℕ) → n < 2 ^ 32 → inTable (s .tx) n ≡ true → lookedAt (s .tx) n .seq ≡ seqOf n
   unfolding place lookedAt
   looked-number n h e =

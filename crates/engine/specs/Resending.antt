@@ -32,7 +32,7 @@ use Rattle.engine.specs.Rows.{rowOf, slotOk, timeOk, row-of}
 use Rattle.engine.specs.Decide.{soundb, sound}
 use Rattle.engine.specs.Gates.{timedVerdict}
 use Rattle.engine.specs.Sound.{Sound, Shaped, rowAt, packetAt}
-use Rattle.engine.specs.InTable.{placed, packet-short, looked-number, row-small}
+use Rattle.engine.specs.InTable.{placed, packet-short, looked-cell, looked-number, row-small}
 use Rattle.engine.specs.declared.resending.ResendAnswer.{ResendAnswer}
 use Rattle.engine.specs.declared.resending.ResendAnswer.the-variants.{Message, No}
 use Rattle.engine.specs.declared.resending.ResendResult.{ResendResult}
@@ -137,7 +137,7 @@ module _ (s : State) (n : ℕ) (shaped : Shaped s) (fine : Sound s) (u32 : n < 2
   -- what the code asks of the table is what the paper asks of the queue
   pub listed-same : (inTable (s .tx) n && isQueued (packetOf (s .tx) n .status)) ≡ isListed (queue (s .tx)) n
   listed-same =
-      let cell : inTable (s .tx) n ≡ true → packetOf (s .tx) n ≡ lookedAt (s .tx) n = λ t. placed (s .tx) n (shaped .next-u32) u32 (fine .packet-count) t .here in
+      let cell = looked-cell s shaped fine n u32 in
       same-test (inTable (s .tx) n && isQueued (packetOf (s .tx) n .status)) (isListed (queue (s .tx)) n)
       (λ e.
       let both = split (inTable (s .tx) n) (isQueued (packetOf (s .tx) n .status)) e in
@@ -177,7 +177,7 @@ resend-fits s slot time n shaped h e =
 pub resend-cell : (s : State) (slot time n : ℕ) → Shaped s → n < 2 ^ 32 → resendVerdict s slot time n ≡ verdicts.Pass → packetOf (s .tx) n ≡ lookedAt (s .tx) n
 resend-cell s slot time n shaped h e =
     let p = resend-passed s slot time n shaped h e in
-    placed (s .tx) n (shaped .next-u32) h (p .fine .packet-count) (p .held) .here
+    looked-cell s shaped (p .fine) n h (p .held)
 
 -- what the code asks of the number's cell, in the gates
 abbrev pub resendAsked : State → ℕ → ℕ → ℕ → Verdict
@@ -196,7 +196,7 @@ resend-same s slot time n shaped h =
     let same = listed-same s n shaped fine h in
     cases (isListed (queue (s .tx)) n)
     (λ u.
-    let cell = placed (s .tx) n (shaped .next-u32) h (fine .packet-count) (listed-queued s n shaped fine h u .0) .here in
+    let cell = looked-cell s shaped fine n h (listed-queued s n shaped fine h u .0) in
     ap₂
     (λ (queued : Bool) (p : SentReliable). timedVerdict s slot time (gate queued 16 (gate (not (eqb (lastLink (p .status)) (rowOf s slot .«link_id»))) 17 verdicts.Pass)))
     same cell)

@@ -18,16 +18,16 @@ use crate::table::packet_of;
 use crate::table::with_packet;
 use crate::totals::less;
 use link::LinkRow;
-use refusal::Refusal;
 use refusal::Verdict;
-use refusal::gate;
 use seq::Seq;
 ghost use mathlib.Core.Path.{_≡_};
 ghost use mathlib.Core.List.{[]};
 ghost use Prim.Native.Nat.{_+_, _≤_, _<_, _^_};
 ghost use Rattle.refusal.specs.Answers.{toldBy};
 ghost use Rattle.engine.specs.Answer.{outcomeTold};
-ghost use Rattle.engine.specs.Acking.{settledRow, receivedTx, settledTx, sweepOf, sweptTx, cellHolds, ackVerdict, ackedRow, ackedTx, ackOf};
+ghost use Rattle.engine.specs.Gates.{timedVerdict};
+ghost use Rattle.engine.specs.Sound.{Sound};
+ghost use Rattle.engine.specs.Acking.{settledRow, receivedTx, settledTx, sweepOf, sweptTx, ackedRow, ackedTx, ackOf};
 ghost use Rattle.engine.specs.Sizes.{PACKETS};
 
 // The row, where the packet was Sent over its slot.
@@ -121,28 +121,9 @@ fn sweep(tx: Sending) -> Sending
     out
 }
 
-// The acked place, where there is one, holds the acked number.
-fn place_ok(tx: Sending, seq: Seq) -> bool
-    ensures { λ r. ⌜ r ≡ cellHolds tx (seq .0) ⌝ }
-{
-    if !in_table(tx, seq) {
-        return true;
-    }
-    let p = packet_of(tx, seq);
-    p.seq.0 == seq.0
-}
-
-fn ack_verdict(s: State, slot: u8, time: u64, seq: Seq) -> Verdict
-    ensures { λ r. ⌜ r ≡ ackVerdict s slot time (seq .0) ⌝ }
-{
-    let tx = s.tx;
-    let v18 = gate(place_ok(tx, seq), Refusal::OtherNumber, Verdict::Pass);
-    timed_verdict(s, slot, time, v18)
-}
-
 // The link's row: the mark's step comes first, and a flag that it sets counts in this ack.
 fn acked_row(s: State, slot: u8, time: u64, seq: Seq) -> LinkRow
-    requires { ⌜ ackVerdict s slot time (seq .0) ≡ Verdict.Pass ⌝ }
+    requires { ⌜ Sound s ⌝ }
     ensures { λ r. ⌜ r ≡ ackedRow s slot time (seq .0) ⌝ }
 {
     let row = row_of(s, slot).mark_acked(seq);
@@ -154,8 +135,8 @@ fn acked_row(s: State, slot: u8, time: u64, seq: Seq) -> LinkRow
     settle_row(row, p, slot, time)
 }
 
-fn acked_tx(s: State, slot: u8, time: u64, seq: Seq) -> Sending
-    requires { ⌜ ackVerdict s slot time (seq .0) ≡ Verdict.Pass ⌝ }
+fn acked_tx(s: State, slot: u8, seq: Seq) -> Sending
+    requires { ⌜ Sound s ⌝ }
     ensures { λ r. ⌜ r ≡ ackedTx s slot (seq .0) ⌝ }
 {
     let tx = s.tx;
@@ -168,9 +149,9 @@ fn acked_tx(s: State, slot: u8, time: u64, seq: Seq) -> Sending
 
 pub fn ack(s: State, slot: u8, time: u64, seq: Seq) -> Changed
     ensures { λ r. ⌜ r ≡ ackOf s slot time (seq .0) ⌝ }
-    ensures { λ r. ⌜ outcomeTold (r .outcome) ≡ toldBy (ackVerdict s slot time (seq .0)) [] ⌝ }
+    ensures { λ r. ⌜ outcomeTold (r .outcome) ≡ toldBy (timedVerdict s slot time Verdict.Pass) [] ⌝ }
 {
-    let verdict = ack_verdict(s, slot, time, seq);
+    let verdict = timed_verdict(s, slot, time, Verdict::Pass);
     match verdict {
         Verdict::No(e) => Changed {
             outcome: Outcome::No(e),
@@ -178,7 +159,7 @@ pub fn ack(s: State, slot: u8, time: u64, seq: Seq) -> Changed
         },
         Verdict::Pass => {
             let row = acked_row(s, slot, time, seq);
-            let tx = acked_tx(s, slot, time, seq);
+            let tx = acked_tx(s, slot, seq);
             let mut out = with_row(s, slot, row);
             out.tx = sweep(tx);
             out.time = time;

@@ -10,6 +10,7 @@ use lib.Dec.{eqb}
 use lib.ListN.{length, set, take}
 use borrow.Author.Tests.{eq-eqb, ne-eqb}
 use borrow.Table.Steps.{cases}
+use Rattle.refusal.specs.declared.verdict.Verdict.the-variants.{Pass}
 use Rattle.seq.specs.declared.Seq.{Seq}
 use Rattle.link.specs.declared.row.LinkRow.{LinkRow}
 use Rattle.link.specs.Row.{withUnacked}
@@ -28,7 +29,8 @@ use Rattle.engine.specs.InTable.{packet-short, sum-small}
 use Rattle.engine.specs.Rows.{rowOf, row-of}
 use Rattle.engine.specs.Sound.{Sound, Shaped, rowAt}
 use Rattle.engine.specs.DecidedTables.{RowFine}
-use Rattle.engine.specs.Acking.{settledRowAs, receivedTx, settledTxAs, sweptTx, ackVerdict, ackedRow, ackedTx, ackedState, ackOf}
+use Rattle.engine.specs.Gates.{timedVerdict}
+use Rattle.engine.specs.Acking.{settledRowAs, receivedTx, settledTxAs, sweptTx, ackedRow, ackedTx, ackedState, ackOf}
 use Rattle.engine.specs.Fields.{withStatus}
 use Rattle.engine.specs.declared.state.InFlight.{InFlight}
 use Rattle.engine.specs.Sizes.{SLOTS, PACKETS}
@@ -188,17 +190,17 @@ module _ (s : State) (slot time a : ℕ) (shaped : Shaped s) (sound : Sound s) (
 
 module _ (s : State) (slot time a : ℕ) (shaped : Shaped s) (sound : Sound s) (number : a < 2 ^ 32) where
   pub ack-sound : Sound (ackOf s slot time a .state)
-  unfolding ackOf ackVerdict
+  unfolding ackOf
   ack-sound =
-      changed-keeps Sound (ackVerdict s slot time a) s (ackedState s slot time a) sound
+      changed-keeps Sound (timedVerdict s slot time Pass) s (ackedState s slot time a) sound
       (λ e.
       let ok = timed-passed s slot time _ e in
       acked-sound s slot time a shaped sound number (ok .0) (ok .1) (ok .2) (ok .3))
 
   pub ack-shaped : Shaped (ackOf s slot time a .state)
-  unfolding ackOf ackVerdict
+  unfolding ackOf
   ack-shaped =
-      changed-keeps Shaped (ackVerdict s slot time a) s (ackedState s slot time a) shaped
+      changed-keeps Shaped (timedVerdict s slot time Pass) s (ackedState s slot time a) shaped
       (λ e.
       let ok = timed-passed s slot time _ e in
       acked-shaped s slot time a shaped sound number (ok .0) (ok .1) (ok .2) (ok .3))

@@ -38,7 +38,7 @@ use Rattle.engine.specs.Flushing.{flushedPacket, flushedState, flushOf}
 use Rattle.engine.specs.Unconfirming.{unconfirmedPacket, unconfirmedState, unconfirmOf}
 use Rattle.engine.specs.Resending.{number-back, resendVerdict, resentState, resentBy, resendOf, resend-passed}
 use Rattle.engine.specs.InTable.{looked-number}
-use Rattle.engine.specs.Acking.{receivedTx, settledTxAs, ackVerdict, ackedTx, ackedRow, ackedState, ackOf}
+use Rattle.engine.specs.Acking.{receivedTx, settledTxAs, ackedTx, ackedRow, ackedState, ackOf}
 use Rattle.engine.specs.Deadlines.{inFlight, firstSent, wasFlushed, definitelySent, deadlineOf, namedBy, confirmTimeoutVerdict, confirmTimeoutBy, earliestConfirmTimeoutOf, Oldest, found-oldest, timeout-passed}
 use Rattle.laws.specs.Passed.{timed-passed}
 use Rattle.laws.specs.PacketsKept.{packets-count, map-length, map-at, packets-mapped}
@@ -267,9 +267,9 @@ module _ (s : State) (shaped : Shaped s) (sound : Sound s) (slot a : ℕ) (u32 :
       (λ t. simp t (settled-names t (lookedAt (s .tx) a .status) refl))
       (λ t. simp t (none-changed s shaped sound a u32 (settledStatus slot) (λ held. false-true (sym t ∙ held))))
 
-  pub ack-names : (time : ℕ) → ackVerdict s slot time a ≡ Pass
+  pub ack-names : (time : ℕ) → timedVerdict s slot time Pass ≡ Pass
       → firstSent (packets (ackOf s slot time a .state .tx)) ≡ firstLeft (changedAt a (settledStatus slot)) (packets (s .tx))
-  unfolding ackOf ackVerdict ackedState
+  unfolding ackOf ackedState
   ack-names time e =
       let ok = timed-passed s slot time _ e in
       let before = withSent s (set (s .links) slot (ackedRow s slot time a)) (ackedTx s slot a) time in

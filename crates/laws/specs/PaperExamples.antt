@@ -8,7 +8,6 @@ use native.Mathlib.Omega.{arith}
 use lib.Dec.{leb}
 use lib.ListN.{length, getD, set}
 use Rattle.refusal.specs.declared.verdict.Verdict.the-variants.{Pass}
-use Rattle.refusal.specs.Verdicts.{gate-pass}
 use Rattle.seq.specs.declared.Seq.{Seq}
 use Rattle.seq.specs.Numbers.{seqOf, plus, minus, before, signed}
 use Rattle.link.specs.declared.row.LinkRow.{LinkRow}
@@ -23,15 +22,15 @@ use Rattle.engine.specs.declared.state.SentReliable.{SentReliable}
 use Rattle.engine.specs.declared.state.Sending.{Sending}
 use Rattle.engine.specs.declared.state.State.{State}
 use Rattle.engine.specs.Answer.{changedBy}
-use Rattle.engine.specs.Decide.{soundb, sound}
+use Rattle.engine.specs.Decide.{soundb}
 use Rattle.engine.specs.Fields.{withEnds, withParts}
-use Rattle.engine.specs.Gates.{timedVerdict}
+use Rattle.engine.specs.Gates.{timedVerdict, timed-sound}
 use Rattle.engine.specs.Packets.{noPacket, packets, isReceived}
 use Rattle.engine.specs.Rows.{rowOf}
 use Rattle.engine.specs.Sizes.{PACKETS}
 use Rattle.engine.specs.Sound.{Sound, Shaped, packetAt}
 use Rattle.engine.specs.Table.{inTable, place, lookedAt}
-use Rattle.engine.specs.Acking.{settledRow, settledTx, sweepFrom, sweepOf, sweptTx, ackVerdict, ackedRow, ackedTx, ackedState, ackOf}
+use Rattle.engine.specs.Acking.{settledRow, settledTx, sweepFrom, sweepOf, sweptTx, ackedRow, ackedTx, ackedState, ackOf}
 use Rattle.engine.specs.declared.handing_out.Due.the-variants.{Is}
 use Rattle.engine.specs.HandingOut.{dueOf}
 use Rattle.engine.specs.Slowness.{allSlow, overSlots, slowSlots}
@@ -44,10 +43,10 @@ rowsOfL1 one other trip =
     ∷ (freshRow other trip Unlimited false false
     ∷ (emptyRow ∷ (emptyRow ∷ (emptyRow ∷ (emptyRow ∷ (emptyRow ∷ (emptyRow ∷ [])))))))
 
--- A1's and A2's state, where the ack of a is accepted: "next 5, packets 2, 3, 4", since a sound table of three ends before the next
-pub record NextIsFive (s : State) (slot time a : ℕ) : Type 0 where
+-- A1's and A2's state, where an ack is accepted: "next 5, packets 2, 3, 4", since a sound table of three ends before the next
+pub record NextIsFive (s : State) (slot time : ℕ) : Type 0 where
   pub shaped : Shaped s
-  pub passed : ackVerdict s slot time a ≡ Pass
+  pub passed : timedVerdict s slot time Pass ≡ Pass
   pub next : s .tx .«tx_seq» ≡ seqOf 5
   pub count : s .tx .«txed_count» ≡ 3
 
@@ -63,10 +62,10 @@ pub record PaperExamples : Type 0 where
   pub r2 : tripAfter false 200 100 ≡ 199
   pub r4 : (r : ℕ) → tripAfter true r 50 ≡ 50
   -- "A1 next 5, packets 2, 3, 4, ack 1: no packet": only the mark's step is made, and the sweep stops at the first number, 2
-  pub a1 : (s : State) (slot time : ℕ) → NextIsFive s slot time 1
+  pub a1 : (s : State) (slot time : ℕ) → NextIsFive s slot time
       → ackOf s slot time 1 ≡ acked s slot time (markAcked (rowOf s slot) 1) (withEnds (s .tx) (seqOf 2) (s .tx .«send_finish_sent») (s .tx .«write_closed»))
   -- "A2 ack 2: the first": it is the first packet that is looked at
-  pub a2 : (s : State) (slot time : ℕ) → NextIsFive s slot time 2
+  pub a2 : (s : State) (slot time : ℕ) → NextIsFive s slot time
       → ackOf s slot time 2
       ≡ acked s slot time (settledRow (markAcked (rowOf s slot) 2) (packetAt s 0) slot time) (sweptTx (settledTx (s .tx) slot 2 (packetAt s 0)))
   -- "L1 one link 50 over 40, one without `max_ping`: none listed."
@@ -93,10 +92,9 @@ swept-whole tx fits some first =
 
 -- ---- A1 and A2
 
-module _ (s : State) (slot time a : ℕ) (five : NextIsFive s slot time a) where
+module _ (s : State) (slot time a : ℕ) (five : NextIsFive s slot time) where
   is-sound : Sound s
-  unfolding ackVerdict timedVerdict
-  is-sound = sound s (gate-pass (soundb s) _ _ (five .passed) .0)
+  is-sound = timed-sound s slot time Pass (five .passed)
 
   back : minus (s .tx .«tx_seq» .0) a ≡ minus 5 a
   back = ap (λ seq. minus (seq .0) a) (five .next)
@@ -113,7 +111,7 @@ module _ (s : State) (slot time a : ℕ) (five : NextIsFive s slot time a) where
   unfolding ackOf ackedState
   whole = ap (λ v. changedBy v s (ackedState s slot time a)) (five .passed)
 
-none-of : (s : State) (slot time : ℕ) → NextIsFive s slot time 1
+none-of : (s : State) (slot time : ℕ) → NextIsFive s slot time
     → ackOf s slot time 1 ≡ acked s slot time (markAcked (rowOf s slot) 1) (withEnds (s .tx) (seqOf 2) (s .tx .«send_finish_sent») (s .tx .«write_closed»))
 unfolding ackedRow ackedTx minus
 none-of s slot time five =
@@ -127,7 +125,7 @@ none-of s slot time five =
     let half = ap sweptTx tx ∙ swept ∙ ap last (first-number s slot time 1 five) in
     whole s slot time 1 five ∙ (λ d. acked s slot time (row d) (half d))
 
-first-of : (s : State) (slot time : ℕ) → NextIsFive s slot time 2
+first-of : (s : State) (slot time : ℕ) → NextIsFive s slot time
     → ackOf s slot time 2
     ≡ acked s slot time (settledRow (markAcked (rowOf s slot) 2) (packetAt s 0) slot time) (sweptTx (settledTx (s .tx) slot 2 (packetAt s 0)))
 unfolding ackedRow ackedTx lookedAt place minus

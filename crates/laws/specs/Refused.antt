@@ -27,7 +27,7 @@ use Rattle.engine.specs.Unconfirming.{unconfirmedState, removedState, unconfirm
 use Rattle.engine.specs.Sending.{sendOf, sendStore, sendTold, sentBy, sendVerdict, sentState}
 use Rattle.engine.specs.Flushing.{flushOf, flushedState}
 use Rattle.engine.specs.Resending.{resendOf, resendTold, resentBy, resendVerdict, resentState}
-use Rattle.engine.specs.Acking.{ackOf, ackVerdict, ackedState}
+use Rattle.engine.specs.Acking.{ackOf, ackedState}
 use Rattle.engine.specs.Receiving.{receiveOf, receiveStore, receiveVerdict, repeatedState, receivedState}
 use Rattle.engine.specs.Cells.{isRepeat}
 use Rattle.engine.specs.declared.handing_out.HandOut.{HandOut}
@@ -115,7 +115,9 @@ refused (Send slot time msg bytes) h told =
       received = h .received;
     }
 refused (Resend slot time n) h told = let s = h .state in ap (withState h) (resent-same (resendVerdict s slot time n) s n (resentState s slot time n) told)
-refused (Ack slot time n) h told = let s = h .state in ap (withState h) (changed-same (ackVerdict s slot time n) s (ackedState s slot time n) told)
+refused (Ack slot time n) h told =
+    let s = h .state in
+    ap (withState h) (changed-same (timedVerdict s slot time verdicts.Pass) s (ackedState s slot time n) told)
 refused (Receive slot msg n bytes) h told =
     let v = receiveVerdict (h .state) (length (h .received)) slot msg n (length bytes) in
     let again = isRepeat CELLS (h .state .rx) n in

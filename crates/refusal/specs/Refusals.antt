@@ -1,6 +1,7 @@
 -- Document 01, "Refusal numbers", with those of document 02 that have landed: the one table from numbers to names. The definitions of every layer refuse by number,
--- as the paper does, `refuse 20`; the code by name. A number that is not in the table is no refusal. Assumes nothing.
+-- as the paper does, `refuse 20`; the code by name. A number that is not in the table is no refusal: 18 is none since request [9]. Assumes nothing.
 use mathlib.Core.Path.{_≡_, refl, sym, _∙_, ap}
+use mathlib.Core.Logic.{_≢_}
 use mathlib.Core.Bool.{Bool, true, cond, _&&_}
 use mathlib.Core.List.{List, [], _∷_}
 use Prim.Native.Nat.{ℕ}
@@ -9,7 +10,7 @@ use lib.Dec.{eqb}
 use borrow.Author.Tests.{eqb-true}
 use borrow.Table.Steps.{cases}
 use Rattle.refusal.specs.declared.Refusal.{Refusal}
-use Rattle.refusal.specs.declared.Refusal.the-variants.{Unsound, StoreLength, Time, Slot, NoSlot, Identity, Length, Finished, Total, Full, Offset, Window, Acks, Buffer, Consumed, NotQueued, SameIdentity, OtherNumber, Nothing, Bytes, Setting, Far, Many}
+use Rattle.refusal.specs.declared.Refusal.the-variants.{Unsound, StoreLength, Time, Slot, NoSlot, Identity, Length, Finished, Total, Full, Offset, Window, Acks, Buffer, Consumed, NotQueued, SameIdentity, Nothing, Bytes, Setting, Far, Many}
 use Rattle.refusal.specs.Tests.{split}
 
 -- a row of the table
@@ -39,7 +40,6 @@ table =
     ∷ row 15 Consumed
     ∷ row 16 NotQueued
     ∷ row 17 SameIdentity
-    ∷ row 18 OtherNumber
     ∷ row 19 Nothing
     ∷ row 20 Bytes
     ∷ row 21 Setting
@@ -90,7 +90,6 @@ numberOf Buffer = 14
 numberOf Consumed = 15
 numberOf NotQueued = 16
 numberOf SameIdentity = 17
-numberOf OtherNumber = 18
 numberOf Nothing = 19
 numberOf Bytes = 20
 numberOf Setting = 21
@@ -117,7 +116,6 @@ number-named Buffer = refl
 number-named Consumed = refl
 number-named NotQueued = refl
 number-named SameIdentity = refl
-number-named OtherNumber = refl
 number-named Nothing = refl
 number-named Bytes = refl
 number-named Setting = refl
@@ -143,3 +141,13 @@ named-number-in (r ∷ rows) n e ok h =
 -- a number stands for no refusal but the one that bears it
 pub named-number : (n : ℕ) (e : Refusal) → named n ≡ Is e → numberOf e ≡ n
 named-number n e h = named-number-in table n e refl h
+
+-- document 02, [9]: "take the branch and its number out, and keep the number unused"
+pub unused-18 : named 18 ≡ Unnamed
+unused-18 = refl
+
+pub none-bears-18 : (e : Refusal) → numberOf e ≢ 18
+none-bears-18 e h =
+    let named-18 : Is e ≡ Unnamed = sym (number-named e) ∙ ap named h ∙ unused-18 in
+    let z : _≡_ {A = ℕ} 0 1 = cc in
+    omega arith

@@ -8,7 +8,7 @@ pub use verdict::gate;
 ghost use mathlib.Core.Path.{_≡_};
 ghost use Rattle.refusal.specs.Refusals.{numberOf};
 
-// Why a call is refused. In the order of the numbers, 1 to 23.
+// Why a call is refused. In the order of the numbers, 1 to 23; 18 stays unused.
 pub enum Refusal {
     // the state handed in is not sound
     Unsound,
@@ -44,8 +44,6 @@ pub enum Refusal {
     NotQueued,
     // resend on a link with the identity it was last sent on
     SameIdentity,
-    // on ack, the acked place holds another number
-    OtherNumber,
     // nothing to take
     Nothing,
     // message bytes not as they must be
@@ -80,7 +78,6 @@ impl Refusal {
             Refusal::Consumed => 15,
             Refusal::NotQueued => 16,
             Refusal::SameIdentity => 17,
-            Refusal::OtherNumber => 18,
             Refusal::Nothing => 19,
             Refusal::Bytes => 20,
             Refusal::Setting => 21,

@@ -1,6 +1,7 @@
 -- The mark's step, and then the packet's, where there is one.
 use Rattle.engine.proofs.Shapes.{shaped}
-use Rattle.engine.specs.Acking.{ackedRow, ack-cell}
+use Rattle.engine.specs.Acking.{ackedRow}
+use Rattle.engine.specs.InTable.{looked-cell}
 use mathlib.Core.Path.{sym, _∙_}
 use borrow.Author.Tests.{not-true, not-false}
 use borrow.Author.Needs.{needs}
@@ -29,9 +30,10 @@ settle-row-requires c κs = search needs
 returns-2 : tie.Need-returns-2
 unfolding ackedRow
 returns-2 c =
-    let a = c .before .before .before .before .before .before .before .args in
+    let start = c .before .before .before .before .before .before .before in
+    let a = start .args in
     let here = sym (c .before .before .before .in-table .ensures) ∙ not-false (c .before .before .before .in-table .result) (c .before .before .if1 .left) in
-    let cell = c .before .packet-of .ensures ∙ ack-cell (a .s) (a .slot) (a .time) (a .seq .0) (shaped (a .s) (c .before .before .before .before .before .before .before .good .0)) (c .before .before .before .before .before .before .before .good .1 .1 .1 .0 .1 .1 .0 .1) (c .before .before .before .before .before .before .before .pre) here in
+    let cell = c .before .packet-of .ensures ∙ looked-cell (a .s) (shaped (a .s) (start .good .0)) (start .pre) (a .seq .0) (start .good .1 .1 .1 .0 .1 .1 .0 .1) here in
     simp (here, c .settle-row .ensures, cell, c .before .before .before .before .before .mark-acked .ensures, c .before .before .before .before .before .before .row-of .ensures)
 
 pub acked-row-spec : {M : Type 1} → statement M

@@ -1,5 +1,6 @@
 -- By whether the table holds the number; in a sound state what waits to be consumed stays small.
-use Rattle.engine.specs.Acking.{ackedTx, ack-fits, ack-cell, ack-sound}
+use Rattle.engine.specs.Acking.{ackedTx, ack-fits}
+use Rattle.engine.specs.InTable.{looked-cell}
 use mathlib.Core.Path.{sym, _∙_}
 use borrow.Author.Tests.{not-true, not-false}
 use borrow.Author.Needs.{needs}
@@ -19,17 +20,21 @@ packet-of-requires c κs = search needs
 
 settle-tx-requires : tie.Need-settle-tx-requires
 settle-tx-requires c κs =
-    let a = c .before .before .before .before .args in
+    let start = c .before .before .before .before in
+    let a = start .args in
+    let typed = shaped (a .s) (start .good .0) in
+    let u32 = start .good .1 .1 .0 .1 .1 .0 .1 in
     let here = sym (c .before .before .in-table .ensures) ∙ not-false (c .before .before .in-table .result) (c .before .if1 .left) in
-    let cell = c .packet-of .ensures ∙ ack-cell (a .s) (a .slot) (a .time) (a .seq .0) (shaped (a .s) (c .before .before .before .before .good .0)) (c .before .before .before .before .good .1 .1 .1 .0 .1 .1 .0 .1) (c .before .before .before .before .pre) here in
-    (rw cell (ack-fits (a .s) (a .slot) (a .time) (a .seq .0) (shaped (a .s) (c .before .before .before .before .good .0)) (c .before .before .before .before .good .1 .1 .1 .0 .1 .1 .0 .1) (c .before .before .before .before .pre) here), ack-sound (a .s) (a .slot) (a .time) (a .seq .0) (c .before .before .before .before .pre) .packet-count)
+    let cell = c .packet-of .ensures ∙ looked-cell (a .s) typed (start .pre) (a .seq .0) u32 here in
+    (rw cell (ack-fits (a .s) (a .seq .0) typed (start .pre) u32 here), start .pre .packet-count)
 
 returns-2 : tie.Need-returns-2
 unfolding ackedTx
 returns-2 c =
-    let a = c .before .before .before .before .before .args in
+    let start = c .before .before .before .before .before in
+    let a = start .args in
     let here = sym (c .before .before .before .in-table .ensures) ∙ not-false (c .before .before .before .in-table .result) (c .before .before .if1 .left) in
-    let cell = c .before .packet-of .ensures ∙ ack-cell (a .s) (a .slot) (a .time) (a .seq .0) (shaped (a .s) (c .before .before .before .before .before .good .0)) (c .before .before .before .before .before .good .1 .1 .1 .0 .1 .1 .0 .1) (c .before .before .before .before .before .pre) here in
+    let cell = c .before .packet-of .ensures ∙ looked-cell (a .s) (shaped (a .s) (start .good .0)) (start .pre) (a .seq .0) (start .good .1 .1 .0 .1 .1 .0 .1) here in
     simp (here, c .settle-tx .ensures, cell)
 
 pub acked-tx-spec : {M : Type 1} → statement M

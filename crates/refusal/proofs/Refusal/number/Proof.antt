@@ -69,9 +69,6 @@ enum-told-21 c = search needs
 enum-told-22 : tie.Need-enum-told-22
 enum-told-22 c = search needs
 
-enum-told-23 : tie.Need-enum-told-23
-enum-told-23 c = search needs
-
 returns : tie.Need-returns
 returns c = simp (c .enum-told .given .1)
 
@@ -138,9 +135,6 @@ returns-21 c = simp (c .enum-told21 .given .1)
 returns-22 : tie.Need-returns-22
 returns-22 c = simp (c .enum-told22 .given .1)
 
-returns-23 : tie.Need-returns-23
-returns-23 c = simp (c .enum-told23 .given .1)
-
 pub number-spec : {M : Type 1} → statement M
 number-spec =
     tie.close
@@ -167,7 +161,6 @@ number-spec =
     enum-told-20
     enum-told-21
     enum-told-22
-    enum-told-23
     returns
     returns-2
     returns-3
@@ -189,5 +182,4 @@ number-spec =
     returns-19
     returns-20
     returns-21
-    returns-22
-    returns-23)
+    returns-22)
