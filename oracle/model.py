@@ -1,5 +1,5 @@
 #!/usr/bin/env python3
-"""Document 01 and request [1] of 02 as a model: answers the scripted calls of CALLS.md. Written from these papers alone.
+"""Document 01 and requests [1] and [9] of 02 as a model: answers the scripted calls of CALLS.md. Written from these papers alone.
 
     python3 oracle/model.py < SCRIPT
     python3 oracle/model.py --sound < SCRIPT     also asks after every call that the state is sound

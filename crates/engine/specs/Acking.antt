@@ -96,7 +96,7 @@ unfoldable pub ackedState : State → ℕ → ℕ → ℕ → State
 unfolding ackedRow ackedTx
 ackedState s slot time a = withParts s (set (s .links) slot (ackedRow s slot time a)) (sweptTx (ackedTx s slot a)) (s .rx) time
 
--- 1, 3 and 4 alone: that the place looked at holds another number is given for no input (document 02, [9])
+-- refused with 1, 3 and 4 alone: the place that is looked at holds no other number than a (document 02, [9])
 unfoldable pub ackOf : State → ℕ → ℕ → ℕ → Changed
 unfolding ackedState
 ackOf s slot time a = changedBy (timedVerdict s slot time Pass) s (ackedState s slot time a)
