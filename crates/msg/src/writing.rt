@@ -145,13 +145,15 @@ fn parts_of(msg: LinkMsg) -> Parts
     }
 }
 
-// Fills a part with test data.
+// Fills a part with test data: a counter that goes back to zero after 255 needs no remainder for each byte.
 fn fill(part: &mut [u8])
     ensures { λ _. ⌜ now (part .exit) ≡ pattern (length (now (part .entry))) ⌝ }
 {
     let mut i = 0;
+    let mut next: u8 = 0;
     while i < part.len() {
-        part[i] = (i % 256) as u8;
+        part[i] = next;
+        next = if next == 255 { 0 } else { next + 1 };
         i += 1;
     }
 }
