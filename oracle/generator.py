@@ -26,6 +26,7 @@ from model import (
     USABLE_INTERVAL,
     WRAP,
     Model,
+    pattern,
 )
 
 # Every number of a script is at most this far from its start, so that no two are 2^30 apart: document 01 and the original
@@ -485,10 +486,20 @@ class Script:
         if message[0] in (1, 2):
             return kind + b"LIAG\0\4" + self.random.randbytes(self.pick(0, 0, 1, 58, 80))
         if message[0] == 13:
-            return kind + self.random.randbytes(min(message[1], 2047))
+            return kind + self.test_data(min(message[1], 2047))
         if message[0] in (4, 14):
             return kind + bytes(message[1:])
         return kind + b"".join(number.to_bytes(4, "big") for number in message[1:])
+
+    def test_data(self, size):
+        """The pattern, as a rule; else with a bit turned, at an edge or anywhere, or other bytes."""
+        content = bytearray(pattern(size))
+        if not size or self.chance(0.6):
+            return content
+        if self.chance(0.2):
+            return self.pick(self.random.randbytes(size), bytes(size), pattern(size + 1)[1:])
+        content[min(size - 1, self.pick(0, 1, 254, 255, 256, 257, size - 1, self.below(size)))] ^= 1 << self.below(8)
+        return content
 
     # What is refused before anything is looked at, and what is no call.
 

@@ -1,5 +1,5 @@
 #!/usr/bin/env python3
-"""Document 01 and requests [1] and [9] of 02 as a model: answers the scripted calls of CALLS.md. Written from these papers alone.
+"""Document 01 and requests [1], [9] and [11] of 02 as a model: answers the scripted calls of CALLS.md. Written from these papers alone.
 
     python3 oracle/model.py < SCRIPT
     python3 oracle/model.py --sound < SCRIPT     also asks after every call that the state is sound
@@ -507,6 +507,11 @@ ALONE = (3, 5, 6, 15, 16)
 OPENING = b"LIAG\0\4"
 
 
+def pattern(size):
+    """The bytes of a TestData."""
+    return bytes(n % 256 for n in range(size))
+
+
 def read_message(frame):
     """The words of the message that all of the frame is."""
     kind, body = frame[:1], frame[1:]
@@ -521,7 +526,7 @@ def read_message(frame):
         return [kind, int.from_bytes(body, "big")]
     if kind == CONSUMED and len(body) == 8:
         return [kind, int.from_bytes(body[:4], "big"), int.from_bytes(body[4:], "big")]
-    if kind == TEST_DATA and len(body) <= MOST_DATA:
+    if kind == TEST_DATA and len(body) <= MOST_DATA and body == pattern(len(body)):
         return [kind, len(body)]
     if kind == SET_BLOCK and len(body) == 1 and body[0] <= 1:
         return [kind, body[0]]
@@ -534,7 +539,7 @@ def write_message(room, message):
     if kind in HANDSHAKES or (kind == TEST_DATA and rest[0] > MOST_DATA):
         raise Refused(20)
     if kind == TEST_DATA:
-        body = bytes(n % 256 for n in range(rest[0]))
+        body = pattern(rest[0])
     elif kind in (REFUSED, SET_BLOCK):
         body = bytes(rest)
     else:

@@ -18,6 +18,7 @@ from model import (
     WRAP,
     Refused,
     distance,
+    pattern,
     read_message,
 )
 
@@ -222,8 +223,14 @@ def zeros(head, size):
 
 
 def test_data(size):
-    """The content isn't looked at."""
-    return zeros(b"%02x" % TEST_DATA, 1 + size)
+    return b"%02x" % TEST_DATA + pattern(size).hex().encode()
+
+
+def damaged(size, place):
+    """TestData with the last bit of one byte turned."""
+    digits = 2 + 2 * place
+    frame = test_data(size)
+    return frame[:digits] + b"%02x" % (place % 256 ^ 1) + frame[digits + 2 :]
 
 
 # Frames without a number, each kind but Ack and TestData.
@@ -233,7 +240,7 @@ UNNUMBERED += [b"01" + OPENING, b"02" + OPENING, b"01" + OPENING + b"ff", zeros(
 # Good lines at their greatest length, or one byte below it.
 LONG_GOOD = [test_data(MOST_DATA), test_data(MOST_DATA - 1), zeros(b"01" + OPENING, 1040), zeros(b"02" + OPENING, 1039)]
 
-# Digits that are no message: lengths, kinds, reasons and flags beside those that are, and broken openings.
+# Digits that are no message: lengths, kinds, reasons and flags beside those that are, broken openings, test data off its pattern.
 NO_MESSAGE = [b"", b"00", b"11", b"ff", b"0000000000", b"1100000000", b"04", b"0400", b"0405", b"040101", b"0300", b"0500", b"0600"]
 NO_MESSAGE += [b"0e", b"0e02", b"0eff", b"0e0000", b"0f00", b"1000", b"01", b"02", b"0100000000"]
 NO_MESSAGE += [kind + b"000000" for kind in (b"07", b"08", b"0a", b"0b", b"0c")]
@@ -241,6 +248,8 @@ NO_MESSAGE += [kind + b"0000000000" for kind in (b"07", b"08", b"0a", b"0b", b"0
 NO_MESSAGE += [b"0900000000", b"0900000000000000", b"09000000000000000000"]
 NO_MESSAGE += [b"014c49414700", b"014c4941470003", b"024c4941470005", b"014c4941470104", b"024d4941470004"]
 NO_MESSAGE += [b"024c4841470004", b"014c4940470004", b"014c4941460004", b"034c4941470004", b"014c49414704"]
+
+NO_MESSAGE += [damaged(1, 0), damaged(2, 1), damaged(257, 0), damaged(257, 256), damaged(MOST_DATA, MOST_DATA - 1)]
 
 # Too long for their kind, or for any frame.
 LONG_BAD = [test_data(MOST_DATA + 1), zeros(b"0d", 1040), zeros(b"01" + OPENING, 1041), zeros(b"02" + OPENING, 1042)]
@@ -683,7 +692,7 @@ class Cases:
 
     def frames(self):
         case, good = self.case, [finish(0)]
-        # Each frame that is no message: a wrong length, kind, reason, flag or opening.
+        # Each frame that is no message: a wrong length, kind, reason, flag or opening, or test data off its pattern.
         for frame in NO_MESSAGE:
             case([finish(1), frame], good)
         # An odd number of digits: of a number, of a kind.

@@ -1,5 +1,6 @@
 #!/usr/bin/env python3
-"""What the replay program answers, by document 01 alone: "The replay program", "Message bytes (002)", "Receive" and "Hand out".
+"""What the replay program answers, by document 01 and request [11] of 02 alone: "The replay program", "Message bytes (002)", "Receive"
+and "Hand out".
 
 It is a model of its own: nothing here is taken from the crates. `input` writes the hand-made cases, `answers` the answers to what
 it reads from standard input. From the root of the repository:
@@ -25,6 +26,11 @@ def number(four):
     return int.from_bytes(four, "big")
 
 
+def pattern(size):
+    """"bytes 0, 1, 2 .. each modulo 256": what a TestData must hold, by request [11] of document 02."""
+    return bytes(n % 256 for n in range(size))
+
+
 def reading(frame):
     """What a frame reads as: kind, number and count, or None for bytes that are not a message."""
     if not frame:
@@ -41,7 +47,7 @@ def reading(frame):
     if kind == CONSUMED:
         return (kind, number(body[:4]), number(body[4:])) if len(body) == 8 else None
     if kind == 13:
-        return (kind, 0, 0) if len(body) <= 1024 else None
+        return (kind, 0, 0) if len(body) <= 1024 and body == pattern(len(body)) else None
     if kind == 14:
         return (kind, 0, 0) if len(body) == 1 and body[0] <= 1 else None
     return None
@@ -149,11 +155,13 @@ def cases():
     # other good frames
     yield "014c49414700" + "04"
     yield "024c49414700" + "04ffff"
-    yield from ("03", "0401", "0404", "05", "06", "0f", "10", "0d", "0d00", "0d" + "5a" * 1024, "0e00", "0e01")
+    yield from ("03", "0401", "0404", "05", "06", "0f", "10", "0d", "0d00", "0d" + pattern(1024).hex(), "0e00", "0e01")
     yield from numbered(8, 12)
     # bad frames: no message, none of the lengths, handshakes of another head
     yield from ("00", "11", "ff", "0400", "0405", "0e02", "0300", "07", "07000000", "0700000000aa", "090000000c")
     yield from ("0900000000000000000000", "0d" + "00" * 1025, "014c49414700" + "05", "014c494147")
+    # bad frames: TestData of a byte too many, and off its pattern at the first byte, at the 257th and at the last
+    yield from ("0d" + pattern(1025).hex(), "0d01", "0d" + pattern(256).hex() + "01", "0d" + pattern(1023).hex() + "fe")
     # not digits: upper case, an odd number, a blank line, a line of CR, digits with a CR, a space, a sign, bytes past 127
     yield from ("0F", "0e0", "", "\r", "05\r", " 05", "05 ", "0x05", "+5", "0g", "05:", "0`", "0/", "é5")
     # a bad frame takes no payload line with it: the next line is a frame

@@ -2,13 +2,11 @@
 -- nothing.
 use mathlib.Core.Bool.{Bool, true, false, cond, _&&_}
 use mathlib.Core.List.{List, [], _∷_}
-use Prim.Native.Nat.{ℕ, zero, suc, _+_, _^_, _<_}
+use Prim.Native.Nat.{ℕ, _+_, _^_, _<_}
 use native.Mathlib.Omega.{arith}
 use lib.Dec.{eqb, leb}
-use lib.ListN.{length, getD}
+use lib.ListN.{length}
 use borrow.Table.Steps.{cases}
-use Rattle.seq.specs.declared.Seq.{Seq}
-use Rattle.seq.specs.Numbers.{seqOf}
 use Rattle.msg.specs.declared.link_msg.LinkMsg.{LinkMsg}
 use Rattle.msg.specs.declared.link_msg.LinkMsg.the-variants as links
 use Rattle.msg.specs.declared.reading.Reading.{Reading}
@@ -17,7 +15,9 @@ use Rattle.msg.specs.declared.reliable.ReliableMsg.{ReliableMsg}
 use Rattle.msg.specs.declared.reliable.ReliableMsg.the-variants as reliable
 use Rattle.msg.specs.declared.reliable.FromLink.{FromLink}
 use Rattle.msg.specs.declared.reliable.FromLink.the-variants.{Reliable, Other}
-use Rattle.msg.specs.Reading.{bad, numberAt, opensWith, magic, reasons, blocks, exactly, readHandshake, readAlone, readRefused, readNumbered, readConsumed, readTestData, readSetBlock, readKind, readers, readNone, readOf}
+use Rattle.msg.specs.Reading.{bad, readOf}
+use Rattle.msg.specs.RoundTrip.{Ranged}
+use Rattle.msg.specs.Encoding.{Bytes, Answers, answers, number-small}
 use Rattle.msg.specs.Reliable.{fromLink}
 use Rattle.text.specs.HexRun.{spells, spelt}
 use Rattle.recording.specs.Lines.{linesOf}
@@ -33,14 +33,6 @@ use Rattle.comparing.specs.declared.messages.Start.the-variants as start
 use Rattle.comparing.specs.Messages.{startLine, startIn, startOf, foundReliable, foundCarried, foundReading, foundPayload, lineFound, Body, bodyAs, bodyFrom, bodyAfter, bodyIn, bodyOf, spelt-small}
 use Rattle.comparing.specs.Says.{Sane}
 
-abbrev Bytes : List ℕ → Type 0
-Bytes bytes = (k : ℕ) → getD bytes k 0 < 256
-
--- four bytes make 32 bits
-number-small : (bytes : List ℕ) (at : ℕ) → Bytes bytes → numberAt bytes at < 2 ^ 32
-unfolding numberAt
-number-small bytes at small = omega (arith, small at, small (at + 1), small (at + 2), small (at + 3))
-
 -- ---- what a frame reads as: the number that it carries, if any, is of 32 bits
 
 abbrev SmallCarried : FromLink → Type 0
@@ -51,70 +43,35 @@ abbrev SmallRead : Reading → Type 0
 SmallRead (readings.Message msg) = SmallCarried (fromLink msg)
 SmallRead (readings.No e) = Unit {0}
 
+carried-small : (msg : LinkMsg) → Ranged msg → SmallCarried (fromLink msg)
+carried-small links.Welcome small = tt
+carried-small links.Connect small = tt
+carried-small links.Accepted small = tt
+carried-small (links.Refused reason) small = tt
+carried-small links.Ping small = tt
+carried-small links.Pong small = tt
+carried-small (links.Data seq) small = small
+carried-small (links.Ack received) small = tt
+carried-small (links.Consumed seq consumed) small = small .0
+carried-small (links.SendFinish seq) small = small
+carried-small (links.ReceiveClose seq) small = small
+carried-small (links.ReceiveFinish seq) small = small
+carried-small (links.TestData size) small = tt
+carried-small (links.SetBlock blocked) small = tt
+carried-small links.Goodbye small = tt
+carried-small links.Terminate small = tt
+
+answer-small : (bytes : List ℕ) (r : Reading) → Answers bytes r → Bytes bytes → SmallRead r
+answer-small bytes (readings.Message msg) says small = carried-small msg (says small .0)
+answer-small bytes (readings.No e) says small = tt
+
 either : (b : Bool) (x : Reading) → SmallRead x → SmallRead (cond b x bad)
 either true x small = small
 either false x small = tt
 
-whole : (n : ℕ) (body : List ℕ) (x : Reading) → SmallRead x → SmallRead (exactly n body x)
-unfolding exactly
-whole n body x small = either (eqb (length body) n) x small
-
--- what holds of each element and of the default holds at every index
-abbrev Each : {A : Type 0} → (A → Type 0) → List A → Type 0
-Each P [] = Unit {0}
-Each P (x ∷ l) = P x × Each P l
-
-at-each : {A : Type 0} (P : A → Type 0) (l : List A) (d : A) (i : ℕ) → Each P l → P d → P (getD l i d)
-at-each P [] d i all last = last
-at-each P (x ∷ l) d zero all last = all .0
-at-each P (x ∷ l) d (suc i) all last = at-each P l d i (all .1) last
-
-abbrev SmallReader : (List ℕ → Reading) → Type 0
-SmallReader reader = (body : List ℕ) → Bytes body → SmallRead (reader body)
-
-handshakes : (msg : LinkMsg) → SmallRead (readings.Message msg) → SmallReader (readHandshake msg)
-unfolding readHandshake
-handshakes msg small body bytes = either (opensWith magic body && eqb (getD body 5 0) 4) (readings.Message msg) small
-
-alone : (msg : LinkMsg) → SmallRead (readings.Message msg) → SmallReader (readAlone msg)
-unfolding readAlone
-alone msg small body bytes = whole 0 body (readings.Message msg) small
-
-refusals : SmallReader readRefused
-unfolding readRefused
-refusals body bytes = whole 1 body (getD reasons (getD body 0 0) bad) (at-each SmallRead reasons bad (getD body 0 0) (tt, (tt, (tt, (tt, (tt, tt))))) tt)
-
-numbered : (msg : Seq → LinkMsg) → ((n : ℕ) → n < 2 ^ 32 → SmallRead (readings.Message (msg (seqOf n)))) → SmallReader (readNumbered msg)
-unfolding readNumbered
-numbered msg small body bytes = whole 4 body (readings.Message (msg (seqOf (numberAt body 0)))) (small (numberAt body 0) (number-small body 0 bytes))
-
-consumed : SmallReader readConsumed
-unfolding readConsumed
-consumed body bytes = whole 8 body (readings.Message (links.Consumed (seqOf (numberAt body 0)) (numberAt body 4))) (number-small body 0 bytes)
-
-tested : SmallReader readTestData
-unfolding readTestData
-tested body bytes = either (leb (length body) 1024) (readings.Message (links.TestData (length body))) tt
-
-blocked : SmallReader readSetBlock
-unfolding readSetBlock
-blocked body bytes = whole 1 body (getD blocks (getD body 0 0) bad) (at-each SmallRead blocks bad (getD body 0 0) (tt, (tt, tt)) tt)
-
-none : SmallReader readNone
-none body bytes = tt
-
-each-reader : Each SmallReader readers
-each-reader =
-    (none, (handshakes links.Welcome tt, (handshakes links.Connect tt, (alone links.Accepted tt, (refusals, (alone links.Ping tt, (alone links.Pong tt, (numbered links.Data (λ n h. h), (numbered links.Ack (λ n h. tt), (consumed, (numbered links.SendFinish (λ n h. h), (numbered links.ReceiveClose (λ n h. h), (numbered links.ReceiveFinish (λ n h. h), (tested, (blocked, (alone links.Goodbye tt, (alone links.Terminate tt, tt)))))))))))))))))
-
-read-small : (bytes : List ℕ) → Bytes bytes → SmallRead (readOf bytes)
-unfolding readOf readKind
-read-small [] small = tt
-read-small (kind ∷ body) small = at-each SmallReader readers readNone kind each-reader none body (λ k. small (suc k))
-
 frame-small : (line : List ℕ) → SmallRead (frameOf line)
 unfolding frameOf
-frame-small line = either (leb (length line) 2080 && spells line) (readOf (spelt line)) (read-small (spelt line) (spelt-small line))
+frame-small line = either (leb (length line) 2080 && spells line) (readOf (spelt line)) (answer-small (spelt line) (readOf (spelt line)) (answers (spelt line)) (spelt-small line))
 
 -- ---- the messages of the lines
 

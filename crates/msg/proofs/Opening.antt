@@ -1,4 +1,4 @@
--- `opensWith` of what is left of a head and of the bytes, as the loop of `opens_with` goes through both. Assumes nothing.
+-- `opensWith` of what is left of a head and of the bytes, as the loops of `opens_with` and `is_pattern` go through both. Assumes nothing.
 use mathlib.Core.Path.{_≡_, refl, sym, ap, _∙_}
 use mathlib.Core.Bool.{true, false, _&&_}
 use mathlib.Core.List.{List, [], _∷_}

@@ -3,3 +3,4 @@ pub mod Reading
 pub mod Writing
 pub mod Reliable
 pub mod RoundTrip
+pub mod Encoding

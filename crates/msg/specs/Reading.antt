@@ -12,7 +12,7 @@ use Rattle.seq.specs.Numbers.{seqOf}
 use Rattle.msg.specs.declared.link_msg.RefusedReason.the-variants.{Closed, NotListening, ConnectionRefused, LinkRefused}
 use Rattle.msg.specs.declared.link_msg.LinkMsg.{LinkMsg}
 use Rattle.msg.specs.declared.link_msg.LinkMsg.the-variants.{Welcome, Connect, Accepted, Refused, Ping, Pong, Data, Ack, Consumed, SendFinish, ReceiveClose, ReceiveFinish, TestData, SetBlock, Goodbye, Terminate}
-use Rattle.msg.specs.Messages.{valuesOf}
+use Rattle.msg.specs.Messages.{pattern, valuesOf}
 use Rattle.msg.specs.declared.reading.Reading.{Reading}
 use Rattle.msg.specs.declared.reading.Reading.the-variants.{Message, No}
 
@@ -72,9 +72,13 @@ readNumbered msg body = exactly 4 body (Message (msg (seqOf (numberAt body 0))))
 unfoldable pub readConsumed : List ℕ → Reading
 readConsumed body = exactly 8 body (Message (Consumed (seqOf (numberAt body 0)) (numberAt body 4)))
 
--- "TestData of size up to 1,024"; "TestData's content isn't looked at (P)"
+-- "TestData of size up to 1,024". Document 02, [11], in place of "TestData's content isn't looked at (P)": "Reading now demands
+-- the written pattern", "20, for the first byte off the pattern, after the size limit has been checked"
 unfoldable pub readTestData : List ℕ → Reading
-readTestData body = cond (leb (length body) 1024) (Message (TestData (length body))) bad
+readTestData body =
+    cond (leb (length body) 1024)
+    (cond (opensWith (pattern (length body)) body) (Message (TestData (length body))) bad)
+    bad
 
 -- "SetBlock, 0 or 1": what each byte reads as, from 0
 abbrev pub blocks : List Reading

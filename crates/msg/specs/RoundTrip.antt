@@ -6,9 +6,11 @@ use Prim.Native.Nat.{ℕ, zero, suc, _+_, _*_, _/_, _%_, _^_, _≤_, _<_}
 use native.Mathlib.Nat.{div-add-mod', div-div-eq-div-mul, mod-eq-of-lt}
 use native.Mathlib.Numerals.{add-one}
 use native.Mathlib.Omega.{arith}
-use lib.ListN.{length, take, drop, length-append}
-use lib.Seq.{take-at}
-use borrow.Author.Tests.{le-leb}
+use lib.ListN.{length, take, drop, getD, length-append, List·getD-append}
+use lib.Seq.{take-at, getD-at}
+use lib.Dec.{ltb}
+use borrow.Author.Tests.{ltb-true, ltb-false, le-leb, eq-eqb}
+use borrow.Table.Steps.{cases}
 use Rattle.seq.specs.declared.Seq.{Seq}
 use Rattle.seq.specs.Numbers.{seqOf}
 use Rattle.msg.specs.declared.link_msg.RefusedReason.{RefusedReason}
@@ -17,7 +19,7 @@ use Rattle.msg.specs.declared.link_msg.LinkMsg.{LinkMsg}
 use Rattle.msg.specs.declared.link_msg.LinkMsg.the-variants.{Welcome, Connect, Accepted, Refused, Ping, Pong, Data, Ack, Consumed, SendFinish, ReceiveClose, ReceiveFinish, TestData, SetBlock, Goodbye, Terminate}
 use Rattle.msg.specs.declared.reading.Reading.the-variants.{Message}
 use Rattle.msg.specs.Messages.{be32, pattern, bytesOf, handshake}
-use Rattle.msg.specs.Reading.{bad, numberAt, exactly, readAlone, readRefused, readNumbered, readConsumed, readTestData, readSetBlock, readKind, readOf}
+use Rattle.msg.specs.Reading.{bad, numberAt, exactly, opensWith, readAlone, readRefused, readNumbered, readConsumed, readTestData, readSetBlock, readKind, readOf}
 use Rattle.msg.specs.Writing.{writable, bufferOf}
 use Rattle.refusal.specs.Tests.{false-true}
 
@@ -62,6 +64,21 @@ unfolding pattern
 length-pattern zero = refl
 length-pattern (suc n) = length-append (pattern n) (n % 256 ∷ []) ∙ ap (λ k. k + 1) (length-pattern n) ∙ add-one n
 
+-- the byte at a place is the place's remainder
+pub pattern-at : (n i : ℕ) → i < n → getD (pattern n) i 0 ≡ i % 256
+unfolding pattern
+pattern-at zero i h = absurd (omega arith)
+pattern-at (suc n) i h =
+    cases (ltb i n)
+    (λ t. let before = ltb-true i n t in List·getD-append (pattern n) (n % 256 ∷ []) 0 i (omega (arith, before, length-pattern n)) ∙ pattern-at n i before)
+    (λ t. let last : i ≡ n = omega (arith, ltb-false i n t) in getD-at (pattern n) (n % 256) [] 0 i (length-pattern n ∙ sym last) ∙ ap (λ k. k % 256) (sym last))
+
+-- bytes open with themselves
+opens-itself : (bytes : List ℕ) → opensWith bytes bytes ≡ true
+unfolding opensWith
+opens-itself [] = refl
+opens-itself (b ∷ bytes) = simp (eq-eqb b b refl) (opens-itself bytes)
+
 consumed-back : (seq : Seq) (consumed : ℕ) → (seq .0 < 2 ^ 32) × (consumed < 2 ^ 32) → readConsumed (be32 (seq .0) ++ be32 consumed) ≡ Message (Consumed seq consumed)
 unfolding readConsumed exactly be32 numberAt
 consumed-back seq consumed r = simp (four-bytes (seq .0) (r .0), four-bytes consumed (r .1))
@@ -93,7 +110,7 @@ reads-back (Consumed seq consumed) r w = consumed-back seq consumed r
 reads-back (SendFinish seq) r w = numbered-back SendFinish seq r
 reads-back (ReceiveClose seq) r w = numbered-back ReceiveClose seq r
 reads-back (ReceiveFinish seq) r w = numbered-back ReceiveFinish seq r
-reads-back (TestData size) r w = simp (length-pattern, w)
+reads-back (TestData size) r w = simp (length-pattern, opens-itself, w)
 reads-back (SetBlock blocked) r w = block-back blocked
 reads-back Goodbye r w = refl
 reads-back Terminate r w = refl

@@ -5,8 +5,9 @@ use refusal::Refusal;
 use seq::Seq;
 ghost use mathlib.Core.Path.{_≡_};
 ghost use Prim.Native.Nat.{_≤_};
-ghost use lib.ListN.{getD};
+ghost use lib.ListN.{length, getD};
 ghost use Rattle.seq.specs.Numbers.{seqOf};
+ghost use Rattle.msg.specs.Messages.{pattern};
 ghost use Rattle.msg.specs.Reading.{bad, reasons, blocks, numberAt, exactly, opensWith, readHandshake, readAlone, readRefused, readConsumed, readTestData, readSetBlock, readKind, readOf, readingTold, readTold};
 
 // What reading answers.
@@ -120,11 +121,31 @@ fn consumed(body: &[u8]) -> Reading
     )
 }
 
+// Whether all bytes are test data: a counter that goes back to zero after 255, as in filling, is held against each.
+fn is_pattern(bytes: &[u8]) -> bool
+    ensures { λ r. ⌜ r ≡ opensWith (pattern (length (now (bytes .entry)))) (now (bytes .entry)) ⌝ }
+{
+    let mut i = 0;
+    let mut next: u8 = 0;
+    while i < bytes.len() {
+        if bytes[i] != next {
+            return false;
+        }
+        next = if next == 255 { 0 } else { next + 1 };
+        i += 1;
+    }
+    true
+}
+
+// The size is judged first, so that no byte past the limit is looked at.
 fn test_data(body: &[u8]) -> Reading
     ensures { λ r. ⌜ r ≡ readTestData (now (body .entry)) ⌝ }
 {
     let size = body.len();
-    if size <= LinkMsg::MAX_TEST_DATA {
+    if size > LinkMsg::MAX_TEST_DATA {
+        return Reading::No(Refusal::Bytes);
+    }
+    if is_pattern(body) {
         Reading::Message(LinkMsg::TestData { size })
     } else {
         Reading::No(Refusal::Bytes)

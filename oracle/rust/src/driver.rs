@@ -643,11 +643,12 @@ fn handshake(kind: u8) -> LinkMsg {
     }
 }
 
-/// Whether the original reads what document 01 refuses: bytes after the message, a flag above 1, too much test data.
+/// Whether the original reads what document 01 or request [11] refuses: bytes after the message, a flag above 1, too much test data,
+/// test data off its pattern. But for the size, what it reads so is written otherwise.
 fn reads_laxly(bytes: &[u8]) -> bool {
     match LinkMsg::read(bytes) {
         Ok(LinkMsg::Welcome { .. } | LinkMsg::Connect { .. }) | Err(_) => false,
-        Ok(LinkMsg::TestData { size }) => size > MOST_TEST_DATA,
+        Ok(LinkMsg::TestData { size }) if size > MOST_TEST_DATA => true,
         Ok(message) => message.encode() != bytes,
     }
 }
