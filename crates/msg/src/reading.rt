@@ -121,8 +121,10 @@ fn consumed(body: &[u8]) -> Reading
     )
 }
 
-// Whether all bytes are test data: a counter that goes back to zero after 255, as in filling, is held against each.
+// Whether all bytes are test data: a counter that goes back to zero after 255, as in filling, is held against each. It asks for
+// what the size limit lets through, so that nobody can call it before the size is judged.
 fn is_pattern(bytes: &[u8]) -> bool
+    requires { ⌜ length (now bytes) ≤ 1024 ⌝ }
     ensures { λ r. ⌜ r ≡ opensWith (pattern (length (now (bytes .entry)))) (now (bytes .entry)) ⌝ }
 {
     let mut i = 0;
