@@ -1,12 +1,14 @@
 #!/usr/bin/env python3
-"""What the replay program answers, by document 01 and request [11] of 02 alone: "The replay program", "Message bytes (002)", "Receive"
-and "Hand out".
+"""What the replay program answers, by document 01 and requests [2] and [11] of 02 alone: "The replay program", "Message bytes (002)",
+"Receive" and "Hand out".
 
 It is a model of its own: nothing here is taken from the crates. `input` writes the hand-made cases, `answers` the answers to what
 it reads from standard input. From the root of the repository:
 
     python3 oracle/replay.py input > crates/replay/stdin
     python3 oracle/replay.py answers < crates/replay/stdin > crates/replay/stdout
+
+Input in pieces (`Replay`) is a second model: it sees a line when it ends, and oracle/cuttings holds it against the whole.
 """
 
 import sys
@@ -14,6 +16,7 @@ import sys
 WRAP = 2**32
 RECEIVE_BUFFER = 65_536
 DATA, ACK, CONSUMED, SEND_FINISH, RECEIVE_CLOSE, RECEIVE_FINISH = 7, 8, 9, 10, 11, 12
+RELIABLE = (CONSUMED, SEND_FINISH, RECEIVE_CLOSE, RECEIVE_FINISH)
 BAD = 20
 
 
@@ -122,12 +125,75 @@ def answers(data):
                 answer = BAD
             else:
                 answer = end.receive(DATA, read[1], 0, len(payload))
-        elif read[0] in (CONSUMED, SEND_FINISH, RECEIVE_CLOSE, RECEIVE_FINISH):
+        elif read[0] in RELIABLE:
             answer = end.receive(*read, 0)
         else:
             answer = 0
         end.take_all()
         yield answer, end.expected
+
+
+LINE_TEXT = 12
+
+
+def line_of(answer, expected):
+    """"answer in two hex digits, a space, next expected number in eight"."""
+    return b"%02x %08x\n" % (answer, expected)
+
+
+def text_of(data):
+    """What the program writes for a whole input."""
+    return b"".join(line_of(*one) for one in answers(data))
+
+
+class Replay:
+    """A replay that is handed its input in pieces, cut anywhere."""
+
+    def __init__(self):
+        self.end = End()
+        self.line = b""
+        self.waiting = None  # the number of a Data whose payload is the next line
+
+    def answer(self, line):
+        """The text of a line that has ended; of a Data's frame, none yet."""
+        found = bytes_of(line)
+        if self.waiting is not None:
+            number, self.waiting = self.waiting, None
+            bad = found is None or len(found) > 1024
+            return self.told(BAD if bad else self.end.receive(DATA, number, 0, len(found)))
+        read = None if found is None or len(found) > 1040 else reading(found)
+        if read is not None and read[0] == DATA:
+            self.waiting = read[1]
+            return b""
+        if read is None:
+            return self.told(BAD)
+        return self.told(self.end.receive(*read, 0) if read[0] in RELIABLE else 0)
+
+    def told(self, answer):
+        self.end.take_all()
+        return line_of(answer, self.end.expected)
+
+    def feed(self, piece, room):
+        """How many bytes of the piece are used, and the text: no line is gone on with whose text may not fit."""
+        used, text = 0, b""
+        while used < len(piece) and len(text) + LINE_TEXT <= room:
+            end = piece.find(b"\n", used)
+            if end < 0:
+                self.line += piece[used:]
+                return len(piece), text
+            line, self.line = self.line + piece[used:end], b""
+            text += self.answer(line)
+            used = end + 1
+        return used, text
+
+    def close(self):
+        """The text of a last line without a line feed, or of an absent payload."""
+        text = self.answer(self.line) if self.line else b""
+        if self.waiting is not None:
+            self.waiting = None
+            text = self.told(BAD)
+        self.line = b""
+        return text
 
 
 def data(n, payload):
@@ -162,8 +228,8 @@ def cases():
     yield from ("0900000000000000000000", "0d" + "00" * 1025, "014c49414700" + "05", "014c494147")
     # bad frames: TestData of a byte too many, and off its pattern at the first byte, at the 257th and at the last
     yield from ("0d" + pattern(1025).hex(), "0d01", "0d" + pattern(256).hex() + "01", "0d" + pattern(1023).hex() + "fe")
-    # not digits: upper case, an odd number, a blank line, a line of CR, digits with a CR, a space, a sign, bytes past 127
-    yield from ("0F", "0e0", "", "\r", "05\r", " 05", "05 ", "0x05", "+5", "0g", "05:", "0`", "0/", "é5")
+    # not digits: upper case, an odd number, a blank line, a line of CR or NUL, digits with one, a space, a sign, bytes past 127
+    yield from ("0F", "0e0", "", "\r", "05\r", "\0", "05\0", " 05", "05 ", "0x05", "+5", "0g", "05:", "0`", "0/", "é5")
     # a bad frame takes no payload line with it: the next line is a frame
     yield from ("070000000C", "05", "0700000", "05")
     # 1,040 bytes of a frame that reads as Connect, whatever follows its head, and 1,041; and 2,081 digits
@@ -193,16 +259,18 @@ def cases():
     yield from data(80, "7e" * 1025) + data(80, "7e" * 1024)
     # and once more, since all of it was taken
     yield from data(144, "7e" * 1024) + data(145, "7e")
-    # the last line: a Data without its payload
+    # more answers than the program's buffer has room for: 4,096 bytes are 341 lines
+    for _ in range(1000):
+        yield "05"
+    # the last line, without a line feed: a Data without its payload
     yield from numbered(7, 146)
 
 
 def main():
     if sys.argv[1:] == ["input"]:
-        sys.stdout.buffer.write("".join(line + "\n" for line in cases()).encode())
+        sys.stdout.buffer.write("\n".join(cases()).encode())
     elif sys.argv[1:] == ["answers"]:
-        for answer, expected in answers(sys.stdin.buffer.read()):
-            print(f"{answer:02x} {expected:08x}")
+        sys.stdout.buffer.write(text_of(sys.stdin.buffer.read()))
     else:
         sys.exit(__doc__)
 

@@ -1,2 +1,4 @@
 pub mod Unique
 pub mod Comparing
+pub mod NothingWaits
+pub mod TakenBytes

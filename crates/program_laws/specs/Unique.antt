@@ -5,6 +5,7 @@ use mathlib.Core.Path.{_≡_, refl, sym, _∙_}
 use mathlib.Core.Bool.{Bool}
 use mathlib.Core.List.{List}
 use Prim.Native.Nat.{ℕ}
+use lib.ListN.{length}
 use contract.Lifetimes.{Lfts}
 use denote.Ref.{now}
 use Rattle.seq.specs.declared.Seq.{Seq}
@@ -13,8 +14,10 @@ use Rattle.text.specs.declared.hex.HexRun.{HexRun}
 use Rattle.text.specs.declared.reading.Decimal.{Decimal}
 use Rattle.replaying.specs.declared.session.Replay.{Replay}
 use Rattle.replaying.specs.declared.session.Answered.{Answered}
+use Rattle.replaying.specs.declared.session.Session.{Session}
 use Rattle.replaying.specs.declared.feeding.Fed.{Fed}
-use Rattle.replaying.specs.Feeding.{session, feedOf, feedStore, feedLine}
+use Rattle.replaying.specs.declared.feeding.Closed.{Closed}
+use Rattle.replaying.specs.Feeding.{carrying, feedOf, feedStore, feedLine, feedOut}
 use Rattle.refusal.specs.declared.Refusal.{Refusal}
 use Rattle.comparing.specs.declared.comparison.Side.{Side}
 use Rattle.comparing.specs.declared.comparison.Compared.{Compared}
@@ -133,24 +136,28 @@ pub write-line : (κs κs′ : Lfts 1) (number : ℕ) (next : Seq) (out : List �
     → now (e .1 .1 .0) ≡ now (e′ .1 .1 .0)
 write-line κs κs′ number next out i i′ r r′ e e′ p q = p ∙ sym q
 
--- crates/replaying/src/feeding.rt; `e .1 .0` is the store at exit, `e .1 .1 .0` the carried line
-pub feed : (κs κs′ : Lfts 3) (replay : Replay) (store line : List ℕ) (count : ℕ) (piece : List ℕ) (at : ℕ) (i i′ j j′ k k′ : Place) (r r′ : Fed) (e : _) (e′ : _)
-    → replaying.feeding.feed.Reads.Learnt κs (replay, (lent i store, (lent j line, (count, (lent k piece, (at, tt)))))) r e
-    → replaying.feeding.feed.Reads.Learnt κs′ (replay, (lent i′ store, (lent j′ line, (count, (lent k′ piece, (at, tt)))))) r′ e′
-    → (r ≡ r′) × (now (e .1 .0) ≡ now (e′ .1 .0)) × (now (e .1 .1 .0) ≡ now (e′ .1 .1 .0))
-feed κs κs′ replay store line count piece at i i′ j j′ k k′ r r′ e e′ p q = (p .0 ∙ sym (q .0), p .1 .0 ∙ sym (q .1 .0), p .1 .1 ∙ sym (q .1 .1))
+-- crates/replaying/src/feeding.rt; `e .1 .0` is the store at exit, `e .1 .1 .0` the carried line, `e .1 .1 .1 .1 .0` the text
+pub feed : (κs κs′ : Lfts 4) (session : Session) (store line piece out : List ℕ) (i i′ j j′ k k′ l l′ : Place) (r r′ : Fed) (e : _) (e′ : _)
+    → replaying.feeding.feed.Reads.Learnt κs (session, (lent i store, (lent j line, (lent k piece, (lent l out, tt))))) r e
+    → replaying.feeding.feed.Reads.Learnt κs′ (session, (lent i′ store, (lent j′ line, (lent k′ piece, (lent l′ out, tt))))) r′ e′
+    → (r ≡ r′) × (now (e .1 .0) ≡ now (e′ .1 .0)) × (now (e .1 .1 .0) ≡ now (e′ .1 .1 .0)) × (now (e .1 .1 .1 .1 .0) ≡ now (e′ .1 .1 .1 .1 .0))
+feed κs κs′ session store line piece out i i′ j j′ k k′ l l′ r r′ e e′ p q =
+    (p .0 ∙ sym (q .0), p .1 .0 ∙ sym (q .1 .0), p .1 .1 .0 ∙ sym (q .1 .1 .0), p .1 .1 .1 ∙ sym (q .1 .1 .1))
 
--- to see what is learnt, on this call: the three `ensures` of the source, word by word
-feed-learnt : (κs : Lfts 3) (replay : Replay) (store line : List ℕ) (count : ℕ) (piece : List ℕ) (at : ℕ) (i j k : Place) (r : Fed) (e : _)
-    → replaying.feeding.feed.Reads.Learnt κs (replay, (lent i store, (lent j line, (count, (lent k piece, (at, tt)))))) r e
-    ≡ ((r ≡ feedOf (session replay store line count) piece at) × ((now (e .1 .0) ≡ feedStore (session replay store line count) piece at) × (now (e .1 .1 .0) ≡ feedLine (session replay store line count) piece at)))
-feed-learnt κs replay store line count piece at i j k r e = refl
+-- to see what is learnt, on this call: the four `ensures` of the source, word by word
+feed-learnt : (κs : Lfts 4) (session : Session) (store line piece out : List ℕ) (i j k l : Place) (r : Fed) (e : _)
+    → replaying.feeding.feed.Reads.Learnt κs (session, (lent i store, (lent j line, (lent k piece, (lent l out, tt))))) r e
+    ≡ ((r ≡ feedOf (carrying session store line) piece (length out))
+    × ((now (e .1 .0) ≡ feedStore (carrying session store line) piece (length out))
+    × ((now (e .1 .1 .0) ≡ feedLine (carrying session store line) piece (length out))
+    × (now (e .1 .1 .1 .1 .0) ≡ feedOut (carrying session store line) piece out))))
+feed-learnt κs session store line piece out i j k l r e = refl
 
-pub close : (κs κs′ : Lfts 2) (replay : Replay) (store line : List ℕ) (count : ℕ) (i i′ j j′ : Place) (r r′ : Answered) (e : _) (e′ : _)
-    → replaying.feeding.close.Reads.Learnt κs (replay, (lent i store, (lent j line, (count, tt)))) r e
-    → replaying.feeding.close.Reads.Learnt κs′ (replay, (lent i′ store, (lent j′ line, (count, tt)))) r′ e′
-    → (r ≡ r′) × (now (e .1 .0) ≡ now (e′ .1 .0))
-close κs κs′ replay store line count i i′ j j′ r r′ e e′ p q = (p .0 ∙ sym (q .0), p .1 ∙ sym (q .1))
+pub close : (κs κs′ : Lfts 3) (session : Session) (store line out : List ℕ) (i i′ j j′ k k′ : Place) (r r′ : Closed) (e : _) (e′ : _)
+    → replaying.feeding.close.Reads.Learnt κs (session, (lent i store, (lent j line, (lent k out, tt)))) r e
+    → replaying.feeding.close.Reads.Learnt κs′ (session, (lent i′ store, (lent j′ line, (lent k′ out, tt)))) r′ e′
+    → (r ≡ r′) × (now (e .1 .0) ≡ now (e′ .1 .0)) × (now (e .1 .1 .1 .0) ≡ now (e′ .1 .1 .1 .0))
+close κs κs′ session store line out i i′ j j′ k k′ r r′ e e′ p q = (p .0 ∙ sym (q .0), p .1 .0 ∙ sym (q .1 .0), p .1 .1 ∙ sym (q .1 .1))
 
 -- crates/comparing/src/comparison.rt; `e .1 .1 .0` is the list at exit
 pub compare : (κs κs′ : Lfts 3) (first second list : List ℕ) (i i′ j j′ k k′ : Place) (r r′ : Compared) (e : _) (e′ : _)

@@ -4,4 +4,6 @@ pub mod Taking
 pub mod Taken
 pub mod Line
 pub mod Feeding
+pub mod FeedLine
 pub mod Whole
+pub mod Pieces

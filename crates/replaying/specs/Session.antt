@@ -6,6 +6,7 @@ use Rattle.engine.specs.Starting.{freshOf}
 use Rattle.engine.specs.Links.{addOf}
 use Rattle.replaying.specs.declared.session.Waiting.the-variants.{Frame}
 use Rattle.replaying.specs.declared.session.Replay.{Replay}
+use Rattle.replaying.specs.declared.session.Session.{Session}
 
 -- "Start number 0, receive buffer 65,536, link 0. Time stays 0." The first link that is added is link 0; it is confirmed, and
 -- what else it is given reaches no answer.
@@ -14,3 +15,8 @@ beginning = record {
   state = addOf (freshOf 0 MAX_RECV_BUFFER .state) 0 0 Unlimited false false .state;
   waiting = Frame;
 }
+
+-- and nothing of a line is carried
+unfoldable pub begun : Session
+unfolding beginning
+begun = record { replay = beginning; count = 0 }

@@ -42,7 +42,7 @@ none-waiting true true ack = refl
 none-waiting true false ack = refl
 none-waiting false slot ack = refl
 
-no-ack : (s : State) → rowOf s 0 .«ack_count» ≡ 0 → isAck (takeAckOf s 0 .answer) ≡ false
+pub no-ack : (s : State) → rowOf s 0 .«ack_count» ≡ 0 → isAck (takeAckOf s 0 .answer) ≡ false
 unfolding takeAckOf ackAnswer takeAckVerdict oldestAck
 no-ack s e = simp (eq-eqb (rowOf s 0 .«ack_count») 0 e) (none-waiting (soundb s) (slotOk s 0) oldest.Nothing)
 
@@ -110,7 +110,7 @@ nothing-ready : (rx : Receiving) → rx .«rx_oldest» .0 ≡ rx .«rx_seq» .0 
 unfolding readyOf
 nothing-ready rx e = simp (eq-eqb (rx .«rx_oldest» .0) (rx .«rx_seq» .0) e)
 
-no-message : (s : State) → s .rx .«rx_oldest» .0 ≡ s .rx .«rx_seq» .0 → isMessage (takeOf s .answer) ≡ false
+pub no-message : (s : State) → s .rx .«rx_oldest» .0 ≡ s .rx .«rx_seq» .0 → isMessage (takeOf s .answer) ≡ false
 unfolding takeOf takeVerdict
 no-message s e =
     let ready : isReady (s .rx) ≡ false = ap isFull (nothing-ready (s .rx) e) in

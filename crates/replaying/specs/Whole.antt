@@ -1,5 +1,5 @@
--- Document 01, "The replay program", over a whole input, line by line; and that input fed in pieces, cut anywhere, says the same.
--- Assumes nothing.
+-- Document 01, "The replay program", over a whole input, line by line; and that the same input fed byte by byte, and closed, is the
+-- whole. Assumes nothing.
 use mathlib.Core.Path.{_≡_, refl, sym, _∙_, ap}
 use mathlib.Core.Bool.{Bool, true, false, cond}
 use mathlib.Core.List.{List, [], _∷_, _++_, append-nil}
@@ -24,7 +24,6 @@ use Rattle.engine.specs.Answer.{outcomeTold}
 use Rattle.engine.specs.Receiving.{receiveOf}
 use Rattle.replaying.specs.declared.session.Waiting.{Waiting}
 use Rattle.replaying.specs.declared.session.Waiting.the-variants.{Frame, Payload}
-use Rattle.replaying.specs.declared.session.Answer.{Answer}
 use Rattle.replaying.specs.declared.session.Answer.the-variants.{Nothing}
 use Rattle.replaying.specs.declared.session.Replay.{Replay}
 use Rattle.replaying.specs.declared.session.Answered.{Answered}
@@ -35,17 +34,14 @@ use Rattle.recording.specs.Lines.{linesFrom, linesOf}
 use Rattle.recording.specs.Payloads.{isPayload}
 use Rattle.replaying.specs.Taking.{ended}
 use Rattle.replaying.specs.Line.{received, awaited, afterReliable, afterCarried, afterReading, afterPayload, answerAs, answerOf, storeOf, long-answer, long-store}
-use Rattle.replaying.specs.Feeding.{Told, Session, saidBy, sessionWith, lineWith, countWith, lineAnswer, lineStore, lineEnded, byteFed, fedBy, absentOf, closeOf, closeStore, fed-append, line-long, line-short, line-long-store, line-short-store, close-none, close-last, close-none-store, close-last-store}
-
-abbrev pub toldOf : Replay → List ℕ → List Answer → Told
-toldOf r store said = record { replay = r; store = store; said = said }
+use Rattle.replaying.specs.Feeding.{Told, saidBy, toldOf, carryingWith, lineWith, countWith, lineAnswer, lineStore, lineEnded, byteFed, fedBy, absentOf, closed, line-long, line-short, line-long-store, line-short-store, close-none, close-last, close-none-store, close-last-store}
 
 -- a line, and then the others
 unfoldable pub tell : Told → List ℕ → Told
 unfolding answerOf storeOf
 tell t line =
     toldOf (answerOf (t .replay) (length (t .store)) line .replay) (storeOf (t .replay) (t .store) line)
-    (t .said ++ saidBy (answerOf (t .replay) (length (t .store)) line .answer))
+    (t .text ++ saidBy (answerOf (t .replay) (length (t .store)) line .answer))
 
 unfoldable pub tellAll : Told → List (List ℕ) → Told
 unfolding tell
@@ -58,28 +54,23 @@ silent r = record { answer = Nothing; replay = r }
 -- "a bad or absent payload .. gives hex 14"
 unfoldable pub finished : Told → Told
 unfolding absentOf
-finished t = toldOf (absentOf (silent (t .replay)) .replay) (t .store) (t .said ++ saidBy (absentOf (silent (t .replay)) .answer))
+finished t = toldOf (absentOf (silent (t .replay)) .replay) (t .store) (t .text ++ saidBy (absentOf (silent (t .replay)) .answer))
 
 -- the whole: what an input leads to from the beginning, over a received store
 unfoldable pub wholeOf : List ℕ → List ℕ → Told
 unfolding finished tellAll linesFrom beginning
 wholeOf store input = finished (tellAll (toldOf beginning store []) (linesOf input))
 
--- and the lines that are written, each a refusal number, or 0, and the next expected number
-unfoldable pub outputOf : List ℕ → List ℕ → List Answer
+-- and the text that is written, byte for byte
+unfoldable pub outputOf : List ℕ → List ℕ → List ℕ
 unfolding wholeOf
-outputOf store input = wholeOf store input .said
-
--- what a session leads to when it is closed
-unfoldable pub closed : Session → Told
-unfolding closeOf closeStore
-closed s = toldOf (closeOf s .replay) (closeStore s) (s .told .said ++ saidBy (closeOf s .answer))
+outputOf store input = wholeOf store input .text
 
 -- ---- that input fed byte by byte, and closed, is the whole
 
-told-same : {r r′ : Replay} {store store′ : List ℕ} {said said′ : List Answer} → r ≡ r′ → store ≡ store′ → said ≡ said′ → toldOf r store said ≡ toldOf r′ store′ said′
-told-same {r} {r′} {store} {store′} {said} {said′} p q e =
-    ap (λ x. toldOf x store said) p ∙ ap (λ x. toldOf r′ x said) q ∙ ap (toldOf r′ store′) e
+told-same : {r r′ : Replay} {store store′ text text′ : List ℕ} → r ≡ r′ → store ≡ store′ → text ≡ text′ → toldOf r store text ≡ toldOf r′ store′ text′
+told-same {r} {r′} {store} {store′} {text} {text′} p q e =
+    ap (λ x. toldOf x store text) p ∙ ap (λ x. toldOf r′ x text) q ∙ ap (toldOf r′ store′) e
 
 -- an answer after which a payload is awaited says nothing yet
 Quiet : Answered → Type 0
@@ -131,7 +122,7 @@ unfolding absentOf
 absent-replay Frame a e = simp e
 absent-replay (Payload seq) a e = simp e
 
-absent-said : (w : Waiting) (a : Answered) (said : List Answer) → a .replay .waiting ≡ w → Quiet a
+absent-said : (w : Waiting) (a : Answered) (said : List ℕ) → a .replay .waiting ≡ w → Quiet a
     → said ++ saidBy (absentOf a .answer) ≡ said ++ saidBy (a .answer) ++ saidBy (absentOf (silent (a .replay)) .answer)
 unfolding absentOf Quiet
 absent-said Frame a said e q = simp e (sym (append-nil (said ++ saidBy (a .answer))))
@@ -214,11 +205,11 @@ module _ (t : Told) (line : List ℕ) (count : ℕ) (l : List ℕ) (k : Carries 
       line-long-store (t .replay) (t .store) line count (k .long h)
       ∙ sym (long-store (t .replay) (t .store) l h))
 
-  carried-line : lineEnded (sessionWith t line count) ≡ sessionWith (tell t l) line 0
+  carried-line : lineEnded (carryingWith t line count) ≡ carryingWith (tell t l) line 0
   unfolding lineEnded tell
   carried-line =
-      ap (λ x. sessionWith x line 0)
-      (told-same (ap (λ a. a .replay) carried-answer) carried-store (ap (λ a. t .said ++ saidBy (a .answer)) carried-answer))
+      ap (λ x. carryingWith x line 0)
+      (told-same (ap (λ a. a .replay) carried-answer) carried-store (ap (λ a. t .text ++ saidBy (a .answer)) carried-answer))
 
   unempty : (length l ≡ 0 → ⊥) → count ≡ 0 → ⊥
   unempty h z =
@@ -226,25 +217,25 @@ module _ (t : Told) (line : List ℕ) (count : ℕ) (l : List ℕ) (k : Carries 
       (λ y. let e = k .short (leb-true (length l) 2080 y) in h (omega arith))
       (λ n. let e = k .long (leb-false (length l) 2080 n) in omega arith)
 
-  closed-none : length l ≡ 0 → closed (sessionWith t line count) ≡ finished t
+  closed-none : length l ≡ 0 → closed (carryingWith t line count) ≡ finished t
   unfolding closed finished
   closed-none h =
       let none : count ≡ 0 = k .short (omega arith) ∙ h in
-      let e = close-none (sessionWith t line count) none in
-      told-same (ap (λ x. x .replay) e) (close-none-store (sessionWith t line count) none) (ap (λ x. t .said ++ saidBy (x .answer)) e)
+      let e = close-none (carryingWith t line count) none in
+      told-same (ap (λ x. x .replay) e) (close-none-store (carryingWith t line count) none) (ap (λ x. t .text ++ saidBy (x .answer)) e)
 
-  closed-last : (length l ≡ 0 → ⊥) → closed (sessionWith t line count) ≡ finished (tell t l)
+  closed-last : (length l ≡ 0 → ⊥) → closed (carryingWith t line count) ≡ finished (tell t l)
   unfolding closed finished tell
   closed-last h =
       let a = answerOf (t .replay) (length (t .store)) l in
-      let last = close-last (sessionWith t line count) (unempty h) ∙ ap absentOf carried-answer in
+      let last = close-last (carryingWith t line count) (unempty h) ∙ ap absentOf carried-answer in
       told-same
       (ap (λ x. x .replay) last ∙ absent-replay (a .replay .waiting) a refl)
-      (close-last-store (sessionWith t line count) (unempty h) ∙ carried-store)
-      (ap (λ x. t .said ++ saidBy (x .answer)) last ∙ absent-said (a .replay .waiting) a (t .said) refl (quiet (t .replay) (length (t .store)) l))
+      (close-last-store (carryingWith t line count) (unempty h) ∙ carried-store)
+      (ap (λ x. t .text ++ saidBy (x .answer)) last ∙ absent-said (a .replay .waiting) a (t .text) refl (quiet (t .replay) (length (t .store)) l))
 
 closed-from : (t : Told) (line : List ℕ) (count : ℕ) (l input : List ℕ) → Carries line count l
-    → closed (fedBy (sessionWith t line count) input) ≡ finished (tellAll t (linesFrom l input))
+    → closed (fedBy (carryingWith t line count) input) ≡ finished (tellAll t (linesFrom l input))
 unfolding fedBy byteFed linesFrom tellAll
 closed-from t line count l [] k =
     cases (eqb (length l) 0)
@@ -253,40 +244,19 @@ closed-from t line count l [] k =
 closed-from t line count l (b ∷ rest) k =
     cases (eqb b 10)
     (λ y.
-    let step : byteFed (sessionWith t line count) b ≡ lineEnded (sessionWith t line count) = simp y in
+    let step : byteFed (carryingWith t line count) b ≡ lineEnded (carryingWith t line count) = simp y in
     let lines : linesFrom l (b ∷ rest) ≡ l ∷ linesFrom [] rest = simp y in
     ap (λ s. closed (fedBy s rest)) (step ∙ carried-line t line count l k)
     ∙ closed-from (tell t l) line 0 [] rest (carries-none line (k .sized))
     ∙ sym (ap (λ ls. finished (tellAll t ls)) lines))
     (λ n.
-    let step : byteFed (sessionWith t line count) b ≡ sessionWith t (lineWith line count b) (countWith count) = simp n in
+    let step : byteFed (carryingWith t line count) b ≡ carryingWith t (lineWith line count b) (countWith count) = simp n in
     let lines : linesFrom l (b ∷ rest) ≡ linesFrom (l ++ (b ∷ [])) rest = simp n in
     ap (λ s. closed (fedBy s rest)) step
     ∙ closed-from t (lineWith line count b) (countWith count) (l ++ (b ∷ [])) rest (carries-more line count l b k)
     ∙ sym (ap (λ ls. finished (tellAll t ls)) lines))
 
 -- an input fed from the beginning, over any buffer of 2,080 bytes, and closed, is the whole: lines, replay and store
-pub fed-is-whole : (store line input : List ℕ) → length line ≡ 2080 → closed (fedBy (sessionWith (toldOf beginning store []) line 0) input) ≡ wholeOf store input
+pub fed-is-whole : (store line input : List ℕ) → length line ≡ 2080 → closed (fedBy (carryingWith (toldOf beginning store []) line 0) input) ≡ wholeOf store input
 unfolding wholeOf
 fed-is-whole store line input h = closed-from (toldOf beginning store []) line 0 [] input (carries-none line h)
-
--- pieces in their order, and all of them as one
-unfoldable pub fedAll : Session → List (List ℕ) → Session
-unfolding fedBy
-fedAll s [] = s
-fedAll s (piece ∷ rest) = fedAll (fedBy s piece) rest
-
-abbrev pub joined : List (List ℕ) → List ℕ
-joined [] = []
-joined (piece ∷ rest) = piece ++ joined rest
-
-fed-all : (s : Session) (pieces : List (List ℕ)) → fedAll s pieces ≡ fedBy s (joined pieces)
-unfolding fedAll fedBy
-fed-all s [] = refl
-fed-all s (piece ∷ rest) = fed-all (fedBy s piece) rest ∙ sym (fed-append s piece (joined rest))
-
--- and so it is when the input comes in pieces, cut anywhere
-pub cut-is-whole : (store line : List ℕ) (pieces : List (List ℕ)) → length line ≡ 2080
-    → closed (fedAll (sessionWith (toldOf beginning store []) line 0) pieces) ≡ wholeOf store (joined pieces)
-cut-is-whole store line pieces h =
-    ap closed (fed-all (sessionWith (toldOf beginning store []) line 0) pieces) ∙ fed-is-whole store line (joined pieces) h

@@ -1,25 +1,36 @@
-// Input in pieces: the unfinished line is carried along in a lent buffer, with a count of its bytes.
+// Input in pieces: the unfinished line is carried along in a lent buffer, with a count of its bytes, and the text of the lines that end is
+// written to another.
 use crate::lines::answer_line;
 use crate::session::Answer;
 use crate::session::Answered;
 use crate::session::Replay;
+use crate::session::Session;
 use crate::session::Waiting;
 use crate::taking::end_frame;
+use crate::writing::LINE_TEXT;
+use crate::writing::write_line;
 use recording::MAX_LINE;
 use refusal::Refusal;
+use text::put;
 ghost use mathlib.Core.Path.{_≡_};
-ghost use Prim.Native.Nat.{_+_};
+ghost use Prim.Native.Nat.{_+_, _≤_};
 ghost use lib.ListN.{length, drop};
 ghost use Rattle.recording.specs.Lines.{untilFeed};
-ghost use Rattle.replaying.specs.Feeding.{lineWith, countWith, carriedLine, carriedCount, lineAnswer, lineStore, absentOf, session, feedOf, feedStore, feedLine, closeOf, closeStore};
+ghost use Rattle.text.specs.Put.{putIn};
+ghost use Rattle.replaying.specs.Feeding.{saidBy, lineWith, countWith, carriedLine, carriedCount, lineAnswer, lineStore, absentOf, carrying, lastOf, feedOf, feedStore, feedLine, feedOut, closeOf, closeStore, closeOut};
+ghost use Rattle.replaying.specs.FeedLine.{fedAs};
 
-// What a piece leads to, up to and with the next line feed or to its end: where to go on, the count of bytes carried, and the
-// answer, if a frame ended.
+// Where a call left a piece: the session to go on with, how many of the piece's bytes were used, and how many bytes of text written.
 pub struct Fed {
-    pub replay: Replay,
-    pub count: usize,
-    pub at: usize,
-    pub answer: Answer,
+    pub session: Session,
+    pub used: usize,
+    pub wrote: usize,
+}
+
+// Where the closing call left a session, and how many bytes of text it wrote.
+pub struct Closed {
+    pub session: Session,
+    pub wrote: usize,
 }
 
 // A count of bytes carried and a place in a piece.
@@ -74,39 +85,74 @@ fn end_line(r: Replay, store: &mut [u8], line: &[u8], count: usize) -> Answered
     answer_line(r, store, &line[..count])
 }
 
-// Goes on with a piece from a place.
+// Writes an answer's line at a place, if there is one, and says where its text ends.
+fn show(answer: Answer, out: &mut [u8], at: usize) -> usize
+    requires { ⌜ at + 12 ≤ length (now out) ⌝ }
+    ensures { λ r. ⌜ r ≡ at + length (saidBy answer) ⌝ }
+    ensures { λ _. ⌜ now (out .exit) ≡ putIn (saidBy answer) (now (out .entry)) at ⌝ }
+{
+    match answer {
+        Answer::Nothing => at,
+        Answer::Line(number, next) => {
+            let mut text = [0u8; LINE_TEXT];
+            write_line(number, next, &mut text);
+            put(&text, out, at)
+        }
+    }
+}
+
+fn fed_as(said: Answered, count: usize, used: usize, wrote: usize) -> Fed
+    ensures { λ f. ⌜ f ≡ fedAs (record { replay = said .replay; count = count }) used wrote ⌝ }
+{
+    let replay = said.replay;
+    Fed {
+        session: Session { replay, count },
+        used,
+        wrote,
+    }
+}
+
+// Feeds a piece of the input: the lines that end in it are answered, their text is written from the buffer's start on, and what is left
+// of the piece is carried. Where a line's text has no room any more it stops, at a line's end: the bytes that it didn't use are to be
+// fed again.
 pub fn feed(
-    r: Replay,
+    session: Session,
     store: &mut [u8],
     line: &mut [u8; MAX_LINE],
-    count: usize,
     piece: &[u8],
-    at: usize,
+    out: &mut [u8],
 ) -> Fed
-    ensures { λ f. ⌜ f ≡ feedOf (session r (now (store .entry)) (now (line .entry)) count) (now (piece .entry)) at ⌝ }
-    ensures { λ _. ⌜ now (store .exit) ≡ feedStore (session r (now (store .entry)) (now (line .entry)) count) (now (piece .entry)) at ⌝ }
-    ensures { λ _. ⌜ now (line .exit) ≡ feedLine (session r (now (store .entry)) (now (line .entry)) count) (now (piece .entry)) at ⌝ }
+    ensures { λ f. ⌜ f ≡ feedOf (carrying session (now (store .entry)) (now (line .entry))) (now (piece .entry)) (length (now (out .entry))) ⌝ }
+    ensures { λ _. ⌜ now (store .exit) ≡ feedStore (carrying session (now (store .entry)) (now (line .entry))) (now (piece .entry)) (length (now (out .entry))) ⌝ }
+    ensures { λ _. ⌜ now (line .exit) ≡ feedLine (carrying session (now (store .entry)) (now (line .entry))) (now (piece .entry)) (length (now (out .entry))) ⌝ }
+    ensures { λ _. ⌜ now (out .exit) ≡ feedOut (carrying session (now (store .entry)) (now (line .entry))) (now (piece .entry)) (now (out .entry)) ⌝ }
 {
-    let place = gather(line, count, piece, at);
-    let end = place.at;
-    if piece.len() <= end {
-        return Fed {
-            replay: r,
-            count: place.count,
-            at: end,
-            answer: Answer::Nothing,
-        };
+    let first = session.replay;
+    let mut said = Answered {
+        answer: Answer::Nothing,
+        replay: first,
+    };
+    let mut count = session.count;
+    let mut used: usize = 0;
+    let mut wrote: usize = 0;
+    while used < piece.len() {
+        if out.len() - wrote < LINE_TEXT {
+            return fed_as(said, count, used, wrote);
+        }
+        let place = gather(line, count, piece, used);
+        count = place.count;
+        used = place.at;
+        if piece.len() <= used {
+            return fed_as(said, count, used, wrote);
+        }
+        let replay = said.replay;
+        said = end_line(replay, store, line, count);
+        let answer = said.answer;
+        wrote = show(answer, out, wrote);
+        count = 0;
+        used += 1;
     }
-    let next = end + 1;
-    let said = end_line(r, store, line, place.count);
-    let replay = said.replay;
-    let answer = said.answer;
-    Fed {
-        replay,
-        count: 0,
-        at: next,
-        answer,
-    }
+    fed_as(said, count, used, wrote)
 }
 
 // A Data whose payload doesn't come any more.
@@ -122,17 +168,40 @@ fn end_waiting(said: Answered) -> Answered
     }
 }
 
-// The end of the input: a last line without a line feed counts, and an absent payload is a bad one.
-pub fn close(r: Replay, store: &mut [u8], line: &[u8; MAX_LINE], count: usize) -> Answered
-    ensures { λ a. ⌜ a ≡ closeOf (session r (now (store .entry)) (now (line .entry)) count) ⌝ }
-    ensures { λ _. ⌜ now (store .exit) ≡ closeStore (session r (now (store .entry)) (now (line .entry)) count) ⌝ }
+// What the last line answers, if there is one, and a Data that waits for its payload.
+fn end_input(session: Session, store: &mut [u8], line: &[u8]) -> Answered
+    ensures { λ a. ⌜ a ≡ lastOf (carrying session (now (store .entry)) (now (line .entry))) ⌝ }
+    ensures { λ _. ⌜ now (store .exit) ≡ closeStore (carrying session (now (store .entry)) (now (line .entry))) ⌝ }
 {
+    let replay = session.replay;
+    let count = session.count;
     if count == 0 {
         return end_waiting(Answered {
             answer: Answer::Nothing,
-            replay: r,
+            replay,
         });
     }
-    let said = end_line(r, store, line, count);
+    let said = end_line(replay, store, line, count);
     end_waiting(said)
+}
+
+// The end of the input: a last line without a line feed counts, and an absent payload is a bad one. At most one line is written.
+pub fn close(
+    session: Session,
+    store: &mut [u8],
+    line: &[u8; MAX_LINE],
+    out: &mut [u8; LINE_TEXT],
+) -> Closed
+    ensures { λ c. ⌜ c ≡ closeOf (carrying session (now (store .entry)) (now (line .entry))) ⌝ }
+    ensures { λ _. ⌜ now (store .exit) ≡ closeStore (carrying session (now (store .entry)) (now (line .entry))) ⌝ }
+    ensures { λ _. ⌜ now (out .exit) ≡ closeOut (carrying session (now (store .entry)) (now (line .entry))) (now (out .entry)) ⌝ }
+{
+    let last = end_input(session, store, line);
+    let answer = last.answer;
+    let replay = last.replay;
+    let wrote = show(answer, out, 0);
+    Closed {
+        session: Session { replay, count: 0 },
+        wrote,
+    }
 }

@@ -5,6 +5,7 @@ pub mod session;
 pub mod taking;
 pub mod writing;
 
+pub use feeding::Closed;
 pub use feeding::Fed;
 pub use feeding::close;
 pub use feeding::feed;
@@ -12,6 +13,8 @@ pub use lines::answer_line;
 pub use session::Answer;
 pub use session::Answered;
 pub use session::Replay;
+pub use session::Session;
 pub use session::Waiting;
 pub use session::begin;
+pub use writing::LINE_TEXT;
 pub use writing::write_line;

@@ -4,7 +4,7 @@ use engine::State;
 use link::MaxPing;
 use seq::Seq;
 ghost use mathlib.Core.Path.{_≡_};
-ghost use Rattle.replaying.specs.Session.{beginning};
+ghost use Rattle.replaying.specs.Session.{begun};
 
 // What the next line is.
 pub enum Waiting {
@@ -16,6 +16,13 @@ pub enum Waiting {
 pub struct Replay {
     pub state: State,
     pub waiting: Waiting,
+}
+
+// What a replay is between two pieces of its input: a host passes it on as it came. The bytes of the unfinished line lie in the buffer
+// that the host lends; a count above 2,080 marks a line that is too long.
+pub struct Session {
+    pub replay: Replay,
+    pub count: usize,
 }
 
 pub enum Answer {
@@ -31,15 +38,18 @@ pub struct Answered {
 }
 
 // The round trip, the identity and the flags of link 0 reach no answer: nothing is sent here.
-pub fn begin() -> Replay
-    ensures { λ r. ⌜ r ≡ beginning ⌝ }
+pub fn begin() -> Session
+    ensures { λ r. ⌜ r ≡ begun ⌝ }
 {
     let made = engine::fresh(Seq::ZERO, MAX_RECV_BUFFER);
     let empty = made.state;
     let added = engine::add(empty, 0, 0, MaxPing::Unlimited, false, false);
     let state = added.state;
-    Replay {
-        state,
-        waiting: Waiting::Frame,
+    Session {
+        replay: Replay {
+            state,
+            waiting: Waiting::Frame,
+        },
+        count: 0,
     }
 }

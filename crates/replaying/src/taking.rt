@@ -31,13 +31,17 @@ fn is_message(answer: HandOut) -> bool
     }
 }
 
-// Takes every waiting ack of link 0: there are at most ACKS.
+// Takes every waiting ack of link 0: there are at most ACKS. Where none waits the engine isn't asked, which would judge the whole state.
 fn take_acks(s: State) -> State
     ensures { λ r. ⌜ r ≡ withoutAcks ACKS s ⌝ }
 {
     let mut out = s;
     let mut left: usize = ACKS;
     while 0 < left {
+        let row = engine::row_of(out, 0);
+        if row.ack_count == 0 {
+            return out;
+        }
         let taken = engine::take_ack(out, 0);
         let answer = taken.answer;
         if !is_ack(answer) {
@@ -49,13 +53,17 @@ fn take_acks(s: State) -> State
     out
 }
 
-// Takes every ready message: there are at most CELLS.
+// Takes every ready message: there are at most CELLS. Nothing is ready where the oldest number is the next expected.
 fn take_ready(s: State) -> State
     ensures { λ r. ⌜ r ≡ withoutReady CELLS s ⌝ }
 {
     let mut out = s;
     let mut left: usize = CELLS;
     while 0 < left {
+        let rx = out.rx;
+        if rx.rx_oldest.0 == rx.rx_seq.0 {
+            return out;
+        }
         let taken = engine::take(out);
         let answer = taken.answer;
         if !is_message(answer) {

@@ -1,49 +1,103 @@
--- Each turn moves on in the piece: the measure is what is left of it.
-use mathlib.Core.Path.{_≡_, refl, ap}
-use Prim.Native.Nat.{_-_}
-use lib.ListN.{length}
+-- What is left of the piece goes in again: the session stands where the bytes before lead.
+use mathlib.Core.Path.{_≡_, refl, sym, _∙_, ap}
+use Prim.Native.Nat.{ℕ, _-_, _≤_}
 use native.Mathlib.Omega.{arith}
-use Rattle.replaying.specs.Feeding.{session, feed-moves}
-use borrow.Author.Needs.{needs}
+use denote.Ref.{now}
+use lib.ListN.{length, take, drop, length-drop}
+use lib.Seq.{length-take-le, take-all}
+use Rattle.replaying.specs.Feeding.{carrying, fedBy}
+use Rattle.replaying.specs.Pieces.{lent, wrote-within, turn}
 use Rattle.replay.proofs.answer_piece.Statement.{statement}
 use Rattle.replay.proofs.answer_piece.Tie as tie
 
 abbrev Inv-loop : tie.InvT-loop
-Inv-loop store₀ line₀ piece replay₀ count₀ at₀ store line replay count at = length store ≡ length store₀
+Inv-loop store₀ line₀ piece out₀ going₀ at₀ store line out going at =
+    (carrying going store line ≡ lent (fedBy (carrying going₀ store₀ line₀) (take at piece)))
+    × (at ≤ length piece)
+    × (length store ≡ length store₀)
+    × (12 ≤ length out)
 
 abbrev μ-loop : tie.MeasureT-loop
-μ-loop store₀ line₀ piece replay₀ count₀ at₀ store line replay count at = length piece - at
+μ-loop store₀ line₀ piece out₀ going₀ at₀ store line out going at = length piece - at
+
+buffer-requires : tie.Need-buffer-requires Inv-loop μ-loop
+buffer-requires c κs = tt
+
+slice-aggregate-out : tie.Need-slice-aggregate-out Inv-loop μ-loop
+slice-aggregate-out c = c .before .buffer .ensures
 
 loop-holds : tie.Need-loop-holds Inv-loop μ-loop
-loop-holds c = refl
+unfolding fedBy
+loop-holds c = (refl, omega arith, refl, omega (arith, c .before .buffer .ensures))
+
+sub-feed : tie.Need-sub-feed Inv-loop μ-loop
+sub-feed c = omega (arith, c .before .before .before .loop .inv .1)
+
+part-feed-start : tie.Need-part-feed-start Inv-loop μ-loop
+part-feed-start c = omega (arith, c .before .before .before .loop .inv .1)
+
+part-feed-end : tie.Need-part-feed-end Inv-loop μ-loop
+part-feed-end c = omega (arith, c .before .before .before .loop .inv .1)
 
 feed-requires : tie.Need-feed-requires Inv-loop μ-loop
 feed-requires c κs = tt
 
-show-requires : tie.Need-show-requires Inv-loop μ-loop
-show-requires c κs = tt
+add-at : tie.Need-add-at Inv-loop μ-loop
+add-at c =
+    let a = c .before .before .before .before .before .before .before .before .before .before .before .before .before .before .before .before .before .args in
+    let l = c .before .before .before .before .before .before .before .before .before .before .before .before .loop in
+    let e = c .before .before .before .before .before .before .feed .ensures in
+    let left = take-all (length (now (a .piece)) - l .at) (drop (l .at) (now (a .piece))) (simp length-drop (omega arith)) in
+    let t = turn (carrying (a .session) (now (a .store)) (now (a .line))) (l .going) (l .store) (l .line) (now (a .piece)) _ (l .out) (l .at) (l .inv .0) left (omega arith) (l .inv .3) in
+    omega (arith, t .2, ap (λ f. f .used) (e .0), c .before .before .before .before .before .before .before .before .before .before .before .before .before .before .before .before .before .good .1 .1 .1 .0 .0)
+
+slice-reshare-prefix-write-all : tie.Need-slice-reshare-prefix-write-all Inv-loop μ-loop
+slice-reshare-prefix-write-all c =
+    let l = c .before .before .before .before .before .before .before .before .before .before .before .before .loop in
+    let e = c .before .before .before .before .before .before .feed .ensures in
+    rw (e .0, e .1 .1 .1) (wrote-within (carrying (l .going) (l .store) (l .line)) _ (l .out))
+
+slice-aggregate-write-all : tie.Need-slice-aggregate-write-all Inv-loop μ-loop
+slice-aggregate-write-all c =
+    let l = c .before .before .before .before .before .before .before .before .before .before .before .before .before .loop in
+    let e = c .before .before .before .before .before .before .before .feed .ensures in
+    sym (length-take-le _ _ (rw (e .0, e .1 .1 .1) (wrote-within (carrying (l .going) (l .store) (l .line)) _ (l .out))))
+
+write-all-requires : tie.Need-write-all-requires Inv-loop μ-loop
+write-all-requires c κs = tt
 
 same-length : tie.Need-same-length Inv-loop μ-loop
-same-length c = search needs
+same-length c = omega (arith, c .before .before .before .before .before .before .before .before .before .before .before .before .before .before .before .before .loop .inv .2)
 
 returns : tie.Need-returns Inv-loop μ-loop
-returns c = tt
+returns c e = let z : _≡_ {A = ℕ} 0 1 = cc in absurd (omega arith)
 
 loop-less : tie.Need-loop-less Inv-loop μ-loop
 loop-less c =
-    let l = c .before .before .before .before .before .before .before .before .before .loop in
-    let test = c .before .before .before .before .before .before .before .before .loop-test .taken in
-    let moved = feed-moves (session (l .replay) (l .store) (l .line) (l .count)) (c .before .before .before .before .before .before .before .before .before .before .before .before .before .args .piece .now) (l .at) test in
-    omega (arith, moved, ap (λ f. f .at) (c .before .before .before .before .before .feed .ensures .0), test)
+    let a = c .before .before .before .before .before .before .before .before .before .before .before .before .before .before .before .before .before .before .before .before .args in
+    let l = c .before .before .before .before .before .before .before .before .before .before .before .before .before .before .before .loop in
+    let e = c .before .before .before .before .before .before .before .before .before .feed .ensures in
+    let left = take-all (length (now (a .piece)) - l .at) (drop (l .at) (now (a .piece))) (simp length-drop (omega arith)) in
+    let t = turn (carrying (a .session) (now (a .store)) (now (a .line))) (l .going) (l .store) (l .line) (now (a .piece)) _ (l .out) (l .at) (l .inv .0) left (omega arith) (l .inv .3) in
+    omega (arith, t .1, t .2, ap (λ f. f .used) (e .0))
 
 loop-again : tie.Need-loop-again Inv-loop μ-loop
-loop-again c = search needs
+loop-again c =
+    let a = c .before .before .before .before .before .before .before .before .before .before .before .before .before .before .before .before .before .before .before .before .args in
+    let l = c .before .before .before .before .before .before .before .before .before .before .before .before .before .before .before .loop in
+    let e = c .before .before .before .before .before .before .before .before .before .feed .ensures in
+    let left = take-all (length (now (a .piece)) - l .at) (drop (l .at) (now (a .piece))) (simp length-drop (omega arith)) in
+    let t = turn (carrying (a .session) (now (a .store)) (now (a .line))) (l .going) (l .store) (l .line) (now (a .piece)) _ (l .out) (l .at) (l .inv .0) left (omega arith) (l .inv .3) in
+    (rw (e .0, e .1 .0, e .1 .1 .0) (t .0), omega (arith, t .2, ap (λ f. f .used) (e .0)), omega (arith, l .inv .2), omega (arith, l .inv .3))
 
 same-length-2 : tie.Need-same-length-2 Inv-loop μ-loop
-same-length-2 c = search needs
+same-length-2 c = c .before .before .loop .inv .2
 
 returns-2 : tie.Need-returns-2 Inv-loop μ-loop
-returns-2 c = tt
+returns-2 c e =
+    let a = c .before .before .before .before .before .before .before .args in
+    let l = c .before .before .loop in
+    l .inv .0 ∙ ap (λ p. lent (fedBy (carrying (a .session) (now (a .store)) (now (a .line))) p)) (take-all (l .at) (now (a .piece)) (omega arith))
 
 pub answer-piece-spec : {M : Type 1} → statement M
 answer-piece-spec =
@@ -51,9 +105,17 @@ answer-piece-spec =
     (tie.spec
     Inv-loop
     μ-loop
+    buffer-requires
+    slice-aggregate-out
     loop-holds
+    sub-feed
+    part-feed-start
+    part-feed-end
     feed-requires
-    show-requires
+    add-at
+    slice-reshare-prefix-write-all
+    slice-aggregate-write-all
+    write-all-requires
     same-length
     returns
     loop-less

@@ -1,42 +1,39 @@
--- By whether a line is unfinished.
-use mathlib.Core.Path.{sym, _∙_, ap}
+-- What the end of the input answers, written to the buffer's start.
+use mathlib.Core.Path.{_∙_, ap}
+use Prim.Native.Nat.{_≤_}
+use native.Mathlib.Nat.{zero-add}
+use native.Mathlib.Omega.{arith}
 use denote.Ref.{now}
-use Rattle.replaying.specs.Feeding.{absentOf, session, close-none, close-last, close-none-store, close-last-store}
+use lib.ListN.{length}
+use Rattle.replaying.specs.Feeding.{saidBy, carrying, startingWith, closed, closedAs, closeOf, closeOut, said-short}
+use Rattle.replaying.specs.FeedLine.{put-start}
 use borrow.Author.Needs.{needs}
 use Rattle.replaying.proofs.feeding.close.Statement.{statement}
 use Rattle.replaying.proofs.feeding.close.Tie as tie
 
-end-waiting-requires : tie.Need-end-waiting-requires
-end-waiting-requires c κs = search needs
+end-input-requires : tie.Need-end-input-requires
+end-input-requires c κs = search needs
 
-returns : tie.Need-returns
-returns c =
-    let a = c .before .before .before .args in
-    let h = c .before .if1 .taken in
-    (c .end-waiting .ensures ∙ sym (close-none (session (a .r) (now (a .store)) (now (a .line)) (a .count)) h), sym (close-none-store (session (a .r) (now (a .store)) (now (a .line)) (a .count)) h))
-
-end-line-requires : tie.Need-end-line-requires
-end-line-requires c κs = search needs
-
-end-waiting-requires-2 : tie.Need-end-waiting-requires-2
-end-waiting-requires-2 c κs = search needs
+show-requires : tie.Need-show-requires
+show-requires c κs = search needs
 
 same-length : tie.Need-same-length
 same-length c = search needs
 
-returns-2 : tie.Need-returns-2
-returns-2 c =
-    let a = c .before .before .before .before .before .before .before .before .args in
-    let h = c .before .before .before .before .before .before .if1 .left in
-    (c .end-waiting2 .ensures ∙ ap absentOf (c .before .before .before .end-line .ensures .0) ∙ sym (close-last (session (a .r) (now (a .store)) (now (a .line)) (a .count)) h), c .before .before .before .end-line .ensures .1 ∙ sym (close-last-store (session (a .r) (now (a .store)) (now (a .line)) (a .count)) h))
+returns : tie.Need-returns
+unfolding closeOf closeOut closed
+returns c =
+    let a = c .before .before .before .before .before .before .before .before .before .args in
+    let e = c .before .before .before .before .before .end-input in
+    let k = carrying (a .session) (now (a .store)) (now (a .line)) in
+    let room : 12 ≤ length (now (a .out)) = search needs in
+    let short = said-short (e .result .answer) in (
+      ap (closedAs (e .result .replay)) (c .show .ensures .0 ∙ zero-add _) ∙ ap (λ x. closedAs (x .replay) (length (saidBy (x .answer)))) (e .ensures .0),
+      (
+        e .ensures .1,
+        c .show .ensures .1 ∙ put-start (saidBy (e .result .answer)) (now (a .out)) (omega (arith, short, room)) ∙ ap (λ x. startingWith (saidBy (x .answer)) (now (a .out))) (e .ensures .0),
+      ),
+    )
 
 pub close-spec : {M : Type 1} → statement M
-close-spec =
-    tie.close
-    (tie.spec
-    end-waiting-requires
-    returns
-    end-line-requires
-    end-waiting-requires-2
-    same-length
-    returns-2)
+close-spec = tie.close (tie.spec end-input-requires show-requires same-length returns)

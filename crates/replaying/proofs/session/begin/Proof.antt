@@ -1,5 +1,5 @@
 -- A fresh state with a link added.
-use Rattle.replaying.specs.Session.{beginning}
+use Rattle.replaying.specs.Session.{begun}
 use borrow.Author.Needs.{needs}
 use Rattle.replaying.proofs.session.begin.Statement.{statement}
 use Rattle.replaying.proofs.session.begin.Tie as tie
@@ -11,7 +11,7 @@ add-requires : tie.Need-add-requires
 add-requires c κs = search needs
 
 returns : tie.Need-returns
-unfolding beginning
+unfolding begun
 returns c = simp (c .before .add .ensures .0, c .before .before .before .fresh .ensures .0)
 
 pub begin-spec : {M : Type 1} → statement M

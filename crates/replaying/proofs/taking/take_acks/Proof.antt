@@ -5,6 +5,7 @@ use native.Mathlib.Omega.{arith}
 use borrow.Author.Tests.{not-true, not-false}
 use Rattle.link.specs.Sizes.{ACKS}
 use Rattle.engine.specs.HandingOut.{takeAckOf}
+use Rattle.replaying.specs.Taken.{no-ack}
 use Rattle.replaying.specs.Taking.{isAck, withoutAcks, acks-step, acks-end}
 use Rattle.replaying.proofs.taking.take_acks.Statement.{statement}
 use Rattle.replaying.proofs.taking.take_acks.Tie as tie
@@ -18,19 +19,28 @@ abbrev μ-loop : tie.MeasureT-loop
 loop-holds : tie.Need-loop-holds Inv-loop μ-loop
 loop-holds c = refl
 
+row-of-requires : tie.Need-row-of-requires Inv-loop μ-loop
+row-of-requires c κs = tt
+
+returns : tie.Need-returns Inv-loop μ-loop
+returns c =
+    let l = c .before .before .before .before .loop in
+    let none = no-ack (l .out) (ap (λ r. r .«ack_count») (sym (c .before .before .row-of .ensures)) ∙ c .if1 .taken) in
+    sym (acks-step (l .out) (l .left) (c .before .before .before .loop-test .taken) ∙ simp none) ∙ l .inv
+
 take-ack-requires : tie.Need-take-ack-requires Inv-loop μ-loop
 take-ack-requires c κs = tt
 
 is-ack-requires : tie.Need-is-ack-requires Inv-loop μ-loop
 is-ack-requires c κs = tt
 
-returns : tie.Need-returns Inv-loop μ-loop
-returns c =
-    let l = c .before .before .before .before .loop in
+returns-2 : tie.Need-returns-2 Inv-loop μ-loop
+returns-2 c =
+    let l = c .before .before .before .before .before .before .before .loop in
     let refused : isAck (takeAckOf (l .out) 0 .answer) ≡ false =
-    sym (ap (λ r. isAck (r .answer)) (c .before .before .take-ack .ensures .0)) ∙ sym (c .before .is-ack .ensures) ∙ not-true (c .before .is-ack .result) (c .if1 .taken)
+    sym (ap (λ r. isAck (r .answer)) (c .before .before .take-ack .ensures .0)) ∙ sym (c .before .is-ack .ensures) ∙ not-true (c .before .is-ack .result) (c .if2 .taken)
     in
-    sym (acks-step (l .out) (l .left) (c .before .before .before .loop-test .taken) ∙ simp refused) ∙ l .inv
+    sym (acks-step (l .out) (l .left) (c .before .before .before .before .before .before .loop-test .taken) ∙ simp refused) ∙ l .inv
 
 sub-left : tie.Need-sub-left Inv-loop μ-loop
 sub-left c = omega arith
@@ -40,14 +50,14 @@ loop-less c = omega arith
 
 loop-again : tie.Need-loop-again Inv-loop μ-loop
 loop-again c =
-    let l = c .before .before .before .before .before .loop in
+    let l = c .before .before .before .before .before .before .before .before .loop in
     let taken : isAck (takeAckOf (l .out) 0 .answer) ≡ true =
-    sym (ap (λ r. isAck (r .answer)) (c .before .before .before .take-ack .ensures .0)) ∙ sym (c .before .before .is-ack .ensures) ∙ not-false (c .before .before .is-ack .result) (c .before .if1 .left)
+    sym (ap (λ r. isAck (r .answer)) (c .before .before .before .take-ack .ensures .0)) ∙ sym (c .before .before .is-ack .ensures) ∙ not-false (c .before .before .is-ack .result) (c .before .if2 .left)
     in
-    simp (c .before .before .before .take-ack .ensures .0) (sym (acks-step (l .out) (l .left) (c .before .before .before .before .loop-test .taken) ∙ simp taken) ∙ l .inv)
+    simp (c .before .before .before .take-ack .ensures .0) (sym (acks-step (l .out) (l .left) (c .before .before .before .before .before .before .before .loop-test .taken) ∙ simp taken) ∙ l .inv)
 
-returns-2 : tie.Need-returns-2 Inv-loop μ-loop
-returns-2 c = sym (acks-end (c .before .loop .out) (c .before .loop .left) (c .loop-test .left)) ∙ c .before .loop .inv
+returns-3 : tie.Need-returns-3 Inv-loop μ-loop
+returns-3 c = sym (acks-end (c .before .loop .out) (c .before .loop .left) (c .loop-test .left)) ∙ c .before .loop .inv
 
 pub take-acks-spec : {M : Type 1} → statement M
 take-acks-spec =
@@ -56,10 +66,12 @@ take-acks-spec =
     Inv-loop
     μ-loop
     loop-holds
+    row-of-requires
+    returns
     take-ack-requires
     is-ack-requires
-    returns
+    returns-2
     sub-left
     loop-less
     loop-again
-    returns-2)
+    returns-3)

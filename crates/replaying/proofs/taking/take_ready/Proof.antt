@@ -5,6 +5,7 @@ use native.Mathlib.Omega.{arith}
 use borrow.Author.Tests.{not-true, not-false}
 use Rattle.engine.specs.Sizes.{CELLS}
 use Rattle.engine.specs.HandingOut.{takeOf}
+use Rattle.replaying.specs.Taken.{no-message}
 use Rattle.replaying.specs.Taking.{isMessage, withoutReady, ready-step, ready-end}
 use Rattle.replaying.proofs.taking.take_ready.Statement.{statement}
 use Rattle.replaying.proofs.taking.take_ready.Tie as tie
@@ -18,19 +19,25 @@ abbrev μ-loop : tie.MeasureT-loop
 loop-holds : tie.Need-loop-holds Inv-loop μ-loop
 loop-holds c = refl
 
+returns : tie.Need-returns Inv-loop μ-loop
+returns c =
+    let l = c .before .before .before .before .loop in
+    let none = no-message (l .out) (c .if1 .taken) in
+    sym (ready-step (l .out) (l .left) (c .before .before .before .loop-test .taken) ∙ simp none) ∙ l .inv
+
 take-requires : tie.Need-take-requires Inv-loop μ-loop
 take-requires c κs = tt
 
 is-message-requires : tie.Need-is-message-requires Inv-loop μ-loop
 is-message-requires c κs = tt
 
-returns : tie.Need-returns Inv-loop μ-loop
-returns c =
-    let l = c .before .before .before .before .loop in
+returns-2 : tie.Need-returns-2 Inv-loop μ-loop
+returns-2 c =
+    let l = c .before .before .before .before .before .before .before .loop in
     let refused : isMessage (takeOf (l .out) .answer) ≡ false =
-    sym (ap (λ r. isMessage (r .answer)) (c .before .before .take .ensures .0)) ∙ sym (c .before .is-message .ensures) ∙ not-true (c .before .is-message .result) (c .if1 .taken)
+    sym (ap (λ r. isMessage (r .answer)) (c .before .before .take .ensures .0)) ∙ sym (c .before .is-message .ensures) ∙ not-true (c .before .is-message .result) (c .if2 .taken)
     in
-    sym (ready-step (l .out) (l .left) (c .before .before .before .loop-test .taken) ∙ simp refused) ∙ l .inv
+    sym (ready-step (l .out) (l .left) (c .before .before .before .before .before .before .loop-test .taken) ∙ simp refused) ∙ l .inv
 
 sub-left : tie.Need-sub-left Inv-loop μ-loop
 sub-left c = omega arith
@@ -40,14 +47,14 @@ loop-less c = omega arith
 
 loop-again : tie.Need-loop-again Inv-loop μ-loop
 loop-again c =
-    let l = c .before .before .before .before .before .loop in
+    let l = c .before .before .before .before .before .before .before .before .loop in
     let taken : isMessage (takeOf (l .out) .answer) ≡ true =
-    sym (ap (λ r. isMessage (r .answer)) (c .before .before .before .take .ensures .0)) ∙ sym (c .before .before .is-message .ensures) ∙ not-false (c .before .before .is-message .result) (c .before .if1 .left)
+    sym (ap (λ r. isMessage (r .answer)) (c .before .before .before .take .ensures .0)) ∙ sym (c .before .before .is-message .ensures) ∙ not-false (c .before .before .is-message .result) (c .before .if2 .left)
     in
-    simp (c .before .before .before .take .ensures .0) (sym (ready-step (l .out) (l .left) (c .before .before .before .before .loop-test .taken) ∙ simp taken) ∙ l .inv)
+    simp (c .before .before .before .take .ensures .0) (sym (ready-step (l .out) (l .left) (c .before .before .before .before .before .before .before .loop-test .taken) ∙ simp taken) ∙ l .inv)
 
-returns-2 : tie.Need-returns-2 Inv-loop μ-loop
-returns-2 c = sym (ready-end (c .before .loop .out) (c .before .loop .left) (c .loop-test .left)) ∙ c .before .loop .inv
+returns-3 : tie.Need-returns-3 Inv-loop μ-loop
+returns-3 c = sym (ready-end (c .before .loop .out) (c .before .loop .left) (c .loop-test .left)) ∙ c .before .loop .inv
 
 pub take-ready-spec : {M : Type 1} → statement M
 take-ready-spec =
@@ -56,10 +63,11 @@ take-ready-spec =
     Inv-loop
     μ-loop
     loop-holds
+    returns
     take-requires
     is-message-requires
-    returns
+    returns-2
     sub-left
     loop-less
     loop-again
-    returns-2)
+    returns-3)

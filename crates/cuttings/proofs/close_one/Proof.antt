@@ -1,0 +1,50 @@
+-- The last text is a beginning of its buffer.
+use mathlib.Core.Path.{sym}
+use denote.Ref.{now}
+use lib.Seq.{length-take-le}
+use Rattle.replaying.specs.Feeding.{carrying}
+use Rattle.replaying.specs.Pieces.{closed-within}
+use borrow.Author.Needs.{needs}
+use Rattle.cuttings.proofs.close_one.Statement.{statement}
+use Rattle.cuttings.proofs.close_one.Tie as tie
+
+close-requires : tie.Need-close-requires
+close-requires c κs = search needs
+
+show-counts-requires : tie.Need-show-counts-requires
+show-counts-requires c κs = search needs
+
+array-share-prefix-text : tie.Need-array-share-prefix-text
+array-share-prefix-text c =
+    let a = c .before .before .before .before .before .before .before .args in
+    let k = c .before .before .before .close in
+    rw (k .ensures .0, k .ensures .1 .1) (closed-within (carrying (a .session) (now (a .store)) (now (a .line))) _)
+
+slice-aggregate-write-all : tie.Need-slice-aggregate-write-all
+slice-aggregate-write-all c =
+    let a = c .before .before .before .before .before .before .before .before .args in
+    let k = c .before .before .before .before .close in
+    sym
+    (length-take-le (k .result .wrote) (k .last .1 .1 .1 .0)
+    (rw (k .ensures .0, k .ensures .1 .1) (closed-within (carrying (a .session) (now (a .store)) (now (a .line))) _)))
+
+write-all-requires : tie.Need-write-all-requires
+write-all-requires c κs = search needs
+
+same-length : tie.Need-same-length
+same-length c = search needs
+
+returns : tie.Need-returns
+returns c = search needs
+
+pub close-one-spec : {M : Type 1} → statement M
+close-one-spec =
+    tie.close
+    (tie.spec
+    close-requires
+    show-counts-requires
+    array-share-prefix-text
+    slice-aggregate-write-all
+    write-all-requires
+    same-length
+    returns)
