@@ -6,23 +6,16 @@ use mathlib.Core.Bool.{Bool, true, false, cond}
 use mathlib.Core.List.{List, [], _∷_}
 use Prim.Native.Nat.{ℕ, zero, suc}
 use native.Mathlib.Omega.{arith}
-use lib.Dec.{eqb, leb}
-use lib.ListN.{getD, set, take}
+use lib.Dec.{eqb}
+use lib.ListN.{getD, set}
 use lib.Seq.{getD-set-same}
 use borrow.Table.Steps.{cases}
 use Rattle.refusal.specs.declared.Refusal.the-variants as refusals
 use Rattle.refusal.specs.declared.verdict.Verdict.the-variants.{Pass}
 use Rattle.refusal.specs.Tests.{false-true}
 use Rattle.refusal.specs.Verdicts.{gate}
-use Rattle.seq.specs.declared.Seq.{Seq}
 use Rattle.seq.specs.Numbers.{seqOf}
-use Rattle.msg.specs.declared.reading.Reading.{Reading}
-use Rattle.msg.specs.declared.reading.Reading.the-variants as readings
 use Rattle.msg.specs.declared.reliable.ReliableMsg.{ReliableMsg}
-use Rattle.msg.specs.declared.reliable.ReliableMsg.the-variants.{Data, Consumed, SendFinish, ReceiveClose, ReceiveFinish}
-use Rattle.msg.specs.declared.reliable.FromLink.{FromLink}
-use Rattle.msg.specs.declared.reliable.FromLink.the-variants.{Reliable, Other}
-use Rattle.msg.specs.Reliable.{fromLink}
 use Rattle.link.specs.declared.row.LinkRow.{LinkRow}
 use Rattle.link.specs.declared.row.MaxPing.the-variants.{Unlimited}
 use Rattle.link.specs.declared.acks.OldestAck.{OldestAck}
@@ -51,8 +44,6 @@ use Rattle.laws.specs.Passed.{changed-keeps}
 use Rattle.laws.specs.AcksKept.{queued-who, taken-who}
 use Rattle.laws.specs.ReceiveKept.{receive-sound, receive-shaped}
 use Rattle.laws.specs.SoundKept.{Good, kept, fresh-good}
-use Rattle.recording.specs.Frames.{frameOf}
-use Rattle.recording.specs.Payloads.{isPayload}
 use Rattle.replaying.specs.declared.session.Waiting.{Waiting}
 use Rattle.replaying.specs.declared.session.Waiting.the-variants.{Frame, Payload}
 use Rattle.replaying.specs.declared.session.Replay.{Replay}
@@ -60,8 +51,8 @@ use Rattle.replaying.specs.declared.session.Answered.{Answered}
 use Rattle.replaying.specs.Session.{begun}
 use Rattle.replaying.specs.Taking.{isAck, isMessage, withoutAcks, withoutReady, withoutAll, ended}
 use Rattle.replaying.specs.Taken.{no-ack-left, no-message, no-message-left}
-use Rattle.replaying.specs.Line.{received, afterReliable, afterCarried, afterReading, afterPayload, answerAs}
-use Rattle.replaying.specs.Feeding.{Carrying, carrying, lineAnswer, byteFed, fedBy, absentAs, lastLine, closed}
+use Rattle.replaying.specs.Line.{received}
+use Rattle.replaying.specs.Feeding.{Carrying, carrying, lineAnswer, byteFed, fedBy, absentAs, lastLine, closed, every-line}
 
 -- nothing waits on link 0, and no message is ready
 pub record NothingWaits (s : State) : Type 0 where
@@ -226,41 +217,14 @@ ended-fine : (number : ℕ) (s : State) → Living s → Fine (ended number s .r
 unfolding ended
 ended-fine number s h = all-settled s h
 
-module _ (s : State) (store : ℕ) (h : Settled s) where
-  received-fine : (msg : ReliableMsg) (seq : Seq) (len : ℕ) → Fine (received s store msg seq len .replay)
-  unfolding received
-  received-fine msg seq len = all-settled _ (receive-lives s store msg (seq .0) len (h .quiet .living))
-
-  reliable-fine : (msg : ReliableMsg) (seq : Seq) → Fine (afterReliable s store msg seq .replay)
-  reliable-fine Data seq = h
-  reliable-fine (Consumed n) seq = received-fine (Consumed n) seq 0
-  reliable-fine SendFinish seq = received-fine SendFinish seq 0
-  reliable-fine ReceiveClose seq = received-fine ReceiveClose seq 0
-  reliable-fine ReceiveFinish seq = received-fine ReceiveFinish seq 0
-
-  carried-fine : (msg : FromLink) → Fine (afterCarried s store msg .replay)
-  carried-fine (Reliable msg seq) = reliable-fine msg seq
-  carried-fine Other = ended-fine 0 s (h .quiet .living)
-
-  reading-fine : (r : Reading) → Fine (afterReading s store r .replay)
-  reading-fine (readings.Message msg) = carried-fine (fromLink msg)
-  reading-fine (readings.No e) = ended-fine _ s (h .quiet .living)
-
-  payload-fine : (seq : Seq) (line : List ℕ) → Fine (afterPayload s store seq line .replay)
-  unfolding afterPayload
-  payload-fine seq line =
-      cases (isPayload line) (λ t. simp t (received-fine Data seq _)) (λ f. simp f (ended-fine 20 s (h .quiet .living)))
-
-  answer-fine : (w : Waiting) (line : List ℕ) → Fine (answerAs w s store line .replay)
-  answer-fine Frame line = reading-fine (frameOf line)
-  answer-fine (Payload seq) line = payload-fine seq line
-
 line-fine : (r : Replay) (store : ℕ) (line : List ℕ) (count : ℕ) → Fine r → Fine (lineAnswer r store line count .replay)
-unfolding lineAnswer
+unfolding received
 line-fine r store line count h =
-    cases (leb count 2080)
-    (λ t. simp t (answer-fine (r .state) store h (r .waiting) (take count line)))
-    (λ f. simp f (ended-fine 20 (r .state) (h .quiet .living)))
+    let living = h .quiet .living in
+    every-line (λ a. Fine (a .replay)) r store line count
+    (λ number. ended-fine number (r .state) living)
+    (λ msg seq len few. all-settled _ (receive-lives (r .state) store msg (seq .0) len living))
+    (λ seq. h)
 
 -- ---- from the beginning to the end
 

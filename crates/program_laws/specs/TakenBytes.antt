@@ -5,21 +5,13 @@ use mathlib.Core.Bool.{Bool, true, false, cond}
 use mathlib.Core.List.{List, [], _∷_}
 use Prim.Native.Nat.{ℕ, zero, suc, _+_, _-_, _^_, _%_, _≤_, _<_}
 use native.Mathlib.Omega.{arith}
-use lib.Dec.{eqb, leb, ltb}
-use lib.ListN.{length, take, length-take}
+use lib.Dec.{eqb, ltb}
+use lib.ListN.{length}
 use borrow.Author.Tests.{le-leb, ltb-false}
 use borrow.Table.Steps.{cases}
 use Rattle.refusal.specs.declared.Refusal.the-variants as refusals
-use Rattle.refusal.specs.Tests.{split}
 use Rattle.seq.specs.declared.Seq.{Seq}
-use Rattle.msg.specs.declared.reading.Reading.{Reading}
-use Rattle.msg.specs.declared.reading.Reading.the-variants as readings
 use Rattle.msg.specs.declared.reliable.ReliableMsg.{ReliableMsg}
-use Rattle.msg.specs.declared.reliable.ReliableMsg.the-variants.{Data, Consumed, SendFinish, ReceiveClose, ReceiveFinish}
-use Rattle.msg.specs.declared.reliable.FromLink.{FromLink}
-use Rattle.msg.specs.declared.reliable.FromLink.the-variants.{Reliable, Other}
-use Rattle.msg.specs.Reliable.{fromLink}
-use Rattle.text.specs.HexRun.{spells, spelt, spelt-length}
 use Rattle.link.specs.Sizes.{ACKS}
 use Rattle.engine.specs.declared.state.Held.{Held}
 use Rattle.engine.specs.declared.state.Held.the-variants as helds
@@ -40,16 +32,15 @@ use Rattle.engine.specs.Starting.{freshOf}
 use Rattle.engine.specs.Receiving.{receiveOf, receiveVerdict, storedRx, repeatedState, receivedState}
 use Rattle.engine.specs.HandingOut.{takeAckOf, ackAnswer, takenAckBy, takeOf, takeVerdict, takenBy, takenRx, canSkip, passedBy, skipped, handOutBy, readyOf, readyBytes, dataLength, taking}
 use Rattle.laws.specs.Passed.{changed-keeps}
-use Rattle.recording.specs.Frames.{frameOf}
-use Rattle.recording.specs.Payloads.{isPayload}
 use Rattle.replaying.specs.declared.session.Waiting.{Waiting}
 use Rattle.replaying.specs.declared.session.Waiting.the-variants.{Frame, Payload}
 use Rattle.replaying.specs.declared.session.Replay.{Replay}
 use Rattle.replaying.specs.declared.session.Answered.{Answered}
 use Rattle.replaying.specs.Session.{begun}
 use Rattle.replaying.specs.Taking.{isAck, isMessage, withoutAcks, withoutReady, withoutAll, ended}
-use Rattle.replaying.specs.Line.{received, afterReliable, afterCarried, afterReading, afterPayload, answerAs}
-use Rattle.replaying.specs.Feeding.{Carrying, carrying, countWith, lineAnswer, byteFed, fedBy, absentAs, lastLine, closed}
+use Rattle.recording.specs.Frames.{MAX_LINE}
+use Rattle.replaying.specs.Line.{received}
+use Rattle.replaying.specs.Feeding.{Carrying, carrying, countWith, lineAnswer, byteFed, fedBy, absentAs, lastLine, closed, every-line}
 use Rattle.program_laws.specs.NothingWaits.{Living, Settled, Fine, take-lives, acks-live, receive-lives, settled-waits, byte-fine, fed-fine, last-fine, closed-fine, added, begun-fine}
 
 -- the bytes that were taken, with those that are still to take
@@ -153,55 +144,26 @@ ended-bytes : (number : ℕ) (s : State) → Living s → bytes (ended number s 
 unfolding ended
 ended-bytes number s h = all-bytes s h
 
-module _ (s : State) (store : ℕ) (h : Living s) where
-  received-bytes : (msg : ReliableMsg) (seq : Seq) (len : ℕ) → bytes (received s store msg seq len .replay .state) ≤ bytes s + len
-  unfolding received
-  received-bytes msg seq len =
-      let then = receiveOf s store 0 msg (seq .0) len .state in
-      omega (arith, all-bytes then (receive-lives s store msg (seq .0) len h), receive-bytes s store msg (seq .0) len)
-
-  reliable-bytes : (msg : ReliableMsg) (seq : Seq) → bytes (afterReliable s store msg seq .replay .state) ≤ bytes s
-  reliable-bytes Data seq = omega arith
-  reliable-bytes (Consumed n) seq = omega (arith, received-bytes (Consumed n) seq 0)
-  reliable-bytes SendFinish seq = omega (arith, received-bytes SendFinish seq 0)
-  reliable-bytes ReceiveClose seq = omega (arith, received-bytes ReceiveClose seq 0)
-  reliable-bytes ReceiveFinish seq = omega (arith, received-bytes ReceiveFinish seq 0)
-
-  carried-bytes : (msg : FromLink) → bytes (afterCarried s store msg .replay .state) ≤ bytes s
-  carried-bytes (Reliable msg seq) = reliable-bytes msg seq
-  carried-bytes Other = ended-bytes 0 s h
-
-  reading-bytes : (r : Reading) → bytes (afterReading s store r .replay .state) ≤ bytes s
-  reading-bytes (readings.Message msg) = carried-bytes (fromLink msg)
-  reading-bytes (readings.No e) = ended-bytes _ s h
-
-  payload-bytes : (seq : Seq) (line : List ℕ) → bytes (afterPayload s store seq line .replay .state) ≤ bytes s + length line
-  unfolding afterPayload
-  payload-bytes seq line =
-      cases (isPayload line)
-      (λ t.
-      let half = spelt-length line (split (leb (length line) 2048) (spells line) t .1) in
-      simp t (omega (arith, received-bytes Data seq (length (spelt line)), half)))
-      (λ f. simp f (omega (arith, ended-bytes 20 s h)))
-
-  answer-bytes : (w : Waiting) (line : List ℕ) → bytes (answerAs w s store line .replay .state) ≤ bytes s + length line
-  answer-bytes Frame line = omega (arith, reading-bytes (frameOf line))
-  answer-bytes (Payload seq) line = payload-bytes seq line
+received-bytes : (s : State) (store : ℕ) (msg : ReliableMsg) (seq : Seq) (len : ℕ) → Living s → bytes (received s store msg seq len .replay .state) ≤ bytes s + len
+unfolding received
+received-bytes s store msg seq len h =
+    let then = receiveOf s store 0 msg (seq .0) len .state in
+    omega (arith, all-bytes then (receive-lives s store msg (seq .0) len h), receive-bytes s store msg (seq .0) len)
 
 line-bytes : (r : Replay) (store : ℕ) (line : List ℕ) (count : ℕ) → Fine r → bytes (lineAnswer r store line count .replay .state) ≤ bytes (r .state) + count
-unfolding lineAnswer
 line-bytes r store line count h =
     let living = h .quiet .living in
-    cases (leb count 2080)
-    (λ t. simp t (omega (arith, answer-bytes (r .state) store living (r .waiting) (take count line), length-take count line)))
-    (λ f. simp f (omega (arith, ended-bytes 20 (r .state) living)))
+    every-line (λ a. bytes (a .replay .state) ≤ bytes (r .state) + count) r store line count
+    (λ number. omega (arith, ended-bytes number (r .state) living))
+    (λ msg seq len few. omega (arith, few, received-bytes (r .state) store msg seq len living))
+    (λ seq. omega arith)
 
 -- ---- from the beginning to the end
 
 -- a byte that is carried is counted once at most
 count-bytes : (count : ℕ) → countWith count ≤ count + 1
 unfolding countWith
-count-bytes count = cases (ltb count 2080) (λ t. simp t (omega arith)) (λ f. simp f (omega (arith, ltb-false count 2080 f)))
+count-bytes count = cases (ltb count MAX_LINE) (λ t. simp t (omega arith)) (λ f. simp f (omega (arith, ltb-false count MAX_LINE f)))
 
 -- the bytes with those of the unfinished line
 abbrev allOf : Carrying → ℕ

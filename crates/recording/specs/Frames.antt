@@ -11,23 +11,27 @@ use Rattle.text.specs.HexRun.{spells, spelt}
 use Rattle.msg.specs.declared.reading.Reading.{Reading}
 use Rattle.msg.specs.Reading.{readOf, bad}
 
--- "A bad line, over 1,040 bytes of frame, .. gives hex 14 (refusal 20)": 1,040 bytes are 2,080 digits, and a longer line is not read
+-- 1,040 bytes of frame are 2,080 digits
+abbrev pub MAX_LINE : ℕ
+MAX_LINE = 2080
+
+-- "A bad line, over 1,040 bytes of frame, .. gives hex 14 (refusal 20)": a longer line is not read
 unfoldable pub frameOf : List ℕ → Reading
 unfolding spells spelt
-frameOf line = cond (leb (length line) 2080 && spells line) (readOf (spelt line)) bad
+frameOf line = cond (leb (length line) MAX_LINE && spells line) (readOf (spelt line)) bad
 
 -- ---- laws
 
 module _ (line : List ℕ) where
   -- the three cases of a frame's line
-  pub frame-long : 2080 < length line → frameOf line ≡ bad
+  pub frame-long : MAX_LINE < length line → frameOf line ≡ bad
   unfolding frameOf
-  frame-long h = simp (lt-leb (length line) 2080 h)
+  frame-long h = simp (lt-leb (length line) MAX_LINE h)
 
-  pub frame-bad : length line ≤ 2080 → spells line ≡ false → frameOf line ≡ bad
+  pub frame-bad : length line ≤ MAX_LINE → spells line ≡ false → frameOf line ≡ bad
   unfolding frameOf
-  frame-bad h f = simp (le-leb (length line) 2080 h, f)
+  frame-bad h f = simp (le-leb (length line) MAX_LINE h, f)
 
-  pub frame-good : length line ≤ 2080 → spells line ≡ true → frameOf line ≡ readOf (spelt line)
+  pub frame-good : length line ≤ MAX_LINE → spells line ≡ true → frameOf line ≡ readOf (spelt line)
   unfolding frameOf
-  frame-good h t = simp (le-leb (length line) 2080 h, t)
+  frame-good h t = simp (le-leb (length line) MAX_LINE h, t)

@@ -16,6 +16,7 @@ use Rattle.recording.specs.Lines.{untilFeed}
 use Rattle.replaying.specs.declared.session.Session.{Session}
 use Rattle.replaying.specs.declared.session.Answered.{Answered}
 use Rattle.replaying.specs.declared.feeding.Fed.{Fed}
+use Rattle.replaying.specs.Writing.{LINE_TEXT}
 use Rattle.replaying.specs.Feeding.{Carrying, carrying, carryingWith, toldOf, sessionOf, lineAnswer, lineStore, lineEnded, byteFed, fedBy, carriedLine, carriedCount, usedOf, fedIn, feedOf, feedStore, feedLine, feedOut, startingWith, saidBy, said-short, fed-append, carry-byte, until-carried}
 
 -- the bytes up to and with the next line feed, or all where there is none
@@ -186,12 +187,12 @@ behind-fed text c [] = refl
 behind-fed text c (b ∷ rest) = ap (λ x. fedBy x rest) (behind-byte text c b) ∙ behind-fed text (byteFed c b) rest
 
 -- where a line's text has room, all bytes up to and with the next line feed are used
-pub used-line : (c : Carrying) (xs : List ℕ) (room : ℕ) → length (c .told .text) + 12 ≤ room
+pub used-line : (c : Carrying) (xs : List ℕ) (room : ℕ) → length (c .told .text) + LINE_TEXT ≤ room
     → usedOf c xs room ≡ length (throughFeed xs) + usedOf (fedBy c (throughFeed xs)) (drop (length (throughFeed xs)) xs) room
 unfolding usedOf throughFeed fedBy
 used-line c [] room h = refl
 used-line c (b ∷ rest) room h =
-    let t = le-leb (length (c .told .text) + 12) room h in
+    let t = le-leb (length (c .told .text) + LINE_TEXT) room h in
     cases (eqb b 10)
     (λ y. let u : throughFeed (b ∷ rest) ≡ b ∷ [] = simp y in rw u (simp t (omega arith)))
     (λ n.
@@ -200,21 +201,21 @@ used-line c (b ∷ rest) room h =
     rw u (simp t (omega (arith, used-line (byteFed c b) rest room (rw same h)))))
 
 -- and where it has none, no byte is
-pub used-none : (c : Carrying) (xs : List ℕ) (room : ℕ) → room < length (c .told .text) + 12 → usedOf c xs room ≡ 0
+pub used-none : (c : Carrying) (xs : List ℕ) (room : ℕ) → room < length (c .told .text) + LINE_TEXT → usedOf c xs room ≡ 0
 unfolding usedOf
 used-none c [] room h = refl
-used-none c (b ∷ rest) room h = simp (lt-leb (length (c .told .text) + 12) room h)
+used-none c (b ∷ rest) room h = simp (lt-leb (length (c .told .text) + LINE_TEXT) room h)
 
 pub used-within : (c : Carrying) (xs : List ℕ) (room : ℕ) → usedOf c xs room ≤ length xs
 unfolding usedOf
 used-within c [] room = omega arith
 used-within c (b ∷ rest) room =
-    cases (leb (length (c .told .text) + 12) room)
+    cases (leb (length (c .told .text) + LINE_TEXT) room)
     (λ t. simp t (omega (arith, used-within (byteFed c b) rest room)))
     (λ f. simp f (omega arith))
 
 -- a step writes one line at most
-line-text : (fed : Fed) (store line piece : List ℕ) → length (lineFed fed store line piece .told .text) ≤ 12
+line-text : (fed : Fed) (store line piece : List ℕ) → length (lineFed fed store line piece .told .text) ≤ LINE_TEXT
 unfolding lineEnded
 line-text fed store line piece =
     cases (leb (length piece) (fed .used + length (untilFeed (drop (fed .used) piece))))
@@ -247,7 +248,7 @@ module _ (c : Carrying) (piece out₀ : List ℕ) (fed : Fed) (store line out : 
   text-length = ap length text-is ∙ length-take-le (fed .wrote) out (g .fits)
 
   -- one step more
-  module _ (room : fed .wrote + 12 ≤ length out) where
+  module _ (room : fed .wrote + LINE_TEXT ≤ length out) where
     abbrev L : Carrying
     L = lineFed fed store line piece
 
@@ -313,7 +314,7 @@ module _ (c : Carrying) (piece out₀ : List ℕ) (fed : Fed) (store line out : 
   unfolding usedOf
   all-used h = g .rest ∙ ap (λ l. fed .used + usedOf (fedBy c (take (fed .used) piece)) l (length out₀)) (drop-of-length-le piece h) ∙ add-zero (fed .used)
 
-  full-used : length out < fed .wrote + 12 → usedOf c piece (length out₀) ≡ fed .used
+  full-used : length out < fed .wrote + LINE_TEXT → usedOf c piece (length out₀) ≡ fed .used
   full-used h =
       g .rest
       ∙ ap (λ n. fed .used + n) (used-none (fedBy c (take (fed .used) piece)) (drop (fed .used) piece) (length out₀) (rw text-length (omega (arith, g .sized))))
@@ -349,5 +350,5 @@ module _ (c : Carrying) (piece out₀ : List ℕ) (fed : Fed) (store line out : 
   pub going-all : length piece ≤ fed .used → Promised
   going-all h = going-ends (all-used h)
 
-  pub going-full : length out < fed .wrote + 12 → Promised
+  pub going-full : length out < fed .wrote + LINE_TEXT → Promised
   going-full h = going-ends (full-used h)

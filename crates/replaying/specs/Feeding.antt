@@ -6,10 +6,13 @@ use mathlib.Core.List.{List, [], _∷_, _++_}
 use Prim.Native.Nat.{ℕ, suc, _+_, _≤_, _<_}
 use native.Mathlib.Omega.{arith}
 use lib.Dec.{eqb, leb, ltb}
-use lib.ListN.{length, take, drop, set}
+use lib.ListN.{length, take, drop, set, length-take}
 use borrow.Author.Tests.{eq-eqb, ne-eqb, le-leb, lt-leb}
 use borrow.Table.Steps.{cases}
+use Rattle.recording.specs.Frames.{MAX_LINE}
 use Rattle.recording.specs.Lines.{untilFeed}
+use Rattle.seq.specs.declared.Seq.{Seq}
+use Rattle.msg.specs.declared.reliable.ReliableMsg.{ReliableMsg}
 use Rattle.engine.specs.declared.state.State.{State}
 use Rattle.replaying.specs.declared.session.Waiting.{Waiting}
 use Rattle.replaying.specs.declared.session.Waiting.the-variants.{Frame, Payload}
@@ -21,8 +24,8 @@ use Rattle.replaying.specs.declared.session.Session.{Session}
 use Rattle.replaying.specs.declared.feeding.Fed.{Fed}
 use Rattle.replaying.specs.declared.feeding.Closed.{Closed}
 use Rattle.replaying.specs.Taking.{ended}
-use Rattle.replaying.specs.Line.{answerOf, storeOf}
-use Rattle.replaying.specs.Writing.{textOf}
+use Rattle.replaying.specs.Line.{received, awaited, answerOf, storeOf, every-answer}
+use Rattle.replaying.specs.Writing.{LINE_TEXT, textOf}
 
 -- the text that an answer writes: none, or a line
 abbrev pub saidBy : Answer → List ℕ
@@ -55,10 +58,10 @@ sessionOf c = record { replay = c .told .replay; count = c .count }
 
 -- "The unfinished line is carried along, at most 2,080 digits."
 unfoldable pub lineWith : List ℕ → ℕ → ℕ → List ℕ
-lineWith line count b = cond (ltb count 2080) (set line count b) line
+lineWith line count b = cond (ltb count MAX_LINE) (set line count b) line
 
 unfoldable pub countWith : ℕ → ℕ
-countWith count = cond (ltb count 2080) (count + 1) 2081
+countWith count = cond (ltb count MAX_LINE) (count + 1) (MAX_LINE + 1)
 
 -- the same over a run of bytes
 unfoldable pub carriedLine : List ℕ → ℕ → List ℕ → List ℕ
@@ -74,11 +77,11 @@ carriedCount count (b ∷ rest) = carriedCount (countWith count) rest
 -- "A longer line is dropped to its end and answered once as a bad line."
 unfoldable pub lineAnswer : Replay → ℕ → List ℕ → ℕ → Answered
 unfolding answerOf ended
-lineAnswer r store line count = cond (leb count 2080) (answerOf r store (take count line)) (ended 20 (r .state))
+lineAnswer r store line count = cond (leb count MAX_LINE) (answerOf r store (take count line)) (ended 20 (r .state))
 
 unfoldable pub lineStore : Replay → List ℕ → List ℕ → ℕ → List ℕ
 unfolding storeOf
-lineStore r store line count = cond (leb count 2080) (storeOf r store (take count line)) store
+lineStore r store line count = cond (leb count MAX_LINE) (storeOf r store (take count line)) store
 
 -- the end of the carried line
 unfoldable pub lineEnded : Carrying → Carrying
@@ -111,7 +114,7 @@ fedBy c (b ∷ rest) = fedBy (byteFed c b) rest
 unfoldable pub usedOf : Carrying → List ℕ → ℕ → ℕ
 unfolding byteFed
 usedOf c [] room = 0
-usedOf c (b ∷ rest) room = cond (leb (length (c .told .text) + 12) room) (suc (usedOf (byteFed c b) rest room)) 0
+usedOf c (b ∷ rest) room = cond (leb (length (c .told .text) + LINE_TEXT) room) (suc (usedOf (byteFed c b) rest room)) 0
 
 -- the piece as far as it is used
 unfoldable pub fedIn : Carrying → List ℕ → ℕ → Carrying
@@ -215,21 +218,32 @@ until-carried t line count (b ∷ rest) =
     ∙ until-carried t (lineWith line count b) (countWith count) rest))
 
 module _ (r : Replay) (store line : List ℕ) (count : ℕ) where
-  pub line-long : 2080 < count → lineAnswer r (length store) line count ≡ ended 20 (r .state)
+  pub line-long : MAX_LINE < count → lineAnswer r (length store) line count ≡ ended 20 (r .state)
   unfolding lineAnswer
-  line-long h = simp (lt-leb count 2080 h)
+  line-long h = simp (lt-leb count MAX_LINE h)
 
-  pub line-short : count ≤ 2080 → lineAnswer r (length store) line count ≡ answerOf r (length store) (take count line)
+  pub line-short : count ≤ MAX_LINE → lineAnswer r (length store) line count ≡ answerOf r (length store) (take count line)
   unfolding lineAnswer
-  line-short h = simp (le-leb count 2080 h)
+  line-short h = simp (le-leb count MAX_LINE h)
 
-  pub line-long-store : 2080 < count → lineStore r store line count ≡ store
+  pub line-long-store : MAX_LINE < count → lineStore r store line count ≡ store
   unfolding lineStore
-  line-long-store h = simp (lt-leb count 2080 h)
+  line-long-store h = simp (lt-leb count MAX_LINE h)
 
-  pub line-short-store : count ≤ 2080 → lineStore r store line count ≡ storeOf r store (take count line)
+  pub line-short-store : count ≤ MAX_LINE → lineStore r store line count ≡ storeOf r store (take count line)
   unfolding lineStore
-  line-short-store h = simp (le-leb count 2080 h)
+  line-short-store h = simp (le-leb count MAX_LINE h)
+
+-- what holds of the end of a frame, of a message that is received and of a Data that waits holds of what the carried line answers
+pub every-line : (P : Answered → Type 0) (r : Replay) (store : ℕ) (line : List ℕ) (count : ℕ) → ((number : ℕ) → P (ended number (r .state)))
+    → ((msg : ReliableMsg) (seq : Seq) (len : ℕ) → len ≤ count → P (received (r .state) store msg seq len)) → ((seq : Seq) → P (awaited (r .state) seq)) → P (lineAnswer r store line count)
+unfolding lineAnswer answerOf
+every-line P r store line count ends receives awaits =
+    cases (leb count MAX_LINE)
+    (λ t.
+    simp t
+    (every-answer P (r .state) store (take count line) ends (λ msg seq len few. receives msg seq len (omega (arith, few, length-take count line))) awaits (r .waiting)))
+    (λ f. simp f (ends 20))
 
 module _ (c : Carrying) where
   pub close-none : c .count ≡ 0 → lastOf c ≡ absentOf (record { answer = Nothing; replay = c .told .replay })
@@ -249,7 +263,7 @@ module _ (c : Carrying) where
   close-last-store h = simp (ne-eqb (c .count) 0 h)
 
 -- an answer's text is a line of twelve bytes, or none
-pub said-short : (a : Answer) → length (saidBy a) ≤ 12
+pub said-short : (a : Answer) → length (saidBy a) ≤ LINE_TEXT
 unfolding textOf
 said-short Nothing = omega arith
 said-short (Line number next) = omega arith

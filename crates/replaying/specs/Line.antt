@@ -3,10 +3,13 @@
 use mathlib.Core.Path.{_≡_, ap}
 use mathlib.Core.Bool.{true, false, cond}
 use mathlib.Core.List.{List, []}
-use Prim.Native.Nat.{ℕ, _<_}
+use Prim.Native.Nat.{ℕ, _≤_, _<_}
 use native.Mathlib.Omega.{arith}
+use lib.Dec.{leb}
 use lib.ListN.{length}
+use borrow.Table.Steps.{cases}
 use Rattle.refusal.specs.Refusals.{numberOf}
+use Rattle.refusal.specs.Tests.{split}
 use Rattle.seq.specs.declared.Seq.{Seq}
 use Rattle.msg.specs.declared.link_msg.LinkMsg.{LinkMsg}
 use Rattle.msg.specs.declared.reading.Reading.{Reading}
@@ -24,8 +27,8 @@ use Rattle.replaying.specs.declared.session.Waiting.the-variants.{Frame,
 use Rattle.replaying.specs.declared.session.Answer.the-variants as answers
 use Rattle.replaying.specs.declared.session.Replay.{Replay}
 use Rattle.replaying.specs.declared.session.Answered.{Answered}
-use Rattle.text.specs.HexRun.{spelt}
-use Rattle.recording.specs.Frames.{frameOf, frame-long}
+use Rattle.text.specs.HexRun.{spells, spelt, spelt-length}
+use Rattle.recording.specs.Frames.{MAX_LINE, frameOf, frame-long}
 use Rattle.recording.specs.Payloads.{isPayload, long-is-no-payload}
 use Rattle.replaying.specs.Taking.{ended}
 
@@ -126,19 +129,51 @@ module _ (s : State) (seq : Seq) (line : List ℕ) where
   unfolding storeAfterPayload
   store-good store t = simp t
 
+-- what holds of the end of a frame, of a message that is received and of a Data that waits holds of what every line answers; no message
+-- has more bytes than its line
+module _ (P : Answered → Type 0) (s : State) (store : ℕ) (line : List ℕ) (ends : (number : ℕ) → P (ended number s))
+    (receives : (msg : ReliableMsg) (seq : Seq) (len : ℕ) → len ≤ length line → P (received s store msg seq len)) (awaits : (seq : Seq) → P (awaited s seq)) where
+  every-reliable : (msg : ReliableMsg) (seq : Seq) → P (afterReliable s store msg seq)
+  every-reliable Data seq = awaits seq
+  every-reliable (Consumed n) seq = receives (Consumed n) seq 0 (omega arith)
+  every-reliable SendFinish seq = receives SendFinish seq 0 (omega arith)
+  every-reliable ReceiveClose seq = receives ReceiveClose seq 0 (omega arith)
+  every-reliable ReceiveFinish seq = receives ReceiveFinish seq 0 (omega arith)
+
+  every-carried : (carried : FromLink) → P (afterCarried s store carried)
+  every-carried (Reliable msg seq) = every-reliable msg seq
+  every-carried Other = ends 0
+
+  every-reading : (reading : Reading) → P (afterReading s store reading)
+  every-reading (readings.Message msg) = every-carried (fromLink msg)
+  every-reading (readings.No e) = ends (numberOf e)
+
+  every-payload : (seq : Seq) → P (afterPayload s store seq line)
+  unfolding isPayload
+  every-payload seq =
+      cases (isPayload line)
+      (λ t.
+      let half = spelt-length line (split (leb (length line) 2048) (spells line) t .1) in
+      rw (payload-good s seq line store t) (receives Data seq (length (spelt line)) (omega (arith, half))))
+      (λ f. rw (payload-bad s seq line store f) (ends 20))
+
+  pub every-answer : (w : Waiting) → P (answerAs w s store line)
+  every-answer Frame = every-reading (frameOf line)
+  every-answer (Payload seq) = every-payload seq
+
 -- a line that is too long is bad, whatever the replay waits for
-long-as : (w : Waiting) (s : State) (store : ℕ) (line : List ℕ) → 2080 < length line → answerAs w s store line ≡ ended 20 s
+long-as : (w : Waiting) (s : State) (store : ℕ) (line : List ℕ) → MAX_LINE < length line → answerAs w s store line ≡ ended 20 s
 long-as Frame s store line h = ap (afterReading s store) (frame-long line h)
 long-as (Payload seq) s store line h = payload-bad s seq line store (long-is-no-payload line (omega arith))
 
-long-store-as : (w : Waiting) (s : State) (store line : List ℕ) → 2080 < length line → storeAs w s store line ≡ store
+long-store-as : (w : Waiting) (s : State) (store line : List ℕ) → MAX_LINE < length line → storeAs w s store line ≡ store
 long-store-as Frame s store line h = ap (storeAfterReading s store) (frame-long line h)
 long-store-as (Payload seq) s store line h = store-bad s seq line store (long-is-no-payload line (omega arith))
 
-pub long-answer : (r : Replay) (store : ℕ) (line : List ℕ) → 2080 < length line → answerOf r store line ≡ ended 20 (r .state)
+pub long-answer : (r : Replay) (store : ℕ) (line : List ℕ) → MAX_LINE < length line → answerOf r store line ≡ ended 20 (r .state)
 unfolding answerOf
 long-answer r store line h = long-as (r .waiting) (r .state) store line h
 
-pub long-store : (r : Replay) (store line : List ℕ) → 2080 < length line → storeOf r store line ≡ store
+pub long-store : (r : Replay) (store line : List ℕ) → MAX_LINE < length line → storeOf r store line ≡ store
 unfolding storeOf
 long-store r store line h = long-store-as (r .waiting) (r .state) store line h

@@ -13,6 +13,8 @@ use borrow.Table.Steps.{cases}
 use Rattle.text.specs.Put.{joined}
 use Rattle.replaying.specs.declared.session.Session.{Session}
 use Rattle.replaying.specs.Session.{begun}
+use Rattle.recording.specs.Frames.{MAX_LINE}
+use Rattle.replaying.specs.Writing.{LINE_TEXT}
 use Rattle.replaying.specs.Feeding.{Told, Carrying, carrying, carryingWith, toldOf, sessionOf, saidBy, byteFed, fedBy, usedOf, fedIn, feedOf, feedStore, feedLine, feedOut, lastOf, closeStore, closed, closeOf, closeOut, fed-append, carry-byte}
 use Rattle.replaying.specs.FeedLine.{behind, behind-fed, used-none, used-within}
 use Rattle.replaying.specs.Whole.{wholeOf, outputOf, fed-is-whole}
@@ -77,32 +79,32 @@ unfolding feedOf usedOf fedBy
 empty-piece h out = once-is-fed h [] out
 
 -- where a line fits, a call uses some of what it is given
-pub used-some : (h : Carrying) (piece out : List ℕ) → 12 ≤ length out → 0 < length piece → 0 < usedOnce h piece out
+pub used-some : (h : Carrying) (piece out : List ℕ) → LINE_TEXT ≤ length out → 0 < length piece → 0 < usedOnce h piece out
 unfolding feedOf usedOf
 used-some h [] out room some = some
-used-some h (b ∷ rest) out room some = simp (le-leb 12 (length out) room) (omega arith)
+used-some h (b ∷ rest) out room some = simp (le-leb LINE_TEXT (length out) room) (omega arith)
 
 -- and where it stops before the end, it is at a line's end
-stopped : (c : Carrying) (piece : List ℕ) (room : ℕ) → length (c .told .text) + 12 ≤ room → usedOf c piece room < length piece
+stopped : (c : Carrying) (piece : List ℕ) (room : ℕ) → length (c .told .text) + LINE_TEXT ≤ room → usedOf c piece room < length piece
     → (0 < usedOf c piece room) × (getD piece (usedOf c piece room - 1) 0 ≡ 10)
 unfolding usedOf byteFed
 stopped c [] room h less = absurd (omega arith)
 stopped c (b ∷ rest) room h less =
-    let t = le-leb (length (c .told .text) + 12) room h in
+    let t = le-leb (length (c .told .text) + LINE_TEXT) room h in
     let next = byteFed c b in
-    cases (leb (length (next .told .text) + 12) room)
+    cases (leb (length (next .told .text) + LINE_TEXT) room)
     (λ y.
     let more = stopped next rest room (leb-true _ _ y) (omega (arith, simp t at less)) in
     let back : suc (usedOf next rest room) - 1 ≡ suc (usedOf next rest room - 1) = omega (arith, more .0) in
     simp t (omega arith, ap (λ k. getD (b ∷ rest) k 0) back ∙ more .1))
     (λ n.
-    let full = leb-false (length (next .told .text) + 12) room n in
+    let full = leb-false (length (next .told .text) + LINE_TEXT) room n in
     let none = used-none next rest room full in
     cases (eqb b 10)
     (λ y. simp (t, none) (omega arith, eqb-true b 10 y))
     (λ m. let same = ap (λ x. length (x .told .text)) (carry-byte (c .told) (c .line) (c .count) b m) in absurd (omega (arith, same, full))))
 
-pub stops-at-line-end : (h : Carrying) (piece out : List ℕ) → 12 ≤ length out → usedOnce h piece out < length piece → getD piece (usedOnce h piece out - 1) 0 ≡ 10
+pub stops-at-line-end : (h : Carrying) (piece out : List ℕ) → LINE_TEXT ≤ length out → usedOnce h piece out < length piece → getD piece (usedOnce h piece out - 1) 0 ≡ 10
 unfolding feedOf
 stops-at-line-end h piece out room less = stopped (lent h) piece (length out) room less .1
 
@@ -128,7 +130,7 @@ fed-goes-on c k piece at room e =
 
 -- one turn of a loop that feeds what is left of a piece
 pub turn : (c : Carrying) (session : Session) (store line piece rest out : List ℕ) (at : ℕ)
-    → carrying session store line ≡ lent (fedBy c (take at piece)) → rest ≡ drop at piece → at < length piece → 12 ≤ length out
+    → carrying session store line ≡ lent (fedBy c (take at piece)) → rest ≡ drop at piece → at < length piece → LINE_TEXT ≤ length out
     → let fed = feedOf (carrying session store line) rest (length out) in
     (carrying (fed .session) (feedStore (carrying session store line) rest (length out)) (feedLine (carrying session store line) rest (length out)) ≡ lent (fedBy c (take (at + fed .used) piece)))
     × (0 < fed .used)
@@ -145,7 +147,7 @@ turn c session store line piece rest out at e r less room =
 
 -- ---- all calls
 
-times-are-fed : (n : ℕ) (outs : ℕ → List ℕ) (h : Carrying) (piece : List ℕ) → ((k : ℕ) → 12 ≤ length (outs k)) → length piece ≤ n → fedTimes n outs h piece ≡ fedBy h piece
+times-are-fed : (n : ℕ) (outs : ℕ → List ℕ) (h : Carrying) (piece : List ℕ) → ((k : ℕ) → LINE_TEXT ≤ length (outs k)) → length piece ≤ n → fedTimes n outs h piece ≡ fedBy h piece
 unfolding fedTimes fedBy
 times-are-fed zero outs h [] room few = refl
 times-are-fed zero outs h (b ∷ rest) room few = absurd (omega arith)
@@ -161,7 +163,7 @@ times-are-fed (suc n) outs h piece room few =
     ∙ sym (fed-append h (take u piece) (drop u piece))
     ∙ ap (fedBy h) (take-append-drop u piece)
 
-pub pieces-are-fed : (outs : ℕ → ℕ → List ℕ) (h : Carrying) (pieces : List (List ℕ)) → ((i k : ℕ) → 12 ≤ length (outs i k)) → fedPieces outs h pieces ≡ fedBy h (joined pieces)
+pub pieces-are-fed : (outs : ℕ → ℕ → List ℕ) (h : Carrying) (pieces : List (List ℕ)) → ((i k : ℕ) → LINE_TEXT ≤ length (outs i k)) → fedPieces outs h pieces ≡ fedBy h (joined pieces)
 unfolding fedPieces fedBy joined
 pieces-are-fed outs h [] room = refl
 pieces-are-fed outs h (piece ∷ rest) room =
@@ -182,7 +184,7 @@ closed-is h out =
 
 -- for every list of pieces, and every sizes of buffers in which a line fits, whatever they held: the text written is the text of the
 -- whole input, and the replay and the store at the end are the same
-pub pieces-are-whole : (store line last : List ℕ) (pieces : List (List ℕ)) (outs : ℕ → ℕ → List ℕ) → length line ≡ 2080 → ((i k : ℕ) → 12 ≤ length (outs i k))
+pub pieces-are-whole : (store line last : List ℕ) (pieces : List (List ℕ)) (outs : ℕ → ℕ → List ℕ) → length line ≡ MAX_LINE → ((i k : ℕ) → LINE_TEXT ≤ length (outs i k))
     → closedOnce (fedPieces outs (carrying begun store line) pieces) last ≡ wholeOf store (joined pieces)
 unfolding begun
 pieces-are-whole store line last pieces outs sized room =
@@ -190,7 +192,7 @@ pieces-are-whole store line last pieces outs sized room =
     ∙ ap closed (pieces-are-fed outs (carrying begun store line) pieces room)
     ∙ fed-is-whole store line (joined pieces) sized
 
-pub written-is-output : (store line last : List ℕ) (pieces : List (List ℕ)) (outs : ℕ → ℕ → List ℕ) → length line ≡ 2080 → ((i k : ℕ) → 12 ≤ length (outs i k))
+pub written-is-output : (store line last : List ℕ) (pieces : List (List ℕ)) (outs : ℕ → ℕ → List ℕ) → length line ≡ MAX_LINE → ((i k : ℕ) → LINE_TEXT ≤ length (outs i k))
     → closedOnce (fedPieces outs (carrying begun store line) pieces) last .text ≡ outputOf store (joined pieces)
 unfolding outputOf
 written-is-output store line last pieces outs sized room = ap (λ t. t .text) (pieces-are-whole store line last pieces outs sized room)

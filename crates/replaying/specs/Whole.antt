@@ -1,7 +1,6 @@
 -- Document 01, "The replay program", over a whole input, line by line; and that the same input fed byte by byte, and closed, is the
 -- whole. Assumes nothing.
 use mathlib.Core.Path.{_≡_, refl, sym, _∙_, ap}
-use mathlib.Core.Bool.{Bool, true, false, cond}
 use mathlib.Core.List.{List, [], _∷_, _++_, append-nil}
 use Prim.Native.Nat.{ℕ, _+_, _≤_, _<_}
 use native.Mathlib.Numerals.{add-one}
@@ -12,28 +11,17 @@ use lib.Seq.{take-suc-set}
 use borrow.Author.Tests.{eqb-true, eqb-false, leb-true, leb-false, ltb-true, ltb-false}
 use borrow.Table.Steps.{cases}
 use Rattle.seq.specs.declared.Seq.{Seq}
-use Rattle.msg.specs.declared.reading.Reading.{Reading}
-use Rattle.msg.specs.declared.reading.Reading.the-variants as readings
-use Rattle.msg.specs.declared.reliable.ReliableMsg.{ReliableMsg}
-use Rattle.msg.specs.declared.reliable.ReliableMsg.the-variants.{Data, Consumed, SendFinish, ReceiveClose, ReceiveFinish}
-use Rattle.msg.specs.declared.reliable.FromLink.{FromLink}
-use Rattle.msg.specs.declared.reliable.FromLink.the-variants.{Reliable, Other}
-use Rattle.msg.specs.Reliable.{fromLink}
 use Rattle.engine.specs.declared.state.State.{State}
-use Rattle.engine.specs.Answer.{outcomeTold}
-use Rattle.engine.specs.Receiving.{receiveOf}
 use Rattle.replaying.specs.declared.session.Waiting.{Waiting}
 use Rattle.replaying.specs.declared.session.Waiting.the-variants.{Frame, Payload}
 use Rattle.replaying.specs.declared.session.Answer.the-variants.{Nothing}
 use Rattle.replaying.specs.declared.session.Replay.{Replay}
 use Rattle.replaying.specs.declared.session.Answered.{Answered}
 use Rattle.replaying.specs.Session.{beginning}
-use Rattle.text.specs.HexRun.{spelt}
-use Rattle.recording.specs.Frames.{frameOf}
+use Rattle.recording.specs.Frames.{MAX_LINE}
 use Rattle.recording.specs.Lines.{linesFrom, linesOf}
-use Rattle.recording.specs.Payloads.{isPayload}
 use Rattle.replaying.specs.Taking.{ended}
-use Rattle.replaying.specs.Line.{received, awaited, afterReliable, afterCarried, afterReading, afterPayload, answerAs, answerOf, storeOf, long-answer, long-store}
+use Rattle.replaying.specs.Line.{received, answerOf, storeOf, long-answer, long-store, every-answer}
 use Rattle.replaying.specs.Feeding.{Told, saidBy, toldOf, carryingWith, lineWith, countWith, lineAnswer, lineStore, lineEnded, byteFed, fedBy, absentOf, closed, line-long, line-short, line-long-store, line-short-store, close-none, close-last, close-none-store, close-last-store}
 
 -- a line, and then the others
@@ -80,41 +68,10 @@ quiet-ended : (number : ℕ) (s : State) → Quiet (ended number s)
 unfolding Quiet ended
 quiet-ended number s seq e = let z : _≡_ {A = ℕ} 0 1 = cc in absurd (omega arith)
 
-quiet-received : (s : State) (store : ℕ) (msg : ReliableMsg) (seq : Seq) (len : ℕ) → Quiet (received s store msg seq len)
-unfolding received
-quiet-received s store msg seq len = quiet-ended (outcomeTold (receiveOf s store 0 msg (seq .0) len .outcome) .number) (receiveOf s store 0 msg (seq .0) len .state)
-
-quiet-awaited : (s : State) (seq : Seq) → Quiet (awaited s seq)
-unfolding Quiet
-quiet-awaited s seq n e = refl
-
-quiet-reliable : (s : State) (store : ℕ) (msg : ReliableMsg) (seq : Seq) → Quiet (afterReliable s store msg seq)
-quiet-reliable s store Data seq = quiet-awaited s seq
-quiet-reliable s store (Consumed n) seq = quiet-received s store (Consumed n) seq 0
-quiet-reliable s store SendFinish seq = quiet-received s store SendFinish seq 0
-quiet-reliable s store ReceiveClose seq = quiet-received s store ReceiveClose seq 0
-quiet-reliable s store ReceiveFinish seq = quiet-received s store ReceiveFinish seq 0
-
-quiet-carried : (s : State) (store : ℕ) (carried : FromLink) → Quiet (afterCarried s store carried)
-quiet-carried s store (Reliable msg seq) = quiet-reliable s store msg seq
-quiet-carried s store Other = quiet-ended 0 s
-
-quiet-reading : (s : State) (store : ℕ) (reading : Reading) → Quiet (afterReading s store reading)
-quiet-reading s store (readings.Message msg) = quiet-carried s store (fromLink msg)
-quiet-reading s store (readings.No e) = quiet-ended _ s
-
-quiet-cond : (b : Bool) (a a′ : Answered) → Quiet a → Quiet a′ → Quiet (cond b a a′)
-quiet-cond true a a′ p q = p
-quiet-cond false a a′ p q = q
-
-quiet-as : (w : Waiting) (s : State) (store : ℕ) (line : List ℕ) → Quiet (answerAs w s store line)
-unfolding afterPayload
-quiet-as Frame s store line = quiet-reading s store (frameOf line)
-quiet-as (Payload seq) s store line = quiet-cond (isPayload line) (received s store Data seq (length (spelt line))) (ended 20 s) (quiet-received s store Data seq (length (spelt line))) (quiet-ended 20 s)
-
 quiet : (r : Replay) (store : ℕ) (line : List ℕ) → Quiet (answerOf r store line)
-unfolding answerOf
-quiet r store line = quiet-as (r .waiting) (r .state) store line
+unfolding answerOf received Quiet
+quiet r store line =
+    every-answer Quiet (r .state) store line (λ number. quiet-ended number (r .state)) (λ msg seq len few. quiet-ended _ _) (λ seq n e. refl) (r .waiting)
 
 -- an absent payload, told with the last line or after it
 absent-replay : (w : Waiting) (a : Answered) → a .replay .waiting ≡ w → absentOf a .replay ≡ absentOf (silent (a .replay)) .replay
@@ -132,33 +89,33 @@ absent-said (Payload seq) a said e q =
 
 -- what the buffer and its count carry of a line
 record Carries (line : List ℕ) (count : ℕ) (l : List ℕ) : Type 0 where
-  sized : length line ≡ 2080
-  short : length l ≤ 2080 → count ≡ length l
-  same : length l ≤ 2080 → take (length l) line ≡ l
-  long : 2080 < length l → 2080 < count
+  sized : length line ≡ MAX_LINE
+  short : length l ≤ MAX_LINE → count ≡ length l
+  same : length l ≤ MAX_LINE → take (length l) line ≡ l
+  long : MAX_LINE < length l → MAX_LINE < count
 
-carries-none : (line : List ℕ) → length line ≡ 2080 → Carries line 0 []
+carries-none : (line : List ℕ) → length line ≡ MAX_LINE → Carries line 0 []
 carries-none line h = record { sized = h; short = λ z. refl; same = λ z. refl; long = λ z. absurd (omega arith) }
 
-fits : (line : List ℕ) (count : ℕ) (l : List ℕ) → Carries line count l → count < 2080 → (count ≡ length l) × (length l < 2080)
+fits : (line : List ℕ) (count : ℕ) (l : List ℕ) → Carries line count l → count < MAX_LINE → (count ≡ length l) × (length l < MAX_LINE)
 fits line count l k h =
-    cases (leb (length l) 2080)
-    (λ t. let e = k .short (leb-true (length l) 2080 t) in (e, omega arith))
-    (λ f. let e = k .long (leb-false (length l) 2080 f) in absurd (omega arith))
+    cases (leb (length l) MAX_LINE)
+    (λ t. let e = k .short (leb-true (length l) MAX_LINE t) in (e, omega arith))
+    (λ f. let e = k .long (leb-false (length l) MAX_LINE f) in absurd (omega arith))
 
-full : (line : List ℕ) (count : ℕ) (l : List ℕ) → Carries line count l → 2080 ≤ count → 2080 ≤ length l
+full : (line : List ℕ) (count : ℕ) (l : List ℕ) → Carries line count l → MAX_LINE ≤ count → MAX_LINE ≤ length l
 full line count l k h =
-    cases (leb (length l) 2080)
-    (λ t. let e = k .short (leb-true (length l) 2080 t) in omega arith)
-    (λ f. let e = leb-false (length l) 2080 f in omega arith)
+    cases (leb (length l) MAX_LINE)
+    (λ t. let e = k .short (leb-true (length l) MAX_LINE t) in omega arith)
+    (λ f. let e = leb-false (length l) MAX_LINE f in omega arith)
 
 carries-more : (line : List ℕ) (count : ℕ) (l : List ℕ) (b : ℕ) → Carries line count l → Carries (lineWith line count b) (countWith count) (l ++ (b ∷ []))
 unfolding lineWith countWith
 carries-more line count l b k =
     let len : length (l ++ (b ∷ [])) ≡ length l + 1 = length-append l (b ∷ []) in
-    cases (ltb count 2080)
+    cases (ltb count MAX_LINE)
     (λ t.
-    let f = fits line count l k (ltb-true count 2080 t) in
+    let f = fits line count l k (ltb-true count MAX_LINE t) in
     let e : take (length l + 1) (set line count b) ≡ l ++ (b ∷ []) = rw (f .0, add-one) (take-suc-set line (length l) b (omega (arith, k .sized)) ∙ ap (λ x. x ++ (b ∷ [])) (k .same (omega arith))) in
     record {
       sized = simp (t, length-set) (k .sized);
@@ -167,7 +124,7 @@ carries-more line count l b k =
       long = λ z. absurd (omega (arith, len, f .1));
     })
     (λ n.
-    let f = full line count l k (ltb-false count 2080 n) in
+    let f = full line count l k (ltb-false count MAX_LINE n) in
     record {
       sized = simp n (k .sized);
       short = λ z. absurd (omega (arith, len, f));
@@ -179,29 +136,29 @@ carries-more line count l b k =
 module _ (t : Told) (line : List ℕ) (count : ℕ) (l : List ℕ) (k : Carries line count l) where
   carried-answer : lineAnswer (t .replay) (length (t .store)) line count ≡ answerOf (t .replay) (length (t .store)) l
   carried-answer =
-      cases (leb (length l) 2080)
+      cases (leb (length l) MAX_LINE)
       (λ y.
-      let h = leb-true (length l) 2080 y in
+      let h = leb-true (length l) MAX_LINE y in
       let e = k .short h in
       line-short (t .replay) (t .store) line count (omega arith)
       ∙ ap (λ n. answerOf (t .replay) (length (t .store)) (take n line)) e
       ∙ ap (answerOf (t .replay) (length (t .store))) (k .same h))
       (λ n.
-      let h = leb-false (length l) 2080 n in
+      let h = leb-false (length l) MAX_LINE n in
       line-long (t .replay) (t .store) line count (k .long h)
       ∙ sym (long-answer (t .replay) (length (t .store)) l h))
 
   carried-store : lineStore (t .replay) (t .store) line count ≡ storeOf (t .replay) (t .store) l
   carried-store =
-      cases (leb (length l) 2080)
+      cases (leb (length l) MAX_LINE)
       (λ y.
-      let h = leb-true (length l) 2080 y in
+      let h = leb-true (length l) MAX_LINE y in
       let e = k .short h in
       line-short-store (t .replay) (t .store) line count (omega arith)
       ∙ ap (λ n. storeOf (t .replay) (t .store) (take n line)) e
       ∙ ap (storeOf (t .replay) (t .store)) (k .same h))
       (λ n.
-      let h = leb-false (length l) 2080 n in
+      let h = leb-false (length l) MAX_LINE n in
       line-long-store (t .replay) (t .store) line count (k .long h)
       ∙ sym (long-store (t .replay) (t .store) l h))
 
@@ -213,9 +170,9 @@ module _ (t : Told) (line : List ℕ) (count : ℕ) (l : List ℕ) (k : Carries 
 
   unempty : (length l ≡ 0 → ⊥) → count ≡ 0 → ⊥
   unempty h z =
-      cases (leb (length l) 2080)
-      (λ y. let e = k .short (leb-true (length l) 2080 y) in h (omega arith))
-      (λ n. let e = k .long (leb-false (length l) 2080 n) in omega arith)
+      cases (leb (length l) MAX_LINE)
+      (λ y. let e = k .short (leb-true (length l) MAX_LINE y) in h (omega arith))
+      (λ n. let e = k .long (leb-false (length l) MAX_LINE n) in omega arith)
 
   closed-none : length l ≡ 0 → closed (carryingWith t line count) ≡ finished t
   unfolding closed finished
@@ -257,6 +214,6 @@ closed-from t line count l (b ∷ rest) k =
     ∙ sym (ap (λ ls. finished (tellAll t ls)) lines))
 
 -- an input fed from the beginning, over any buffer of 2,080 bytes, and closed, is the whole: lines, replay and store
-pub fed-is-whole : (store line input : List ℕ) → length line ≡ 2080 → closed (fedBy (carryingWith (toldOf beginning store []) line 0) input) ≡ wholeOf store input
+pub fed-is-whole : (store line input : List ℕ) → length line ≡ MAX_LINE → closed (fedBy (carryingWith (toldOf beginning store []) line 0) input) ≡ wholeOf store input
 unfolding wholeOf
 fed-is-whole store line input h = closed-from (toldOf beginning store []) line 0 [] input (carries-none line h)

@@ -4,6 +4,10 @@ use mathlib.Core.List.{List, [], _∷_}
 use Prim.Native.Nat.{ℕ, _/_, _^_}
 use Rattle.text.specs.Hex.{hexDigit}
 
+-- its bytes, with the line feed
+abbrev pub LINE_TEXT : ℕ
+LINE_TEXT = 12
+
 unfoldable pub textOf : ℕ → ℕ → List ℕ
 textOf number next =
     hexDigit (number / 16)

@@ -17,6 +17,7 @@ ghost use Prim.Native.Nat.{_+_, _≤_};
 ghost use lib.ListN.{length, drop};
 ghost use Rattle.recording.specs.Lines.{untilFeed};
 ghost use Rattle.text.specs.Put.{putIn};
+ghost use Rattle.replaying.specs.Writing.{LINE_TEXT};
 ghost use Rattle.replaying.specs.Feeding.{saidBy, lineWith, countWith, carriedLine, carriedCount, lineAnswer, lineStore, absentOf, carrying, lastOf, feedOf, feedStore, feedLine, feedOut, closeOf, closeStore, closeOut};
 ghost use Rattle.replaying.specs.FeedLine.{fedAs};
 
@@ -87,7 +88,7 @@ fn end_line(r: Replay, store: &mut [u8], line: &[u8], count: usize) -> Answered
 
 // Writes an answer's line at a place, if there is one, and says where its text ends.
 fn show(answer: Answer, out: &mut [u8], at: usize) -> usize
-    requires { ⌜ at + 12 ≤ length (now out) ⌝ }
+    requires { ⌜ at + LINE_TEXT ≤ length (now out) ⌝ }
     ensures { λ r. ⌜ r ≡ at + length (saidBy answer) ⌝ }
     ensures { λ _. ⌜ now (out .exit) ≡ putIn (saidBy answer) (now (out .entry)) at ⌝ }
 {
@@ -101,6 +102,7 @@ fn show(answer: Answer, out: &mut [u8], at: usize) -> usize
     }
 }
 
+// What a call answers, made in one place for its three exits.
 fn fed_as(said: Answered, count: usize, used: usize, wrote: usize) -> Fed
     ensures { λ f. ⌜ f ≡ fedAs (record { replay = said .replay; count = count }) used wrote ⌝ }
 {

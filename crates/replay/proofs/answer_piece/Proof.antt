@@ -5,6 +5,7 @@ use native.Mathlib.Omega.{arith}
 use denote.Ref.{now}
 use lib.ListN.{length, take, drop, length-drop}
 use lib.Seq.{length-take-le, take-all}
+use Rattle.replaying.specs.Writing.{LINE_TEXT}
 use Rattle.replaying.specs.Feeding.{carrying, fedBy}
 use Rattle.replaying.specs.Pieces.{lent, wrote-within, turn}
 use Rattle.replay.proofs.answer_piece.Statement.{statement}
@@ -15,7 +16,7 @@ Inv-loop store₀ line₀ piece out₀ going₀ at₀ store line out going at =
     (carrying going store line ≡ lent (fedBy (carrying going₀ store₀ line₀) (take at piece)))
     × (at ≤ length piece)
     × (length store ≡ length store₀)
-    × (12 ≤ length out)
+    × (LINE_TEXT ≤ length out)
 
 abbrev μ-loop : tie.MeasureT-loop
 μ-loop store₀ line₀ piece out₀ going₀ at₀ store line out going at = length piece - at

@@ -5,6 +5,7 @@ use native.Mathlib.Nat.{zero-add}
 use native.Mathlib.Omega.{arith}
 use denote.Ref.{now}
 use lib.ListN.{length}
+use Rattle.replaying.specs.Writing.{LINE_TEXT}
 use Rattle.replaying.specs.Feeding.{saidBy, carrying, startingWith, closed, closedAs, closeOf, closeOut, said-short}
 use Rattle.replaying.specs.FeedLine.{put-start}
 use borrow.Author.Needs.{needs}
@@ -26,7 +27,7 @@ returns c =
     let a = c .before .before .before .before .before .before .before .before .before .args in
     let e = c .before .before .before .before .before .end-input in
     let k = carrying (a .session) (now (a .store)) (now (a .line)) in
-    let room : 12 ≤ length (now (a .out)) = search needs in
+    let room : LINE_TEXT ≤ length (now (a .out)) = search needs in
     let short = said-short (e .result .answer) in (
       ap (closedAs (e .result .replay)) (c .show .ensures .0 ∙ zero-add _) ∙ ap (λ x. closedAs (x .replay) (length (saidBy (x .answer)))) (e .ensures .0),
       (
