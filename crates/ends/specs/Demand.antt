@@ -16,7 +16,8 @@ use Rattle.engine.specs.Table.{packetOf}
 use Rattle.engine.specs.Acking.{ackOf}
 use Rattle.engine.specs.declared.handing_out.HandOut.the-variants as handouts
 use Rattle.engine.specs.HandingOut.{takeOf}
-use Rattle.ends.specs.World.{Msg, Packet, World, swap, after, moved, newest, Brought, BroughtAck, AckFor, TimelyAck, Acked, Step, at-a, Run, _then_, Fresh}
+use Rattle.laws.specs.Calls as calls
+use Rattle.ends.specs.World.{Msg, Packet, World, swap, called, newest, Brought, BroughtAck, AckFor, TimelyAck, Acked, Step, at-a, Run, _then_, Fresh}
 
 abbrev pub noMsg : Msg
 noMsg = record { kind = msgs.Data; bytes = [] }
@@ -33,9 +34,13 @@ Beginning xs ys = (zs : List Msg) × (ys ≡ xs ++ zs)
 abbrev pub Safe : World → Type 0
 Safe W = Beginning (W .b .out) (handed (W .a .given))
 
+-- message i of those that were given is among what was accepted
+abbrev pub IsAccepted : List Packet → List Msg → ℕ → Type 0
+IsAccepted accepted given i = (p : Packet) × List·Memᴰ p accepted × (p .index ≡ i) × (p .msg ≡ getD given i noMsg)
+
 -- message i of those that a was given has been accepted by b, by a call not refused
 abbrev pub Accepted : World → ℕ → Type 0
-Accepted W i = (p : Packet) × List·Memᴰ p (W .b .accepted) × (p .index ≡ i) × (p .msg ≡ getD (W .a .given) i noMsg)
+Accepted W i = IsAccepted (W .b .accepted) (W .a .given) i
 
 -- "an end's packet table is empty"
 abbrev pub Emptied : World → Type 0
@@ -64,7 +69,7 @@ SentOver (ResendQueued link) slot = ⊥
 pub data Returned (U : World) (i : ℕ) : (W : World) → Run U W → Type 0 where
   now : {W : World} (r : Run U W) (slot time n : ℕ) (brought : BroughtAck n (W .ba)) (timely : TimelyAck n (W .a) (W .b))
       → n ≡ plus (W .start) i → SentOver (statusOf W i) slot → ackOf (W .a .state) slot time n .outcome ≡ outcomes.Done
-      → Returned U i (moved W (after (W .a) (ackOf (W .a .state) slot time n .state))) (_then_ r (at-a (Acked slot time n brought timely)))
+      → Returned U i (called W (calls.Ack slot time n)) (_then_ r (at-a (Acked slot time n brought timely)))
   earlier : {W X : World} {r : Run U W} (x : Step W X) → Returned U i W r → Returned U i X (_then_ r x)
 
 -- "each packet not yet Received": message i is in a's table, and not Received
@@ -82,17 +87,17 @@ abbrev pub Drains : World → Type 0
 Drains U = (W : World) (r : Run U W) → Stops U W → ((i : ℕ) → Open U i → Returned U i W r) → Emptied W
 
 -- what the observer wrote beside a message is so: `index` is its place among those that a was given, its number and content are of that place
-pub record Labelled (W : World) (p : Packet) : Type 0 where
-  pub inside : p .index < length (W .a .given)
-  pub number-is : p .number ≡ plus (W .start) (p .index)
-  pub msg-is : p .msg ≡ getD (W .a .given) (p .index) noMsg
+pub record Labelled (start : ℕ) (given : List Msg) (p : Packet) : Type 0 where
+  pub inside : p .index < length given
+  pub number-is : p .number ≡ plus start (p .index)
+  pub msg-is : p .msg ≡ getD given (p .index) noMsg
 
 -- .. of each message of a that is on the links or that b accepted. The next number is that of the place after all that was given, and an ack
 -- on the links is for a message that was accepted: so Timely and TimelyAck say how late is too late, and nothing else
 pub record Pinned (W : World) : Type 0 where
   pub next-is : W .a .state .tx .«tx_seq» .0 ≡ plus (W .start) (length (W .a .given))
-  pub put : (p : Packet) → Brought p (W .ab) → Labelled W p
-  pub accepted : (p : Packet) → List·Memᴰ p (W .b .accepted) → Labelled W p
+  pub put : (p : Packet) → Brought p (W .ab) → Labelled (W .start) (W .a .given) p
+  pub accepted : (p : Packet) → List·Memᴰ p (W .b .accepted) → Labelled (W .start) (W .a .given) p
   -- a packet in the table is the newest of its number: so what Resend writes down is the place of the packet that it resends
   pub resent : (i : ℕ) → i < length (W .a .given) → length (W .a .given) ≤ i + W .a .state .tx .«txed_count» → newest (W .start) (length (W .a .given)) (plus (W .start) i) ≡ i
   pub acks : (n : ℕ) → BroughtAck n (W .ba) → AckFor n (W .b .accepted)

@@ -1,149 +1,165 @@
--- One direction: with sending stopped, a packet that was acked where it was Sent leaves the table, and an emptied table stays so.
--- Assumes nothing.
-use mathlib.Core.Path.{_≡_, refl, sym, _∙_, ap}
-use mathlib.Core.Bool.{Bool, true, false, cond}
-use Prim.Native.Nat.{ℕ, _+_, _-_, _≤_, _<_}
+-- With sending stopped, a packet that was acked where it was Sent leaves the table, and an emptied table stays so. Assumes nothing.
+use mathlib.Core.Path.{_≡_, refl, sym, ap, subst, _∙_}
+use mathlib.Core.Bool.{true}
+use mathlib.Core.List.{List, map}
+use Prim.Native.Nat.{ℕ, _+_, _-_, _^_, _≤_, _<_}
+use native.Mathlib.Decide.{decLt}
 use native.Mathlib.Omega.{arith}
-use native.Mathlib.Decide.{decLt, decLe, ℕ-discrete}
-use lib.ListN.{length, getD, set}
-use borrow.Author.Tests.{le-leb, eq-eqb}
-use Rattle.ends.specs.Wrap.{num, diff, cell}
-use Rattle.ends.specs.Model.{Pkt, noPkt, Status, SentOn, Queued, Received, Tx, isQueued, isReceived, inTable, pktAt, withStatus, withCells, settled, settledPkt, sweep, acked}
-use Rattle.ends.specs.OneWay.{Way, Move, send, resend, unconfirm, relabel, ack, again, receive, Moves, none, _and_, onAck}
-use Rattle.ends.specs.OneWay
-use Rattle.ends.specs.Inv.{pos, pktOf}
-use Rattle.ends.specs.TxLaws.{hit, miss, length-snoc, swept-le}
-use Rattle.ends.specs.TxKeeps.{map-received, like-at}
-use Rattle.ends.specs.RxKeeps.{Kept}
-use Rattle.ends.specs.Keeps.{keeps-all}
-use Rattle.refusal.specs.Tests.{split}
-use Rattle.engine.specs.Sizes.{PACKETS}
+use lib.Dec.{eqb}
+use lib.ListN.{length, getD, drop, length-map, length-drop}
+use lib.Seq.{getD-drop}
+use borrow.Author.Tests.{eq-eqb, le-leb}
+use borrow.Table.Steps.{cases}
+use Rattle.seq.specs.Numbers.{plus, minus}
+use Rattle.seq.specs.Laws.{plus-lt, minus-ahead}
+use Rattle.refusal.specs.declared.verdict.Verdict.the-variants as verdicts
+use Rattle.refusal.specs.Tests.{false-true, join}
+use Rattle.engine.specs.declared.state.SentReliableStatus.{SentReliableStatus}
+use Rattle.engine.specs.declared.state.SentReliableStatus.the-variants as statuses
+use Rattle.engine.specs.declared.state.SentReliable.{SentReliable}
+use Rattle.engine.specs.declared.state.State.{State}
+use Rattle.engine.specs.declared.answer.Outcome.the-variants as outcomes
+use Rattle.engine.specs.Answer.{done-passed}
+use Rattle.engine.specs.Gates.{timedVerdict}
+use Rattle.engine.specs.Packets.{noPacket, packets, isReceived}
+use Rattle.engine.specs.Table.{inTable, lookedAt}
+use Rattle.engine.specs.InTable.{looked-cell}
+use Rattle.engine.specs.Sending.{sentState, sentBy, sendOf}
+use Rattle.engine.specs.Acking.{settled, ackedState, ackOf}
+use Rattle.laws.specs.Good.{Good}
+use Rattle.laws.specs.Calls as calls
+use Rattle.laws.specs.Calls.{Holding, next, done}
+use Rattle.laws.specs.Passed.{next-keeps, answer-keeps, left-passed, passed}
+use Rattle.laws.specs.PacketsKept.{packets-count, map-at}
+use Rattle.laws.specs.PacketEffects.{restated, changeAt, acked-packets, sweeps}
+use Rattle.ends.specs.World.{End, World, holds, called, TimelyAck, givenBy, sendAt, resendAt, receiveAt, takeAt, takeAckAt, Call, Other, Send, Resend, Receive, Acked, Take, TakeAck}
+use Rattle.ends.specs.Demand.{statusOf, SentOver}
+use Rattle.ends.specs.Inv.{way, Inv}
+use Rattle.ends.specs.TxSteps.{longer}
+use Rattle.ends.specs.Sender.{ack-small}
+use Rattle.ends.specs.Left.{TxLeft, other-left, number-place, resent-left, received-tx, taken-tx, took-ack-tx}
 
--- index j is Received, or no more in the table
-abbrev pub Done : Way → ℕ → Type 0
-Done w j = j < length (w .given) → length (w .given) ≤ j + w .tx .count → isReceived (pktOf (w .tx) (pos (w .start) j) .status) ≡ true
+-- ---- over a list of packets: message j, of `given` ones, is Received, or no more in the table
 
-settled-keeps : (slot : ℕ) (x : Status) → isReceived x ≡ true → isReceived (settled slot x) ≡ true
-settled-keeps slot (SentOn k) h = let z : true ≡ false = sym h in cc
-settled-keeps slot Queued h = refl
-settled-keeps slot Received h = refl
+abbrev DoneIn : ℕ → List SentReliable → ℕ → Type 0
+DoneIn given ps j = (k : ℕ) → k < length ps → j + length ps ≡ given + k → isReceived (getD ps k noPacket .status) ≡ true
 
-queued-not : (x : Status) → isQueued x ≡ true → isReceived x ≡ true → ⊥
-queued-not (SentOn k) p q = let z : _≡_ {A = ℕ} 0 1 = cc in omega arith
-queued-not Queued p q = let z : _≡_ {A = ℕ} 0 1 = cc in omega arith
-queued-not Received p q = let z : _≡_ {A = ℕ} 0 1 = cc in omega arith
+module _ (given : ℕ) (ps : List SentReliable) (j : ℕ) where
+  done-restated : (change : SentReliable → SentReliableStatus)
+      → ((k : ℕ) → k < length ps → j + length ps ≡ given + k → isReceived (change (getD ps k noPacket)) ≡ true) → DoneIn given (map (restated change) ps) j
+  done-restated change stays k l q =
+      let long : length (map (restated change) ps) ≡ length ps = length-map ps (restated change) in
+      let l′ : k < length ps = omega (arith, long) in
+      rw (map-at (restated change) noPacket ps k l′) (stays k l′ (omega (arith, long)))
 
-sweep-le : (t : Tx) → sweep t .count ≤ t .count
-sweep-le t = swept-le (cell (diff (t .next) (t .count))) (t .count) (t .cells)
+  done-dropped : (gone : ℕ) → gone ≤ length ps → DoneIn given ps j → DoneIn given (drop gone ps) j
+  done-dropped gone few d k l q =
+      let long : length (drop gone ps) ≡ length ps - gone = length-drop gone ps in
+      rw (getD-drop gone ps k noPacket) (d (gone + k) (omega (arith, long)) (omega (arith, long)))
 
--- the table after the mark of an ack
-state : ℕ → ℕ → Tx → Bool → Tx
-state slot n t b = cond b (withCells (set (t .cells) (cell n) (settledPkt slot (pktAt t n))) t) t
+-- what is Received stays so
+settled-received : (slot : ℕ) (st : SentReliableStatus) → isReceived st ≡ true → isReceived (settled slot st) ≡ true
+unfolding settled
+settled-received slot (statuses.Sent flight) r = false-true r
+settled-received slot statuses.Received r = refl
+settled-received slot (statuses.ResendQueued link) r = refl
 
-state-count : (slot n : ℕ) (t : Tx) (b : Bool) → state slot n t b .count ≡ t .count
-unfolding state
-state-count slot n t true = refl
-state-count slot n t false = refl
+over-settled : (slot : ℕ) (st : SentReliableStatus) → SentOver st slot → isReceived (settled slot st) ≡ true
+unfolding settled
+over-settled slot (statuses.Sent flight) o = simp (eq-eqb (flight .slot) slot o)
+over-settled slot statuses.Received o = absurd o
+over-settled slot (statuses.ResendQueued link) o = absurd o
 
-done-ack-any : (w : Way) → length (w .tx .cells) ≡ PACKETS → (slot n : ℕ) (j : ℕ) → Done w j → Done (onAck slot n w) j
-unfolding state
-done-ack-any w l slot n j d j<N q = go (inTable n (w .tx)) q
+-- ---- message j of those that a was given
+
+abbrev pub Done : End → ℕ → Type 0
+Done x j = DoneIn (length (x .given)) (packets (x .state .tx)) j
+
+module _ (W : World) (i : Inv (way W)) (good : Good (W .a .state)) (j : ℕ) where
+  abbrev h : Holding
+  h = holds (W .a)
+
+  abbrev S : State
+  S = W .a .state
+
+  abbrev ps : List SentReliable
+  ps = packets (W .a .state .tx)
+
+  -- .. with what a call left
+  abbrev DoneBy : Holding → Type 0
+  DoneBy k = DoneIn (length (W .a .given)) (packets (k .state .tx)) j
+
+  done-left : (k : Holding) → TxLeft h k → Done (W .a) j → DoneBy k
+  done-left k l d =
+      subst (λ (qs : List SentReliable). DoneIn (length (W .a .given)) qs j) (sym (l .restates .is))
+      (done-restated (length (W .a .given)) ps j (l .restates .change) (λ n x q. l .restates .same n x ∙ d n x q))
+
+  -- an ack: where each packet of message j is Received once its status is settled
+  done-acked : (slot time n : ℕ) → n < 2 ^ 32
+      → ((k : ℕ) → k < length ps → j + length ps ≡ length (W .a .given) + k → isReceived (changeAt n (settled slot) (getD ps k noPacket)) ≡ true)
+      → DoneBy (done (calls.Ack slot time n) h)
+  done-acked slot time n number stays =
+      let qs = map (restated (changeAt n (settled slot))) ps in
+      let sw = sweeps qs in
+      subst (λ (l : List SentReliable). DoneIn (length (W .a .given)) l j) (sym (acked-packets S good slot time n number ∙ sw .left))
+      (done-dropped (length (W .a .given)) qs j (sw .gone) (sw .within) (done-restated (length (W .a .given)) ps j (changeAt n (settled slot)) stays))
+
+  -- a call by which nothing is given keeps what is done
+  pub done-step : {X : World} → Call W X → length (X .a .given) ≡ length (W .a .given) → Done (W .a) j → Done (X .a) j
+  unfolding sendAt sendOf resendAt receiveAt takeAt takeAckAt
+  done-step (Other c u typed) quiet d = done-left (next c h) (other-left h good c u typed .tx) d
+  done-step (Send slot time m) quiet d =
+      answer-keeps (calls.Send slot time (m .kind) (m .bytes)) h (λ v. sentBy v S (sentState S slot time (m .kind) (length (m .bytes))) .answer)
+      (λ a k. length (givenBy a (W .a .given) m) ≡ length (W .a .given) → DoneIn (length (givenBy a (W .a .given) m)) (packets (k .state .tx)) j)
+      (λ e more. absurd (omega (arith, more, longer (W .a .given) m))) (λ r same. d) quiet
+  done-step (Resend slot time n number) quiet d =
+      let c = calls.Resend slot time n in
+      next-keeps c h DoneBy d (λ e. done-left (done c h) (resent-left h good slot time n number (passed c h number good e) .tx) d)
+  done-step (Receive slot p brought timely) quiet d =
+      let c = calls.Receive slot (p .msg .kind) (p .number) (p .msg .bytes) in
+      next-keeps c h DoneBy d (λ e. done-left (done c h) (received-tx h good slot (p .msg .kind) (p .number) (p .msg .bytes)) d)
+  done-step (Acked slot time n brought timely) quiet d =
+      next-keeps (calls.Ack slot time n) h DoneBy d
+      (λ e. done-acked slot time n (ack-small W i good timely)
+      (λ k l q. cases (eqb (getD ps k noPacket .seq .0) n) (λ t. simp t (settled-received slot (getD ps k noPacket .status) (d k l q))) (λ t. simp t (d k l q))))
+  done-step Take quiet d = next-keeps calls.Take h DoneBy d (λ e. done-left (done calls.Take h) (taken-tx h good) d)
+  done-step (TakeAck slot) quiet d = next-keeps (calls.TakeAck slot) h DoneBy d (λ e. done-left (done (calls.TakeAck slot) h) (took-ack-tx h good slot) d)
+
+  -- the packet of message j, by its number and in its place
+  pub status-at : (k : ℕ) → k < length ps → j + length ps ≡ length (W .a .given) + k → statusOf W j ≡ getD ps k noPacket .status
+  unfolding inTable lookedAt
+  status-at k l q =
+      let n = plus (W .start) j in
+      let count = packets-count (S .tx) in
+      let back : minus (S .tx .«tx_seq» .0) n ≡ length (W .a .given) - j =
+      ap (λ x. minus x n) (i .txi .next-is) ∙ minus-ahead (W .start) (length (W .a .given)) j (omega arith) (omega (arith, i .txi .room)) in
+      let b = minus (S .tx .«tx_seq» .0) n in
+      let held : inTable (S .tx) n ≡ true = join (le-leb 1 b (omega (arith, back))) (le-leb b (S .tx .«txed_count») (omega (arith, back, count))) in
+      let here = number-place h good k n (omega (arith, count)) (i .txi .each k j l q .number-is) in
+      ap (λ (p : SentReliable). p .status) (looked-cell S (good .shaped) (good .sound) n (plus-lt (W .start) j) held) ∙ ap (λ x. getD ps x noPacket .status) here
+
+  -- an ack that comes where the packet was Sent
+  pub done-now : (slot time n : ℕ) → TimelyAck n (W .a) (W .b) → n ≡ plus (W .start) j → SentOver (statusOf W j) slot → ackOf S slot time n .outcome ≡ outcomes.Done
+      → Done (called W (calls.Ack slot time n) .a) j
+  unfolding ackOf
+  done-now slot time n timely n-is over ok =
+      let c = calls.Ack slot time n in
+      let e = done-passed (timedVerdict S slot time verdicts.Pass) S (ackedState S slot time n) ok in
+      subst DoneBy (sym (left-passed c h e))
+      (done-acked slot time n (ack-small W i good timely)
+      (λ k l q.
+      let st = getD ps k noPacket .status in
+      let same : eqb (getD ps k noPacket .seq .0) n ≡ true = eq-eqb _ n (i .txi .each k j l q .number-is ∙ sym n-is) in
+      simp same (over-settled slot st (subst (λ (x : SentReliableStatus). SentOver x slot) (status-at k l q) over))))
+
+-- a table of which each packet is done is empty: the first isn't Received
+pub all-done : (W : World) → Inv (way W) → Good (W .a .state) → ((j : ℕ) → j < length (W .a .given) → Done (W .a) j) → W .a .state .tx .«txed_count» ≡ 0
+all-done W i good d = go (decLt 0 (W .a .state .tx .«txed_count»))
   where
-    t : Tx
-    t = w .tx
-
-    new : Pkt
-    new = settledPkt slot (pktAt t n)
-
-    go : (b : Bool) → length (w .given) ≤ j + sweep (state slot n t b) .count → isReceived (pktOf (state slot n t b) (pos (w .start) j) .status) ≡ true
-    go false h = d j<N (omega (arith, sweep-le t))
-    go true h = at-place (ℕ-discrete (pos (w .start) j) (cell n))
-      where
-        before : isReceived (pktOf t (pos (w .start) j) .status) ≡ true
-        before = d j<N (omega (arith, sweep-le (withCells (set (t .cells) (cell n) new) t)))
-
-        at-place : Dec (pos (w .start) j ≡ cell n) → isReceived (getD (set (t .cells) (cell n) new) (pos (w .start) j) noPkt .status) ≡ true
-        at-place (yes y) = ap (λ (x : Pkt). isReceived (x .status)) (hit (t .cells) (cell n) (pos (w .start) j) new noPkt (omega (arith, l)) y)
-            ∙ settled-keeps slot (pktAt t n .status) (rw y at before)
-        at-place (no y) = ap (λ (x : Pkt). isReceived (x .status)) (miss (t .cells) (cell n) (pos (w .start) j) new noPkt y) ∙ before
-
--- a move at which nothing new is given keeps what is done
-pub done-move : {w w′ : Way} → Move w w′ → Kept w → length (w′ .given) ≡ length (w .given) → (j : ℕ) → Done w j → Done w′ j
-done-move (send {w} slot m ok) k quiet j d = absurd (omega (arith, quiet, length-snoc (w .given) m))
-done-move (resend {w} slot n n32 ok) k quiet j d = λ j<N p. place j<N p (ℕ-discrete (pos (w .start) j) (cell n))
-  where
-    new : Pkt
-    new = withStatus (SentOn slot) (pktAt (w .tx) n)
-
-    place : j < length (w .given) → length (w .given) ≤ j + w .tx .count → Dec (pos (w .start) j ≡ cell n)
-        → isReceived (getD (set (w .tx .cells) (cell n) new) (pos (w .start) j) noPkt .status) ≡ true
-    place j<N p (yes y) = absurd (queued-not (pktAt (w .tx) n .status) (split (inTable n (w .tx)) (isQueued (pktAt (w .tx) n .status)) ok .1) (rw y at (d j<N p)))
-    place j<N p (no y) = ap (λ (x : Pkt). isReceived (x .status)) (miss (w .tx .cells) (cell n) (pos (w .start) j) new noPkt y) ∙ d j<N p
-done-move (unconfirm {w} slot) k quiet j d = λ j<N p. map-received slot (w .tx .cells) (pos (w .start) j) ∙ d j<N p
-done-move (relabel {w} t l) k quiet j d = λ j<N p. let p′ : length (w .given) ≤ j + w .tx .count = rw (l .count-same) at p in
-    ap (λ (x : Pkt). isReceived (x .status)) (like-at w (k .e) (k .o) (k .inv) t l j j<N p′) ∙ d j<N p′
-done-move (ack {w} slot n p h q t) k quiet j d = done-ack-any w (k .inv .txi .tcells) slot n j d
-done-move (again {w} p h t same) k quiet j d = d
-done-move (receive {w} p h t new close) k quiet j d = d
-done-move (OneWay.take {w} ok) k quiet j d = d
-
--- an ack that comes where the packet was Sent
-pub done-ack : (w : Way) (k : Kept w) (slot n i : ℕ) → n ≡ num (w .start) i → pktOf (w .tx) (pos (w .start) i) .status ≡ SentOn slot → Done (onAck slot n w) i
-unfolding state
-done-ack w k slot n i n-is sent j<N q = go (decLe (length (w .given)) (i + t .count))
-  where
-    t : Tx
-    t = w .tx
-
-    new : Pkt
-    new = settledPkt slot (pktAt t n)
-
-    k-is : pos (w .start) i ≡ cell n
-    k-is = omega (arith, n-is)
-
-    go : Dec (length (w .given) ≤ i + t .count) → isReceived (pktOf (state slot n t (inTable n t)) (pos (w .start) i) .status) ≡ true
-    go (no y) = absurd (y (omega (arith, q, sweep-le (state slot n t (inTable n t)), state-count slot n t (inTable n t))))
-    go (yes y) = rw here-it (ap (λ (x : Pkt). isReceived (x .status)) (hit (t .cells) (cell n) (pos (w .start) i) new noPkt (omega (arith, k .inv .txi .tcells)) k-is)
-        ∙ rw (← k-is, sent, eq-eqb slot slot refl) refl)
-      where
-        room : t .count ≤ PACKETS
-        room = k .inv .txi .room
-
-        back-is : diff (t .next) n ≡ length (w .given) - i
-        back-is = omega (arith, n-is, k .inv .txi .next-is, j<N, room)
-
-        here-it : inTable n t ≡ true
-        here-it = rw (le-leb 1 (diff (t .next) n) (omega (arith, back-is, j<N))) (le-leb (diff (t .next) n) (t .count) (omega (arith, back-is, j<N)))
-
-pub all-done : (w : Way) → Kept w → ((j : ℕ) → j < length (w .given) → Done w j) → w .tx .count ≡ 0
-all-done w k d = go (decLt 0 (w .tx .count))
-  where
-    go : Dec (0 < w .tx .count) → w .tx .count ≡ 0
+    go : Dec (0 < W .a .state .tx .«txed_count») → W .a .state .tx .«txed_count» ≡ 0
     go (no y) = omega arith
     go (yes y) =
-        let z : true ≡ false = sym (d (length (w .given) - w .tx .count) (omega (arith, k .inv .txi .within)) (omega (arith, k .inv .txi .within)) (omega (arith, k .inv .txi .within))) ∙ k .inv .head y in cc
-
--- ---- along many moves
-
-move-grows : {w w′ : Way} → Move w w′ → length (w .given) ≤ length (w′ .given)
-move-grows (send {w} slot m ok) = omega (arith, length-snoc (w .given) m)
-move-grows (resend {w} slot n n32 ok) = omega arith
-move-grows (unconfirm {w} slot) = omega arith
-move-grows (relabel {w} t l) = omega arith
-move-grows (ack {w} slot n p h q t) = omega arith
-move-grows (again {w} p h t same) = omega arith
-move-grows (receive {w} p h t new close) = omega arith
-move-grows (OneWay.take {w} ok) = omega arith
-
-pub moves-grow : {u w : Way} → Moves u w → length (u .given) ≤ length (w .given)
-moves-grow none = omega arith
-moves-grow (_and_ r x) = omega (arith, moves-grow r, move-grows x)
-
-pub done-moves : {u w : Way} → Moves u w → Kept u → length (w .given) ≡ length (u .given) → (j : ℕ) → Done u j → Done w j
-done-moves none k q j d = d
-done-moves (_and_ r y) k q j d =
-    done-move y (keeps-all r k) (omega (arith, q, move-grows y, moves-grow r)) j (done-moves r k (omega (arith, q, move-grows y, moves-grow r)) j d)
-
-pub acked-le : (slot n : ℕ) (t : Tx) → acked slot n t .count ≤ t .count
-unfolding state
-acked-le slot n t = omega (arith, sweep-le (state slot n t (inTable n t)), state-count slot n t (inTable n t))
+        let tx = W .a .state .tx in
+        let count = packets-count tx in
+        let j = length (W .a .given) - length (packets tx) in
+        false-true (sym (good .sound .first y) ∙ d j (omega (arith, count, i .txi .within)) 0 (omega (arith, count)) (omega (arith, i .txi .within)))

@@ -1,111 +1,119 @@
--- The invariant: what is true of one direction after any moves. `e` and `o` are the next expected and the oldest number, counted
--- without wrapping. Assumes nothing.
+-- The invariant: what is true of what a sends to b after any calls, beside the soundness of both states. `e` and `o` are the next expected and the
+-- oldest number, counted without wrapping from `s`, the start. G is what was given. Assumes nothing.
 use mathlib.Core.Path.{_≡_}
-use mathlib.Core.Bool.{true, false}
+use mathlib.Core.Bool.{true}
 use mathlib.Core.Logic.{_⊎_}
 use mathlib.Core.List.{List, List·Memᴰ}
-use Prim.Native.Nat.{ℕ, _+_, _-_, _%_, _≤_, _<_}
+use Prim.Native.Nat.{ℕ, _+_, _*_, _≤_, _<_}
 use lib.ListN.{length, getD, take}
+use Rattle.seq.specs.declared.Seq.{Seq}
+use Rattle.seq.specs.Numbers.{plus}
+use Rattle.link.specs.Acks.{waiting}
+use Rattle.engine.specs.declared.state.State.{State}
+use Rattle.engine.specs.declared.state.SentReliable.{SentReliable}
 use Rattle.engine.specs.declared.state.Held.{Held}
 use Rattle.engine.specs.declared.state.Held.the-variants.{Message}
-use Rattle.engine.specs.declared.state.RxCell.{RxCell}
-use Rattle.engine.specs.Received.{noCell, isFull, isReadyKind}
-use Rattle.engine.specs.Sizes.{PACKETS, DATA_BYTES, SENT_BYTES, CELLS, RECEIVED_BYTES}
-use Rattle.ends.specs.World.{Msg, Packet}
-use Rattle.ends.specs.Demand.{noMsg, handed}
-use Rattle.ends.specs.Wrap.{num}
-use Rattle.ends.specs.Store.{getCell}
-use Rattle.ends.specs.Model.{Pkt, noPkt, Received, isReceived, Tx, Rx}
-use Rattle.ends.specs.OneWay.{Way, HasAccepted}
-
--- the cell of count j
-abbrev pub pos : ℕ → ℕ → ℕ
-pos s j = (s + j) % PACKETS
+use Rattle.engine.specs.Packets.{noPacket, packets, isReceived}
+use Rattle.engine.specs.Received.{isFull, isReadyKind}
+use Rattle.engine.specs.Cells.{cellOf}
+use Rattle.engine.specs.Rows.{rowOf}
+use Rattle.engine.specs.Sizes.{PACKETS, CELLS, DATA_BYTES}
+use Rattle.ends.specs.World.{Msg, Packet, World, AckFor}
+use Rattle.ends.specs.Demand.{noMsg, handed, IsAccepted, Labelled}
+use Rattle.ends.specs.Store.{cellBytes}
 
 abbrev pub at : List Msg → ℕ → Msg
 at G j = getD G j noMsg
 
-abbrev pub pktOf : Tx → ℕ → Pkt
-pktOf t k = getD (t .cells) k noPkt
+-- ---- the sending end
 
-abbrev pub heldOf : Rx → ℕ → Held
-heldOf r k = getD (r .cells) k noCell .held
+-- a packet of the table carries message j; if it is Received, the other end has the message (H)
+pub record Carries (s : ℕ) (store : List ℕ) (H : ℕ → Type 0) (j : ℕ) (p : SentReliable) (m : Msg) : Type 0 where
+  pub number-is : p .seq .0 ≡ plus s j
+  pub kind-is : p .msg ≡ m .kind
+  pub len-is : p .len ≡ length (m .bytes)
+  pub bytes-is : cellBytes PACKETS store (plus s j) (length (m .bytes)) ≡ m .bytes
+  pub received : isReceived (p .status) ≡ true → H j
 
--- ---- the sending half
+-- the table carries the last messages that were given: packet i of it message j, both counted from their ends
+pub record TxI (s : ℕ) (G : List Msg) (next : ℕ) (ps : List SentReliable) (store : List ℕ) (e : ℕ) (H : ℕ → Type 0) : Type 0 where
+  pub next-is : next ≡ plus s (length G)
+  pub room : length ps ≤ PACKETS
+  pub within : length ps ≤ length G
+  -- what isn't in the table any more is before the next expected
+  pub tight : length G ≤ e + length ps
+  pub store-long : length store ≡ PACKETS * DATA_BYTES
+  pub each : (i j : ℕ) → i < length ps → j + length ps ≡ length G + i → Carries s store H j (getD ps i noPacket) (at G j)
 
--- a cell of the table holds the message
-pub record PktIs (t : Tx) (k : ℕ) (m : Msg) : Type 0 where
-  pub kind-is : pktOf t k .kind ≡ m .kind
-  pub len-is : pktOf t k .len ≡ length (m .bytes)
-  pub bytes-is : getCell (t .store) k (length (m .bytes)) ≡ m .bytes
+-- ---- the receiving end, of N cells; c is what the cell of a number holds
 
-pub record TxI (s : ℕ) (G : List Msg) (t : Tx) : Type 0 where
-  pub next-is : t .next ≡ num s (length G)
-  pub room : t .count ≤ PACKETS
-  pub within : t .count ≤ length G
-  pub tcells : length (t .cells) ≡ PACKETS
-  pub tstore : length (t .store) ≡ SENT_BYTES
-  pub pkt : (j : ℕ) → j < length G → length G ≤ j + t .count → PktIs t (pos s j) (at G j)
+-- a cell holds message j
+pub record Holds (N s : ℕ) (store : List ℕ) (j : ℕ) (h : Held) (m : Msg) : Type 0 where
+  pub cell-is : h ≡ Message (m .kind) (length (m .bytes))
+  pub bytes-is : cellBytes N store (plus s j) (length (m .bytes)) ≡ m .bytes
 
--- the first packet isn't Received
-abbrev pub Head : ℕ → ℕ → Tx → Type 0
-Head s N t = 0 < t .count → isReceived (pktOf t (pos s (N - t .count)) .status) ≡ false
-
--- ---- the receiving half
-
--- over the fields and not over `r`: a record type is nominal, so a fact of `r` isn't one of a half with the same cells
-pub record HeldIn (c : List RxCell) (d : List ℕ) (k : ℕ) (m : Msg) : Type 0 where
-  pub cell-is : getD c k noCell .held ≡ Message (m .kind) (length (m .bytes))
-  pub bytes-is : getCell d k (length (m .bytes)) ≡ m .bytes
-
-abbrev pub HeldIs : Rx → ℕ → Msg → Type 0
-HeldIs r k m = HeldIn (r .cells) (r .store) k m
-
-pub record RxI (s : ℕ) (G : List Msg) (r : Rx) (e o : ℕ) : Type 0 where
-  pub exp-is : r .expected ≡ num s e
-  pub old-is : r .oldest ≡ num s o
+pub record RxI (N s : ℕ) (G : List Msg) (expected oldest : ℕ) (c : ℕ → Held) (store : List ℕ) (e o : ℕ) : Type 0 where
+  pub exp-is : expected ≡ plus s e
+  pub old-is : oldest ≡ plus s o
   pub oe : o ≤ e
-  pub eo : e ≤ o + CELLS
+  pub eo : e ≤ o + N
   pub en : e ≤ length G
-  pub rcells : length (r .cells) ≡ CELLS
-  pub rstore : length (r .store) ≡ RECEIVED_BYTES
-  pub held : (j : ℕ) → o ≤ j → j < o + CELLS → isFull (heldOf r (pos s j)) ≡ true → (j < length G) × HeldIs r (pos s j) (at G j)
-  pub ready : (j : ℕ) → o ≤ j → j < e → isFull (heldOf r (pos s j)) ≡ isReadyKind (at G j .kind)
-
--- the oldest ready message is one that is handed out; the next expected one isn't there yet
-pub record Rest (s : ℕ) (G : List Msg) (r : Rx) (e o : ℕ) : Type 0 where
-  pub first : o < e → isReadyKind (at G o .kind) ≡ true
-  pub stuck : e < o + CELLS → isFull (heldOf r (pos s e)) ≡ false
+  pub store-long : length store ≡ N * DATA_BYTES
+  pub held : (j : ℕ) → o ≤ j → j < o + N → isFull (c (plus s j)) ≡ true → (j < length G) × Holds N s store j (c (plus s j)) (at G j)
+  pub ready : (j : ℕ) → o ≤ j → j < e → isFull (c (plus s j)) ≡ isReadyKind (at G j .kind)
 
 -- message j has been accepted
-abbrev pub Has : ℕ → Rx → ℕ → ℕ → ℕ → Type 0
-Has s r e o j = (j < e) ⊎ ((e ≤ j) × (j < o + CELLS) × (isFull (heldOf r (pos s j)) ≡ true))
+abbrev pub Has : ℕ → ℕ → (ℕ → Held) → ℕ → ℕ → ℕ → Type 0
+Has N s c e o j = (j < e) ⊎ ((e ≤ j) × (j < o + N) × (isFull (c (plus s j)) ≡ true))
 
--- ---- the links
+-- ---- the links: what was put on them, and what was accepted, are messages that were given; just those accepted are had
 
-pub record PacketIs (s : ℕ) (G : List Msg) (p : Packet) : Type 0 where
-  pub inside : p .index < length G
-  pub number-is : p .number ≡ num s (p .index)
-  pub msg-is : p .msg ≡ at G (p .index)
-
--- what was accepted is one of the messages, and the receiving half has it
-pub record TakenIs (s : ℕ) (G : List Msg) (r : Rx) (e o : ℕ) (p : Packet) : Type 0 where
-  pub packet-is : PacketIs s G p
-  pub has : Has s r e o (p .index)
+pub record LinkI (s : ℕ) (G : List Msg) (H : ℕ → Type 0) (msgs accepted : List Packet) : Type 0 where
+  pub put : (p : Packet) → List·Memᴰ p msgs → Labelled s G p
+  pub taken : (p : Packet) → List·Memᴰ p accepted → Labelled s G p × H (p .index)
+  pub had : (j : ℕ) → j < length G → H j → IsAccepted accepted G j
 
 -- ---- all of it
 
-pub record Inv (w : Way) (e o : ℕ) : Type 0 where
+-- one direction: what the sending end holds and was given, what is on the links, what the receiving end holds, handed out and accepted, and the acks that it put
+pub record Way : Type 0 where
+  pub start : ℕ
+  pub sender : State
+  pub sent : List ℕ
+  pub given : List Msg
+  pub msgs : List Packet
+  pub receiver : State
+  pub received : List ℕ
+  pub out : List Msg
+  pub accepted : List Packet
+  pub acks : List ℕ
+
+-- from a to b
+abbrev pub way : World → Way
+way W = record {
+  start = W .start;
+  sender = W .a .state;
+  sent = W .a .sent;
+  given = W .a .given;
+  msgs = W .ab .msgs;
+  receiver = W .b .state;
+  received = W .b .received;
+  out = W .b .out;
+  accepted = W .b .accepted;
+  acks = W .ba .acks;
+}
+
+abbrev pub HasAt : Way → ℕ → ℕ → ℕ → Type 0
+HasAt w e o j = Has CELLS (w .start) (cellOf CELLS (w .receiver .rx)) e o j
+
+pub record Inv (w : Way) : Type 0 where
+  pub e : ℕ
+  pub o : ℕ
   pub small : (j : ℕ) → j < length (w .given) → length (at (w .given) j .bytes) ≤ DATA_BYTES
-  pub txi : TxI (w .start) (w .given) (w .tx)
-  pub head : Head (w .start) (length (w .given)) (w .tx)
-  pub rxi : RxI (w .start) (w .given) (w .rx) e o
-  pub rest : Rest (w .start) (w .given) (w .rx) e o
-  -- what isn't in the table any more is before the next expected
-  pub tight : length (w .given) ≤ e + w .tx .count
-  pub recvd : (j : ℕ) → j < length (w .given) → length (w .given) ≤ j + w .tx .count → pktOf (w .tx) (pos (w .start) j) .status ≡ Received
-      → Has (w .start) (w .rx) e o j
-  pub msgs-ok : (p : Packet) → List·Memᴰ p (w .msgs) → PacketIs (w .start) (w .given) p
-  pub taken-ok : (p : Packet) → List·Memᴰ p (w .accepted) → TakenIs (w .start) (w .given) (w .rx) e o p
-  pub accepted-ok : (j : ℕ) → j < length (w .given) → Has (w .start) (w .rx) e o j → HasAccepted j (at (w .given) j) w
+  pub txi : TxI (w .start) (w .given) (w .sender .tx .«tx_seq» .0) (packets (w .sender .tx)) (w .sent) e (HasAt w e o)
+  pub rxi : RxI CELLS (w .start) (w .given) (w .receiver .rx .«rx_seq» .0) (w .receiver .rx .«rx_oldest» .0) (cellOf CELLS (w .receiver .rx)) (w .received) e o
+  pub links : LinkI (w .start) (w .given) (HasAt w e o) (w .msgs) (w .accepted)
   pub out-is : w .out ≡ handed (take o (w .given))
+  -- each ack that waits, or that was put on the links, is for a message that was accepted
+  pub acked : (n : ℕ) → List·Memᴰ n (w .acks) → AckFor n (w .accepted)
+  pub waits : (slot : ℕ) (seq : Seq) → List·Memᴰ seq (waiting (rowOf (w .receiver) slot)) → AckFor (seq .0) (w .accepted)

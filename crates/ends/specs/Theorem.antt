@@ -1,48 +1,334 @@
--- Demand 3, proved: the statement of Demand holds of the engine's own definitions. Assumes nothing.
-use mathlib.Core.Path.{_≡_}
-use Prim.Native.Nat.{ℕ}
+-- Demand 3, proved: the statement of Demand holds of the engine's own definitions. Both directions of two ends keep the invariant along any run.
+-- Assumes nothing.
+use mathlib.Core.Path.{_≡_, refl, sym, ap, subst, _∙_}
+use mathlib.Core.Bool.{Bool, true, false}
+use mathlib.Core.Logic.{inl}
+use mathlib.Core.List.{List, [], _++_, List·Memᴰ·not-nil}
+use Prim.Native.Nat.{ℕ, _+_, _-_, _%_, _^_, _≤_, _<_}
+use native.Mathlib.Nat.{mod-lt}
+use native.Mathlib.Decide.{decLt, decLe}
+use native.Mathlib.Omega.{arith}
+use lib.Dec.{ltb}
+use lib.ListN.{length, getD, take, drop, take-append-drop, getD-replicate}
+use lib.Seq.{take-length}
+use borrow.Author.Tests.{ne-eqb, ltb-true}
+use borrow.Table.Steps.{cases}
+use Rattle.seq.specs.Numbers.{plus}
 use Rattle.refusal.specs.declared.verdict.Verdict.{Verdict}
 use Rattle.refusal.specs.declared.verdict.Verdict.the-variants as verdicts
-use Rattle.engine.specs.declared.answer.Outcome.the-variants as outcomes
-use Rattle.engine.specs.Answer.{done-passed}
-use Rattle.engine.specs.Starting.{freshVerdict, freshState, freshOf}
-use Rattle.laws.specs.LinksKept as links
-use Rattle.laws.specs.UnconfirmKept as unconfirms
-use Rattle.laws.specs.FlushKept.{flush-sound, flush-shaped}
-use Rattle.laws.specs.SendKept.{send-sound, send-shaped}
-use Rattle.laws.specs.ResendKept.{resend-sound, resend-shaped}
-use Rattle.laws.specs.AckKept.{ack-sound, ack-shaped}
-use Rattle.laws.specs.ReceiveKept.{receive-sound, receive-shaped}
-use Rattle.laws.specs.TakeKept as takes
-use Rattle.ends.specs.Demand.{Demand3}
-use Rattle.ends.specs.Laws.{SoundLaws}
-use Rattle.ends.specs.TxOfCalls.{sending-laws}
-use Rattle.ends.specs.RxOfCalls.{receiving-laws}
-use Rattle.ends.specs.Proved.{demand3-from}
+use Rattle.refusal.specs.Refusals.{refuse}
+use Rattle.refusal.specs.Verdicts.{gate}
+use Rattle.refusal.specs.Tests.{false-true}
+use Rattle.link.specs.declared.row.LinkRow.{LinkRow}
+use Rattle.link.specs.Row.{emptyRow, noRow}
+use Rattle.link.specs.Acks.{waiting}
+use Rattle.engine.specs.declared.state.SentReliable.{SentReliable}
+use Rattle.engine.specs.declared.state.RxCell.{RxCell}
+use Rattle.engine.specs.declared.state.Receiving.{Receiving}
+use Rattle.engine.specs.declared.state.State.{State}
+use Rattle.engine.specs.declared.sending.SendAnswer.{SendAnswer}
+use Rattle.engine.specs.declared.sending.SendAnswer.the-variants as sends
+use Rattle.engine.specs.declared.handing_out.HandOut.the-variants as handouts
+use Rattle.engine.specs.Answer.{changedBy, done-passed}
+use Rattle.engine.specs.Starting.{freshTx, freshRx, freshState, freshVerdict, freshOf}
+use Rattle.engine.specs.Packets.{noPacket, packets, isReceived}
+use Rattle.engine.specs.Received.{noCell, isFull}
+use Rattle.engine.specs.Ring.{window}
+use Rattle.engine.specs.Cells.{cellOf}
+use Rattle.engine.specs.Rows.{rowOf}
+use Rattle.engine.specs.Decide.{sound-true}
+use Rattle.engine.specs.Sending.{sendOf}
+use Rattle.engine.specs.HandingOut.{readyOf, readyBytes, handOutBy, takeVerdict, takeOf}
+use Rattle.engine.specs.Sizes.{SLOTS, CELLS, SENT_BYTES, RECEIVED_BYTES}
+use Rattle.engine.specs.Totals.{fits, MAX_TOTAL}
+use Rattle.laws.specs.Good.{Good}
+use Rattle.laws.specs.Calls as calls
+use Rattle.laws.specs.SoundKept.{kept, fresh-good}
+use Rattle.laws.specs.PacketsKept.{packets-count}
+use Rattle.laws.specs.CellEffects.{heldPast, table-of}
+use Rattle.ends.specs.World.{Msg, End, World, swap, holds, givenBy, sendAt, resendAt, receiveAt, takeAt, takeAckAt, Call, Other, Send, Resend, Receive, Acked, Take, TakeAck, Step, at-a, at-b, Run, here, _then_, Fresh, fresh, freshEnd, freshWorld}
+use Rattle.ends.specs.Demand.{handed, Safe, Complete, AllOut, Returned, now, earlier, Drains, Pinned, Demand3}
+use Rattle.ends.specs.Inv.{way, Inv}
+use Rattle.ends.specs.RxSteps.{handed-append, rx-ahead, rx-number}
+use Rattle.ends.specs.TxSteps.{longer}
+use Rattle.ends.specs.Sender.{sender, ack-small, newest-of, plus-apart}
+use Rattle.ends.specs.Receiver.{receiver}
+use Rattle.ends.specs.Drains.{Done, done-step, done-now, status-at, all-done}
 
-fresh-passed : (start buffer : ℕ) → freshOf start buffer .outcome ≡ outcomes.Done → freshVerdict buffer ≡ verdicts.Pass
+-- both directions, and both states
+record Joined (W : World) : Type 0 where
+  one : Inv (way W)
+  two : Inv (way (swap W))
+  good-a : Good (W .a .state)
+  good-b : Good (W .b .state)
+
+turned : {W : World} → Joined W → Joined (swap W)
+turned j = record { one = j .two; two = j .one; good-a = j .good-b; good-b = j .good-a }
+
+-- ---- a call at a: a's state is `next` of the call's, and b is left alone
+
+callOf : {W X : World} → Call W X → calls.Call
+callOf (Other c u typed) = c
+callOf (Send slot time m) = calls.Send slot time (m .kind) (m .bytes)
+callOf (Resend slot time n number) = calls.Resend slot time n
+callOf (Receive slot p brought timely) = calls.Receive slot (p .msg .kind) (p .number) (p .msg .bytes)
+callOf (Acked slot time n brought timely) = calls.Ack slot time n
+callOf Take = calls.Take
+callOf (TakeAck slot) = calls.TakeAck slot
+
+record Leaves (W X : World) (c : Call W X) : Type 0 where
+  state-is : X .a .state ≡ calls.next (callOf c) (holds (W .a)) .state
+  other-same : X .b ≡ W .b
+
+leaves : {W X : World} (c : Call W X) → Leaves W X c
+unfolding callOf sendAt resendAt receiveAt takeAt takeAckAt
+leaves (Other c u typed) = record { state-is = refl; other-same = refl }
+leaves (Send slot time m) = record { state-is = refl; other-same = refl }
+leaves (Resend slot time n number) = record { state-is = refl; other-same = refl }
+leaves (Receive slot p brought timely) = record { state-is = refl; other-same = refl }
+leaves (Acked slot time n brought timely) = record { state-is = refl; other-same = refl }
+leaves Take = record { state-is = refl; other-same = refl }
+leaves (TakeAck slot) = record { state-is = refl; other-same = refl }
+
+-- no message is taken back
+given-more : (a : SendAnswer) (given : List Msg) (m : Msg) → length given ≤ length (givenBy a given m)
+given-more (sends.Number seq) given m = omega (arith, longer given m)
+given-more (sends.No r) given m = omega arith
+
+call-grows : {W X : World} → Call W X → length (W .a .given) ≤ length (X .a .given)
+unfolding sendAt resendAt receiveAt takeAt takeAckAt
+call-grows (Other c u typed) = omega arith
+call-grows {W} (Send slot time m) = given-more (sendOf (W .a .state) (length (W .a .sent)) slot time (m .kind) (length (m .bytes)) .answer) (W .a .given) m
+call-grows (Resend slot time n number) = omega arith
+call-grows (Receive slot p brought timely) = omega arith
+call-grows (Acked slot time n brought timely) = omega arith
+call-grows Take = omega arith
+call-grows (TakeAck slot) = omega arith
+
+module _ {W : World} (j : Joined W) where
+  typed : {X : World} (c : Call W X) → calls.Typed (callOf c)
+  unfolding callOf
+  typed (Other c u t) = t
+  typed (Send slot time m) = tt
+  typed (Resend slot time n number) = number
+  typed (Receive slot p brought timely) = tt
+  typed (Acked slot time n brought timely) = ack-small W (j .one) (j .good-a) timely
+  typed Take = tt
+  typed (TakeAck slot) = tt
+
+  next-a : {X : World} → Call W X → Joined X
+  next-a c = record {
+    one = sender W (j .one) (j .good-a) (table-of (W .b .state) (j .good-b)) c;
+    two = receiver W (j .two) (j .good-a) c;
+    good-a = subst Good (sym (leaves c .state-is)) (kept (callOf c) (holds (W .a)) (typed c) (j .good-a));
+    good-b = subst (λ (x : End). Good (x .state)) (sym (leaves c .other-same)) (j .good-b);
+  }
+
+next : {W X : World} → Step W X → Joined W → Joined X
+next (at-a c) j = next-a j c
+next (at-b c) j = turned (next-a (turned j) c)
+
+joined-after : {U W : World} → Run U W → Joined U → Joined W
+joined-after here j = j
+joined-after (_then_ r x) j = next x (joined-after r j)
+
+-- ---- fresh ends
+
+module _ (start buffer : ℕ) where
+  fresh-state : freshOf start buffer .state ≡ freshState start buffer
+  unfolding freshOf
+  fresh-state = either (freshVerdict buffer)
+    where
+      either : (v : Verdict) → changedBy v (freshState start buffer) (freshState start buffer) .state ≡ freshState start buffer
+      either verdicts.Pass = refl
+      either (verdicts.No r) = refl
+
+  -- no cell holds anything, and for no slot an ack waits
+  fresh-cell : (n : ℕ) → isFull (cellOf CELLS (freshState start buffer .rx) n) ≡ false
+  unfolding freshState freshRx cellOf
+  fresh-cell n = ap (λ (c : RxCell). isFull (c .held)) (getD-replicate CELLS (n % CELLS) noCell noCell (mod-lt n (omega arith)))
+
+  fresh-row : (k : ℕ) → waiting (rowOf (freshState start buffer) k) ≡ []
+  unfolding freshState rowOf waiting emptyRow
+  fresh-row k = cases (ltb k SLOTS) (λ t. simp t (ap (λ (r : LinkRow). waiting r) (getD-replicate SLOTS k emptyRow noRow (ltb-true k SLOTS t)))) (λ t. simp t)
+
+fresh-inv : (s x y : ℕ) (sa rb : List ℕ) → s < 2 ^ 32 → length sa ≡ SENT_BYTES → length rb ≡ RECEIVED_BYTES
+    → Inv (record { start = s; sender = freshState s x; sent = sa; given = []; msgs = []; receiver = freshState s y; received = rb; out = []; accepted = []; acks = [] })
+unfolding freshState freshTx freshRx window handed plus
+fresh-inv s x y sa rb s32 la lb =
+    let zero : s ≡ plus s 0 = omega arith in
+    record {
+      e = 0;
+      o = 0;
+      small = λ j l. absurd (omega arith);
+      txi = record { next-is = zero; room = omega arith; within = omega arith; tight = omega arith; store-long = la; each = λ i j l q. absurd (omega arith) };
+      rxi = record {
+        exp-is = zero;
+        old-is = zero;
+        oe = omega arith;
+        eo = omega arith;
+        en = omega arith;
+        store-long = lb;
+        held = λ j l u f. false-true (sym (fresh-cell s y (plus s j)) ∙ f);
+        ready = λ j l u. absurd (omega arith);
+      };
+      links = record { put = λ p m. absurd (List·Memᴰ·not-nil m); taken = λ p m. absurd (List·Memᴰ·not-nil m); had = λ j l m. absurd (omega arith) };
+      out-is = refl;
+      acked = λ n m. absurd (List·Memᴰ·not-nil m);
+      waits = λ k seq m. absurd (List·Memᴰ·not-nil (rw (fresh-row s y k) at m));
+    }
+
+fresh-side : (s x y : ℕ) (sa ra sb rb : List ℕ) → s < 2 ^ 32 → length sa ≡ SENT_BYTES → length rb ≡ RECEIVED_BYTES → Inv (way (freshWorld s (freshEnd s x sa ra) (freshEnd s y sb rb)))
+fresh-side s x y sa ra sb rb s32 la lb =
+    subst Inv (λ d. record {
+      start = s;
+      sender = sym (fresh-state s x) d;
+      sent = sa;
+      given = [];
+      msgs = [];
+      receiver = sym (fresh-state s y) d;
+      received = rb;
+      out = [];
+      accepted = [];
+      acks = [];
+    }) (fresh-inv s x y sa rb s32 la lb)
+
+joined-fresh : {U : World} → Fresh U → Joined U
 unfolding freshOf
-fresh-passed start buffer e = done-passed (freshVerdict buffer) (freshState start buffer) (freshState start buffer) e
-
-sound-laws : SoundLaws
-sound-laws = record {
-  fresh-sound = λ start buffer h e. let v = fresh-passed start buffer e in (links.fresh-shaped start buffer h v, links.fresh-sound start buffer h v);
-  send-sound = λ s store slot time kind len shaped sound. (send-shaped s store slot time kind len shaped, send-sound s store slot time kind len shaped sound);
-  resend-sound = λ s slot time n h shaped sound. (resend-shaped s slot time n shaped sound h, resend-sound s slot time n shaped sound h);
-  ack-sound = λ s slot time n h shaped sound. (ack-shaped s slot time n shaped sound h, ack-sound s slot time n shaped sound h);
-  unconfirm-sound = λ s slot shaped sound. (unconfirms.unconfirm-shaped s slot shaped, unconfirms.unconfirm-sound s slot shaped sound);
-  remove-sound = λ s slot shaped sound. (unconfirms.remove-shaped s slot shaped, unconfirms.remove-sound s slot shaped sound);
-  flush-sound = λ s slot time shaped sound. (flush-shaped s slot time shaped, flush-sound s slot time shaped sound);
-  receive-sound = λ s store slot kind n len h shaped sound. (receive-shaped s store slot kind n len shaped sound, receive-sound s store slot kind n len shaped sound);
-  take-sound = λ s shaped sound. (takes.take-shaped s shaped sound, takes.take-sound s shaped sound);
-  take-ack-sound = λ s slot shaped sound. (takes.take-ack-shaped s slot shaped, takes.take-ack-sound s slot shaped sound);
-  add-sound = λ s id roundtrip max blocked unconfirmed shaped sound. (links.add-shaped s id roundtrip max blocked unconfirmed shaped, links.add-sound s id roundtrip max blocked unconfirmed shaped sound);
-  confirm-sound = λ s slot shaped sound. (links.confirm-shaped s slot shaped, links.confirm-sound s slot shaped sound);
-  block-sound = λ s slot blocked shaped sound. (links.block-shaped s slot shaped blocked, links.block-sound s slot shaped blocked sound);
-  mark-sound = λ s slot seq shaped sound. (links.mark-shaped s slot shaped seq, links.mark-sound s slot shaped seq sound);
-  ping-sound = λ s slot time shaped sound. (links.ping-shaped s slot shaped time, links.ping-sound s slot shaped time sound);
-  pong-sound = λ s slot time shaped sound. (links.pong-shaped s slot shaped time, links.pong-sound s slot shaped time sound);
+joined-fresh (fresh s x y sa ra sb rb s32 hx hy l₁ l₂ l₃ l₄) = record {
+  one = fresh-side s x y sa ra sb rb s32 l₁ l₄;
+  two = fresh-side s y x sb rb sa ra s32 l₃ l₂;
+  good-a = fresh-good s x s32 (done-passed (freshVerdict x) _ _ hx);
+  good-b = fresh-good s y s32 (done-passed (freshVerdict y) _ _ hy);
 }
 
+-- ---- nothing to take
+
+-- an answer is a refusal just if the verdict is
+full-verdict : (v : Verdict) (rx : Receiving) → handOutBy v rx ≡ handouts.No (refuse 19 tt) → v ≡ verdicts.No (refuse 19 tt)
+unfolding handOutBy
+full-verdict verdicts.Pass rx e = let z : _≡_ {A = ℕ} 0 1 = cc in absurd (omega arith)
+full-verdict (verdicts.No r) rx e = cc
+
+-- with a message ready, the verdict of taking is not 19
+nothing-refused : {X : Type 0} (s : State) → Good s → isFull (readyOf CELLS (s .rx)) ≡ true → takeVerdict s ≡ verdicts.No (refuse 19 tt) → X
+unfolding takeVerdict
+nothing-refused s good ready v = not-nothing (fits (s .rx .«rxed_reliable_consumed») (readyBytes (readyOf CELLS (s .rx))) MAX_TOTAL) (simp (sound-true s (good .sound), ready) at v)
+  where
+    not-nothing : {X : Type 0} (b : Bool) → gate b 9 verdicts.Pass ≡ verdicts.No (refuse 19 tt) → X
+    not-nothing true e = let z : _≡_ {A = ℕ} 0 1 = cc in absurd (omega arith)
+    not-nothing false e = let z : _≡_ {A = ℕ} 0 1 = cc in absurd (omega arith)
+
+-- ---- what was handed out, and what was accepted
+
+module _ (W : World) (i : Inv (way W)) where
+  -- what was handed out is a beginning of the data and finish marks that were given
+  safe : Safe W
+  safe =
+      let G = W .a .given in (
+        handed (drop (i .o) G),
+        ap handed (sym (take-append-drop (i .o) G)) ∙ handed-append (take (i .o) G) (drop (i .o) G) ∙ ap (λ (l : List Msg). l ++ handed (drop (i .o) G)) (sym (i .out-is)),
+      )
+
+  -- with an empty table all of it is before the next expected number
+  complete : Complete W
+  complete emptied j l = i .links .had j l (inl (omega (arith, i .txi .tight, packets-count (W .a .state .tx))))
+
+  -- .. and with nothing ready too, all of it was handed out
+  all-out : Good (W .b .state) → AllOut W
+  unfolding takeOf readyOf
+  all-out good emptied nothing = go (decLt (i .o) (i .e))
+    where
+      rx : Receiving
+      rx = W .b .state .rx
+
+      -- the oldest number, before the next expected, holds a message
+      full : i .o < i .e → isFull (readyOf CELLS rx) ≡ true
+      full l =
+          let table = table-of (W .b .state) good in
+          let differ : rx .«rx_oldest» .0 ≡ rx .«rx_seq» .0 → ⊥ =
+          λ q. let same = plus-apart (W .start) (i .o) (i .e) (omega arith) (omega (arith, i .rxi .eo)) (sym (i .rxi .old-is) ∙ q ∙ i .rxi .exp-is) in omega (arith, same) in
+          let none : i .o ≡ i .o + 0 = omega arith in
+          let cell : cellOf CELLS rx (rx .«rx_oldest» .0) ≡ heldPast CELLS rx (rx .«rx_oldest» .0) 0 =
+          ap (cellOf CELLS rx) (i .rxi .old-is ∙ ap (plus (W .start)) none ∙ sym (rx-number (i .rxi) 0)) in
+          simp (ne-eqb _ _ differ) (ap isFull cell ∙ table .oldest (omega (arith, rx-ahead (i .rxi) (omega arith))))
+
+      go : Dec (i .o < i .e) → W .b .out ≡ handed (W .a .given)
+      go (yes l) = nothing-refused (W .b .state) good (full l) (full-verdict (takeVerdict (W .b .state)) rx nothing)
+      go (no l) =
+          let all : i .o ≡ length (W .a .given) = omega (arith, i .rxi .oe, i .rxi .en, i .txi .tight, packets-count (W .a .state .tx)) in
+          i .out-is ∙ ap (λ (n : ℕ). handed (take n (W .a .given))) all ∙ ap handed (take-length (W .a .given))
+
+  pinned : Pinned W
+  pinned = record {
+    next-is = i .txi .next-is;
+    put = i .links .put;
+    accepted = λ p m. i .links .taken p m .0;
+    resent = λ j l u. newest-of (W .start) (length (W .a .given)) j l (omega (arith, i .txi .room, packets-count (W .a .state .tx)));
+    acks = i .acked;
+  }
+
+-- ---- a packet that is done stays done while nothing is sent
+
+step-grows : {W X : World} → Step W X → length (W .a .given) ≤ length (X .a .given)
+step-grows (at-a c) = call-grows c
+step-grows (at-b c) = rw (ap (λ (x : End). length (x .given)) (leaves c .other-same)) (omega arith)
+
+grows : {U W : World} → Run U W → length (U .a .given) ≤ length (W .a .given)
+grows here = omega arith
+grows (_then_ r x) = omega (arith, grows r, step-grows x)
+
+done-next : {W X : World} (x : Step W X) → Joined W → length (X .a .given) ≡ length (W .a .given) → (i : ℕ) → Done (W .a) i → Done (X .a) i
+done-next (at-a c) j q i d = done-step _ (j .one) (j .good-a) i c q d
+done-next (at-b c) j q i d = subst (λ (x : End). Done x i) (sym (leaves c .other-same)) d
+
+done-all : {U W : World} (r : Run U W) → Joined U → length (W .a .given) ≡ length (U .a .given) → (i : ℕ) → Done (U .a) i → Done (W .a) i
+done-all here j q i d = d
+done-all (_then_ r x) j q i d =
+    let l = grows r in let m = step-grows x in
+    done-next x (joined-after r j) (omega (arith, q, l, m)) i (done-all r j (omega (arith, q, l, m)) i d)
+
+done-returned : {U W : World} {r : Run U W} (i : ℕ) → Joined U → length (W .a .given) ≡ length (U .a .given) → Returned U i W r → Done (W .a) i
+done-returned i j q (now {W} r slot time n brought timely e over ok) = let k = joined-after r j in done-now W (k .one) (k .good-a) i slot time n timely e over ok
+done-returned i j q (earlier {W} {X} {r} x h) =
+    let l = grows r in let m = step-grows x in
+    done-next x (joined-after r j) (omega (arith, q, l, m)) i (done-returned i j (omega (arith, q, l, m)) h)
+
+-- the table empties
+drains-from : (U : World) → Joined U → Drains U
+drains-from U j W r q returned = let k = joined-after r j in all-done W (k .one) (k .good-a) (λ i l. each i l (decLe (length (U .a .given)) (i + length ps)))
+  where
+    ps : List SentReliable
+    ps = packets (U .a .state .tx)
+
+    each : (i : ℕ) → i < length (W .a .given) → Dec (length (U .a .given) ≤ i + length ps) → Done (W .a) i
+    each i l (no y) = done-all r j q i (λ k u e. absurd (y (omega arith)))
+    each i l (yes y) = look (isReceived (getD ps k noPacket .status)) refl
+      where
+        k : ℕ
+        k = i + length ps - length (U .a .given)
+
+        here : k < length ps
+        here = omega (arith, q, l)
+
+        place : i + length ps ≡ length (U .a .given) + k
+        place = omega arith
+
+        look : (b : Bool) → isReceived (getD ps k noPacket .status) ≡ b → Done (W .a) i
+        look true b = done-all r j q i (λ n u e. let same : n ≡ k = omega (arith, place) in rw same b)
+        look false b = done-returned i j q (returned i (record {
+          given = omega (arith, q, l);
+          in-table = omega (arith, packets-count (U .a .state .tx));
+          unreceived = λ z. false-true (sym b ∙ ap isReceived (sym (status-at U (j .one) (j .good-a) i k here place) ∙ z));
+        }))
+
+-- ---- Demand 3
+
 pub demand3 : Demand3
-demand3 = demand3-from (record { sending = sending-laws; receiving = receiving-laws; sounding = sound-laws })
+demand3 = record {
+  safe = λ U W f r. let j = joined-after r (joined-fresh f) in (safe W (j .one), safe (swap W) (j .two));
+  complete = λ U W f r. let j = joined-after r (joined-fresh f) in (complete W (j .one), complete (swap W) (j .two));
+  all-out = λ U W f r. let j = joined-after r (joined-fresh f) in (all-out W (j .one) (j .good-b), all-out (swap W) (j .two) (j .good-a));
+  drains = λ U W f r. let j = joined-after r (joined-fresh f) in (drains-from W j, drains-from (swap W) (turned j));
+  pinned = λ U W f r. let j = joined-after r (joined-fresh f) in (pinned W (j .one), pinned (swap W) (j .two));
+}

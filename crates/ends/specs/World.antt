@@ -1,37 +1,31 @@
--- Two ends and the links between them. What a call does is the definition that the call's promise cites. An observer writes down
--- beside it what was given, handed out and accepted; no call sees that, and `Pinned` of Demand says that it is right. A reader needs
--- this file, Demand and those definitions. Assumes nothing.
+-- Two ends and the links between them. What a call does is `next` of the calls' list, in the definitions that the calls' promises cite. An observer writes
+-- down beside it what was given, handed out and accepted; no call sees that, and `Pinned` of Demand says that it is right. A reader needs
+-- this file, Demand, the list of calls (Calls of the crate `laws`) and those definitions. Assumes nothing.
 use mathlib.Core.Path.{_≡_}
-use mathlib.Core.Bool.{Bool}
 use mathlib.Core.List.{List, [], _∷_, _++_, List·Memᴰ}
 use Prim.Native.Nat.{ℕ, _+_, _-_, _^_, _<_}
 use lib.ListN.{length, take, drop}
-use Rattle.seq.specs.declared.Seq.{Seq}
 use Rattle.seq.specs.Numbers.{plus, minus}
 use Rattle.msg.specs.declared.reliable.ReliableMsg.{ReliableMsg}
-use Rattle.link.specs.declared.row.MaxPing.{MaxPing}
 use Rattle.engine.specs.declared.state.State.{State}
 use Rattle.engine.specs.declared.answer.Outcome.{Outcome}
 use Rattle.engine.specs.declared.answer.Outcome.the-variants as outcomes
 use Rattle.engine.specs.Stores.{cellStart}
 use Rattle.engine.specs.Starting.{freshOf}
-use Rattle.engine.specs.Links.{addOf, confirmOf, blockOf, markOf, pingOf, pongOf}
-use Rattle.engine.specs.Unconfirming.{unconfirmOf, removeOf}
 use Rattle.engine.specs.declared.sending.SendAnswer.{SendAnswer}
 use Rattle.engine.specs.declared.sending.SendAnswer.the-variants as sends
 use Rattle.engine.specs.declared.resending.ResendAnswer.{ResendAnswer}
 use Rattle.engine.specs.declared.resending.ResendAnswer.the-variants as resends
-use Rattle.engine.specs.Sending.{sendOf, sendStore}
-use Rattle.engine.specs.Flushing.{flushOf}
+use Rattle.engine.specs.Sending.{sendOf}
 use Rattle.engine.specs.Resending.{resendOf}
-use Rattle.engine.specs.Acking.{ackOf}
-use Rattle.engine.specs.Receiving.{receiveOf, receiveStore}
+use Rattle.engine.specs.Receiving.{receiveOf}
 use Rattle.engine.specs.declared.handing_out.HandOut.{HandOut}
 use Rattle.engine.specs.declared.handing_out.HandOut.the-variants as handouts
 use Rattle.engine.specs.declared.handing_out.TakeAck.{TakeAck as AckAnswer}
 use Rattle.engine.specs.declared.handing_out.TakeAck.the-variants as acks
 use Rattle.engine.specs.HandingOut.{shownOf, takeOf, takeAckOf}
 use Rattle.engine.specs.Sizes.{PACKETS, SENT_BYTES, RECEIVED_BYTES}
+use Rattle.laws.specs.Calls as calls
 
 -- ---- what there is
 
@@ -79,100 +73,87 @@ swap W = record { start = W .start; a = W .b; b = W .a; ab = W .ba; ba = W .ab }
 
 -- ---- what a call at `a` does
 
--- the end after a call, with nothing written down
-abbrev pub after : End → State → End
-after e s = record { state = s; sent = e .sent; received = e .received; given = e .given; out = e .out; accepted = e .accepted }
+-- what an end holds
+abbrev pub holds : End → calls.Holding
+holds e = record { state = e .state; sent = e .sent; received = e .received }
 
-abbrev pub moved : World → End → World
-moved W e = record { start = W .start; a = e; b = W .b; ab = W .ab; ba = W .ba }
-
--- a message, or an ack, is put on the links
-abbrev pub putMsg : Wire → Packet → Wire
-putMsg w p = record { msgs = p ∷ w .msgs; acks = w .acks }
-
-abbrev pub putAck : Wire → ℕ → Wire
-putAck w n = record { msgs = w .msgs; acks = n ∷ w .acks }
-
--- "an accepted Send": what was given, "by a call not refused", is put on the links
-abbrev pub sendBy : SendAnswer → World → Msg → State → List ℕ → World
-sendBy (sends.Number seq) W m s store = record {
+-- the world with what a call left of that, and with what the observer then has written down; b and what it put are left alone
+abbrev pub written : World → calls.Holding → (given out : List Msg) (accepted msgs : List Packet) (acks : List ℕ) → World
+written W h given out accepted msgs acks = record {
   start = W .start;
-  a = record { state = s; sent = store; received = W .a .received; given = W .a .given ++ (m ∷ []); out = W .a .out; accepted = W .a .accepted };
+  a = record { state = h .state; sent = h .sent; received = h .received; given = given; out = out; accepted = accepted };
   b = W .b;
-  ab = putMsg (W .ab) (record { index = length (W .a .given); number = seq .0; msg = m });
+  ab = record { msgs = msgs; acks = acks };
   ba = W .ba;
 }
-sendBy (sends.No r) W m s store =
-    moved W (record { state = s; sent = store; received = W .a .received; given = W .a .given; out = W .a .out; accepted = W .a .accepted })
+
+-- a call of which nothing is written down: "each call given the last call's state and stores"
+abbrev pub called : World → calls.Call → World
+called W c = written W (calls.next c (holds (W .a))) (W .a .given) (W .a .out) (W .a .accepted) (W .ab .msgs) (W .ab .acks)
+
+-- ---- and what the observer writes down, by the call's answer: of a refused call nothing
+
+-- "an accepted Send": what was given, "by a call not refused", is put on the links
+abbrev pub givenBy : SendAnswer → List Msg → Msg → List Msg
+givenBy (sends.Number seq) given m = given ++ (m ∷ [])
+givenBy (sends.No r) given m = given
+
+abbrev pub putBy : SendAnswer → List Packet → ℕ → Msg → List Packet
+putBy (sends.Number seq) msgs index m = record { index = index; number = seq .0; msg = m } ∷ msgs
+putBy (sends.No r) msgs index m = msgs
 
 unfoldable pub sendAt : World → ℕ → ℕ → Msg → World
 sendAt W slot time m =
-    let r = sendOf (W .a .state) (length (W .a .sent)) slot time (m .kind) (length (m .bytes)) in
-    sendBy (r .answer) W m (r .state) (sendStore (W .a .state) (W .a .sent) slot time (m .kind) (m .bytes))
+    let answer = sendOf (W .a .state) (length (W .a .sent)) slot time (m .kind) (length (m .bytes)) .answer in
+    let call = calls.Send slot time (m .kind) (m .bytes) in
+    written W (calls.next call (holds (W .a))) (givenBy answer (W .a .given) m) (W .a .out) (W .a .accepted)
+    (putBy answer (W .ab .msgs) (length (W .a .given)) m) (W .ab .acks)
 
 -- of the messages given from number `start` on, the index of the newest that has number n
 abbrev pub newest : ℕ → ℕ → ℕ → ℕ
 newest start given n = given - minus (plus start given) n
 
 -- "an accepted Resend (with its sent cell)": what it answers is put on the links, with the bytes of the number's sent cell
-abbrev pub resendBy : ResendAnswer → World → ℕ → State → World
-resendBy (resends.Message kind len) W n s = record {
-  start = W .start;
-  a = after (W .a) s;
-  b = W .b;
-  ab = putMsg (W .ab) (record { index = newest (W .start) (length (W .a .given)) n; number = n; msg = record { kind = kind; bytes = take len (drop (cellStart PACKETS n) (W .a .sent)) } });
-  ba = W .ba;
-}
-resendBy (resends.No r) W n s = moved W (after (W .a) s)
+abbrev pub putAgainBy : ResendAnswer → World → ℕ → List Packet
+putAgainBy (resends.Message kind len) W n =
+    record { index = newest (W .start) (length (W .a .given)) n; number = n; msg = record { kind = kind; bytes = take len (drop (cellStart PACKETS n) (W .a .sent)) } } ∷ W .ab .msgs
+putAgainBy (resends.No r) W n = W .ab .msgs
 
 unfoldable pub resendAt : World → ℕ → ℕ → ℕ → World
-resendAt W slot time n = let r = resendOf (W .a .state) slot time n in resendBy (r .answer) W n (r .state)
+resendAt W slot time n =
+    written W (calls.next (calls.Resend slot time n) (holds (W .a))) (W .a .given) (W .a .out) (W .a .accepted)
+    (putAgainBy (resendOf (W .a .state) slot time n .answer) W n) (W .ab .acks)
 
 -- Receive: what isn't refused is accepted
-abbrev pub receiveBy : Outcome → End → Packet → State → List ℕ → End
-receiveBy outcomes.Done e p s store = record {
-  state = s;
-  sent = e .sent;
-  received = store;
-  given = e .given;
-  out = e .out;
-  accepted = p ∷ e .accepted;
-}
-receiveBy (outcomes.No r) e p s store = record { state = s; sent = e .sent; received = store; given = e .given; out = e .out; accepted = e .accepted }
+abbrev pub acceptedBy : Outcome → List Packet → Packet → List Packet
+acceptedBy outcomes.Done accepted p = p ∷ accepted
+acceptedBy (outcomes.No r) accepted p = accepted
 
 unfoldable pub receiveAt : World → ℕ → Packet → World
 receiveAt W slot p =
-    let r = receiveOf (W .a .state) (length (W .a .received)) slot (p .msg .kind) (p .number) (length (p .msg .bytes)) in
-    moved W (receiveBy (r .outcome) (W .a) p (r .state) (receiveStore (W .a .state) (W .a .received) slot (p .msg .kind) (p .number) (p .msg .bytes)))
+    let outcome = receiveOf (W .a .state) (length (W .a .received)) slot (p .msg .kind) (p .number) (length (p .msg .bytes)) .outcome in
+    let call = calls.Receive slot (p .msg .kind) (p .number) (p .msg .bytes) in
+    written W (calls.next call (holds (W .a))) (W .a .given) (W .a .out) (acceptedBy outcome (W .a .accepted) p) (W .ab .msgs) (W .ab .acks)
 
 -- Take: what was handed out is the kind that taking answers, with the bytes that showing gives before it
-abbrev pub takeBy : HandOut → End → List ℕ → State → End
-takeBy (handouts.Message kind seq len) e shown s = record {
-  state = s;
-  sent = e .sent;
-  received = e .received;
-  given = e .given;
-  out = e .out ++ (record { kind = kind; bytes = shown } ∷ []);
-  accepted = e .accepted;
-}
-takeBy (handouts.No r) e shown s = after e s
+abbrev pub outBy : HandOut → List Msg → List ℕ → List Msg
+outBy (handouts.Message kind seq len) out shown = out ++ (record { kind = kind; bytes = shown } ∷ [])
+outBy (handouts.No r) out shown = out
 
 unfoldable pub takeAt : World → World
-takeAt W = let r = takeOf (W .a .state) in moved W (takeBy (r .answer) (W .a) (shownOf (W .a .state) (W .a .received)) (r .state))
+takeAt W =
+    written W (calls.next calls.Take (holds (W .a))) (W .a .given) (outBy (takeOf (W .a .state) .answer) (W .a .out) (shownOf (W .a .state) (W .a .received))) (W .a .accepted)
+    (W .ab .msgs) (W .ab .acks)
 
 -- "the taking of an ack": it is put on the links
-abbrev pub takeAckBy : AckAnswer → World → State → World
-takeAckBy (acks.Number seq) W s = record {
-  start = W .start;
-  a = after (W .a) s;
-  b = W .b;
-  ab = putAck (W .ab) (seq .0);
-  ba = W .ba;
-}
-takeAckBy (acks.No r) W s = moved W (after (W .a) s)
+abbrev pub putAckBy : AckAnswer → List ℕ → List ℕ
+putAckBy (acks.Number seq) numbers = seq .0 ∷ numbers
+putAckBy (acks.No r) numbers = numbers
 
 unfoldable pub takeAckAt : World → ℕ → World
-takeAckAt W slot = let r = takeAckOf (W .a .state) slot in takeAckBy (r .answer) W (r .state)
+takeAckAt W slot =
+    written W (calls.next (calls.TakeAck slot) (holds (W .a))) (W .a .given) (W .a .out) (W .a .accepted) (W .ab .msgs)
+    (putAckBy (takeAckOf (W .a .state) slot .answer) (W .ab .acks))
 
 -- ---- the premises
 
@@ -203,23 +184,15 @@ pub record TimelyAck (n : ℕ) (sender receiver : End) : Type 0 where
   pub acked : AckFor n (receiver .accepted)
   pub timely : Timely (acked .message .index) sender
 
--- ---- "whatever calls are made or refused (a second fresh state isn't one of them)": one constructor for each call that gives a state,
--- "given the last call's state and stores". Receive and ack are given what the links bring in time, and every other call what one likes
+-- ---- "whatever calls are made or refused (a second fresh state isn't one of them)": every call of the list. Receive and ack are given what the
+-- links bring in time, and every other call what one likes
 
 pub data Call : World → World → Type 0 where
-  Add : {W : World} (id roundtrip : ℕ) (max : MaxPing) (blocked unconfirmed : Bool) → Call W (moved W (after (W .a) (addOf (W .a .state) id roundtrip max blocked unconfirmed .state)))
-  Remove : {W : World} (slot : ℕ) → Call W (moved W (after (W .a) (removeOf (W .a .state) slot .state)))
-  Confirm : {W : World} (slot : ℕ) → Call W (moved W (after (W .a) (confirmOf (W .a .state) slot .state)))
-  Unconfirm : {W : World} (slot : ℕ) → Call W (moved W (after (W .a) (unconfirmOf (W .a .state) slot .state)))
-  Block : {W : World} (slot : ℕ) (blocked : Bool) → Call W (moved W (after (W .a) (blockOf (W .a .state) slot blocked .state)))
-  Mark : {W : World} (slot : ℕ) (seq : Seq) → Call W (moved W (after (W .a) (markOf (W .a .state) slot seq .state)))
-  Ping : {W : World} (slot time : ℕ) → Call W (moved W (after (W .a) (pingOf (W .a .state) slot time .state)))
-  Pong : {W : World} (slot time : ℕ) → Call W (moved W (after (W .a) (pongOf (W .a .state) slot time .state)))
-  Flush : {W : World} (slot time : ℕ) → Call W (moved W (after (W .a) (flushOf (W .a .state) slot time .state)))
+  Other : {W : World} (c : calls.Call) → calls.Unnoted c → calls.Typed c → Call W (called W c)
   Send : {W : World} (slot time : ℕ) (m : Msg) → Call W (sendAt W slot time m)
   Resend : {W : World} (slot time n : ℕ) → n < 2 ^ 32 → Call W (resendAt W slot time n)
   Receive : {W : World} (slot : ℕ) (p : Packet) → Brought p (W .ba) → Timely (p .index) (W .b) → Call W (receiveAt W slot p)
-  Acked : {W : World} (slot time n : ℕ) → BroughtAck n (W .ba) → TimelyAck n (W .a) (W .b) → Call W (moved W (after (W .a) (ackOf (W .a .state) slot time n .state)))
+  Acked : {W : World} (slot time n : ℕ) → BroughtAck n (W .ba) → TimelyAck n (W .a) (W .b) → Call W (called W (calls.Ack slot time n))
   Take : {W : World} → Call W (takeAt W)
   TakeAck : {W : World} (slot : ℕ) → Call W (takeAckAt W slot)
 

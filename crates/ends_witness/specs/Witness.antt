@@ -5,7 +5,7 @@ use Rattle.engine.specs.Received.{bytesIn}
 use Rattle.engine.specs.Packets.{queuedOf, sumOf}
 use mathlib.Core.Path.{_≡_, refl, sym, _∙_, ap, subst}
 use mathlib.Core.Bool.{false, cond}
-use mathlib.Core.List.{List, [], _∷_, List·Memᴰ, List·Memᴰ·head, List·Memᴰ·tail}
+use mathlib.Core.List.{List, [], _∷_, map, List·Memᴰ, List·Memᴰ·head, List·Memᴰ·tail}
 use Prim.Native.Nat.{ℕ, _+_, _<_}
 use native.Mathlib.Omega.{arith}
 use native.Mathlib.Decide.{ℕ-discrete}
@@ -13,6 +13,8 @@ use lib.ListN.{length, replicate, length-replicate}
 use Rattle.msg.specs.declared.reliable.ReliableMsg.the-variants as msgs
 use Rattle.refusal.specs.Refusals.{refuse}
 use Rattle.link.specs.declared.row.MaxPing.the-variants.{Unlimited}
+use Rattle.seq.specs.declared.Seq.{Seq}
+use Rattle.engine.specs.declared.state.State.{State}
 use Rattle.engine.specs.declared.state.SentReliableStatus.{SentReliableStatus}
 use Rattle.engine.specs.declared.state.SentReliableStatus.the-variants as statuses
 use Rattle.engine.specs.declared.answer.Outcome.the-variants as outcomes
@@ -32,38 +34,41 @@ use Rattle.engine.specs.Rows.{rowOf, slotOk, timeOk}
 use Rattle.engine.specs.Table.{inTable, withPacket, place, lookedAt, withTable, packetOf}
 use Rattle.engine.specs.Tally.{lengthOk}
 use Rattle.engine.specs.Links.{lowestEmpty, addVerdict, addOf, isTaken}
-use Rattle.engine.specs.Unconfirming.{unconfirmedAs, unconfirmedState, unconfirmOf}
+use Rattle.engine.specs.Unconfirming.{unconfirmed, unconfirmedState, unconfirmOf}
 use Rattle.engine.specs.Resending.{resendVerdict, resentState, resendOf, isListed}
 use Rattle.engine.specs.Sending.{totalsOk, sendVerdict, sentTx, toldRx, sentState, sendOf, sendStore}
 use Rattle.engine.specs.Acking.{ackedRow, ackedTx, ackedState, ackOf, settledRowAs, receivedTx, settledTxAs, sweepFrom, sweepOf, sweptTx}
-use Rattle.engine.specs.Cells.{cellOf, nearOldest, isRepeat, canAdvance, passedOver, advanced}
+use Rattle.engine.specs.Turns.{turns}
+use Rattle.engine.specs.Cells.{cellOf, nearOldest, isRepeat, canAdvance, passedOver}
 use Rattle.engine.specs.Receiving.{receiveVerdict, effectTx, storedRx, repeatedState, receivedState, receiveOf, receiveStore}
-use Rattle.engine.specs.HandingOut.{ackAnswer, takenAckState, takeAckOf, readyOf, handOutBy, showVerdict, showingOf, shownOf, partAs, takeVerdict, canSkip, passedBy, skipped, takenRx, takenState, takeOf, takeAckVerdict}
+use Rattle.engine.specs.HandingOut.{ackAnswer, takenAckState, takeAckOf, readyOf, handOutBy, showVerdict, showingOf, shownOf, partAs, takeVerdict, canSkip, passedBy, takenRx, takenState, takeOf, takeAckVerdict}
 use Rattle.engine.specs.Sizes.{CELLS, PACKETS}
-use Rattle.ends.specs.World.{Msg, Packet, World, swap, after, moved, sendBy, sendAt, resendAt, receiveBy, receiveAt, takeBy, takeAt, takeAckAt, freshWorld, freshEnd, BEHIND, TimelyAck, Call, Add, Unconfirm, Send, Resend, Receive, Acked, Take, TakeAck, at-a, at-b, Run, here, _then_, Fresh, fresh}
+use Rattle.laws.specs.Calls as calls
+use Rattle.ends.specs.World.{Msg, Packet, World, swap, holds, written, called, givenBy, putBy, sendAt, resendAt, acceptedBy, receiveAt, outBy, takeAt, takeAckAt, freshWorld, freshEnd, BEHIND, TimelyAck, Call, Other, Send, Resend, Receive, Acked, Take, TakeAck, at-a, at-b, Run, here, _then_, Fresh, fresh}
 use Rattle.ends.specs.Demand.{Emptied, SentOver, statusOf, Returned, now, earlier, Open, Stops}
 use Rattle.ends.specs.Theorem.{demand3}
-use Rattle.ends.specs.Views.{waitingOf}
-use Rattle.ends.specs.Store.{put, get, length-put, get-put-same}
+use Rattle.ends.specs.Store.{cellBytes, copied-here, copied-long}
 
 -- ---- the calls that look at a store's length, with the length written down
 
 sendWith : ℕ → World → ℕ → ℕ → Msg → World
 sendWith n W slot time m =
     let r = sendOf (W .a .state) n slot time (m .kind) (length (m .bytes)) in
-    sendBy (r .answer) W m (r .state)
-    (storeBy (sendVerdict (W .a .state) n slot time (m .kind) (length (m .bytes))) (W .a .sent) (copied (W .a .sent) (cellStart PACKETS (W .a .state .tx .«tx_seq» .0)) (m .bytes)))
+    let store = storeBy (sendVerdict (W .a .state) n slot time (m .kind) (length (m .bytes))) (W .a .sent) (copied (W .a .sent) (cellStart PACKETS (W .a .state .tx .«tx_seq» .0)) (m .bytes)) in
+    written W (record { state = r .state; sent = store; received = W .a .received }) (givenBy (r .answer) (W .a .given) m) (W .a .out) (W .a .accepted)
+    (putBy (r .answer) (W .ab .msgs) (length (W .a .given)) m) (W .ab .acks)
 
 receiveWith : ℕ → World → ℕ → Packet → World
 receiveWith n W slot p =
     let r = receiveOf (W .a .state) n slot (p .msg .kind) (p .number) (length (p .msg .bytes)) in
-    moved W
-    (receiveBy (r .outcome) (W .a) p (r .state)
-    (storeBy (receiveVerdict (W .a .state) n slot (p .msg .kind) (p .number) (length (p .msg .bytes))) (W .a .received)
-    (cond (isRepeat 64 (W .a .state .rx) (p .number)) (W .a .received) (copied (W .a .received) (cellStart CELLS (p .number)) (p .msg .bytes)))))
+    let store = storeBy (receiveVerdict (W .a .state) n slot (p .msg .kind) (p .number) (length (p .msg .bytes))) (W .a .received)
+    (cond (isRepeat 64 (W .a .state .rx) (p .number)) (W .a .received) (copied (W .a .received) (cellStart CELLS (p .number)) (p .msg .bytes))) in
+    written W (record { state = r .state; sent = W .a .sent; received = store }) (W .a .given) (W .a .out) (acceptedBy (r .outcome) (W .a .accepted) p) (W .ab .msgs) (W .ab .acks)
 
 takeWith : ℕ → World → World
-takeWith n W = let r = takeOf (W .a .state) in moved W (takeBy (r .answer) (W .a) (partAs (showingOf (W .a .state) n) (W .a .received)) (r .state))
+takeWith n W =
+    written W (calls.next calls.Take (holds (W .a))) (W .a .given) (outBy (takeOf (W .a .state) .answer) (W .a .out) (partAs (showingOf (W .a .state) n) (W .a .received))) (W .a .accepted)
+    (W .ab .msgs) (W .ab .acks)
 
 send-step : (W : World) (slot time : ℕ) (m : Msg) → length (W .a .sent) ≡ 65536 → Call W (sendWith 65536 W slot time m)
 unfolding sendAt sendStore sendWith
@@ -77,6 +82,10 @@ receive-step W slot p h brought timely = subst (λ (n : ℕ). Call W (receiveWit
 take-step : (W : World) → length (W .a .received) ≡ 65536 → Call W (takeWith 65536 W)
 unfolding takeAt shownOf takeWith
 take-step W h = subst (λ (n : ℕ). Call W (takeWith n W)) h Take
+
+-- the numbers of the acks that wait for a slot, oldest first
+abbrev pub waitingOf : State → ℕ → List ℕ
+waitingOf s slot = map (λ (n : Seq). n .0) (waiting (rowOf s slot))
 
 -- a packet that is Sent isn't Received
 sent-unreceived : (st : SentReliableStatus) (slot : ℕ) → SentOver st slot → st ≡ statuses.Received → ⊥
@@ -142,16 +151,16 @@ module _ (sa ra sb rb : List ℕ) where
   w0 = begun sa ra sb rb
 
   w1 : World
-  w1 = moved w0 (after (w0 .a) (addOf (w0 .a .state) 1 0 Unlimited false false .state))
+  w1 = called w0 (calls.Add 1 0 Unlimited false false)
 
   w2 : World
-  w2 = moved w1 (after (w1 .a) (addOf (w1 .a .state) 2 0 Unlimited false false .state))
+  w2 = called w1 (calls.Add 2 0 Unlimited false false)
 
   w3 : World
-  w3 = swap (moved (swap w2) (after (w2 .b) (addOf (w2 .b .state) 1 0 Unlimited false false .state)))
+  w3 = swap (called (swap w2) (calls.Add 1 0 Unlimited false false))
 
   w4 : World
-  w4 = swap (moved (swap w3) (after (w3 .b) (addOf (w3 .b .state) 2 0 Unlimited false false .state)))
+  w4 = swap (called (swap w3) (calls.Add 2 0 Unlimited false false))
 
   -- a sends both messages over link 0; the first is lost, the second arrives
   w5 : World
@@ -165,7 +174,7 @@ module _ (sa ra sb rb : List ℕ) where
 
   -- a doubts link 0, and resends both over link 1
   w8 : World
-  w8 = moved w7 (after (w7 .a) (unconfirmOf (w7 .a .state) 0 .state))
+  w8 = called w7 (calls.Unconfirm 0)
 
   w9 : World
   w9 = resendAt w8 1 0 4294967295
@@ -194,27 +203,27 @@ module _ (sa ra sb rb : List ℕ) where
   w16 = swap (takeAckAt (swap w15) 1)
 
   w17 : World
-  w17 = moved w16 (after (w16 .a) (ackOf (w16 .a .state) 1 0 0 .state))
+  w17 = called w16 (calls.Ack 1 0 0)
 
   w18 : World
-  w18 = moved w17 (after (w17 .a) (ackOf (w17 .a .state) 1 0 4294967295 .state))
+  w18 = called w17 (calls.Ack 1 0 4294967295)
 
   -- ---- what is computed
 
   abbrev sent-cell : List ℕ
-  sent-cell = get (put sa 64512 (7 ∷ [])) 64512 1
+  sent-cell = cellBytes PACKETS (copied sa 64512 (7 ∷ [])) 4294967295 1
 
   abbrev received-cell : List ℕ
-  received-cell = get (put rb 64512 (7 ∷ [])) 64512 1
+  received-cell = cellBytes CELLS (copied rb 64512 (7 ∷ [])) 4294967295 1
 
   record Computed : Type 0 where
     sent-4 : w4 .a .sent ≡ sa
-    sent-5 : w5 .a .sent ≡ put sa 64512 (7 ∷ [])
+    sent-5 : w5 .a .sent ≡ copied sa 64512 (7 ∷ [])
     received-6 : w6 .b .received ≡ rb
     received-10 : w10 .b .received ≡ rb
-    received-11 : w11 .b .received ≡ put rb 64512 (7 ∷ [])
-    received-12 : w12 .b .received ≡ put rb 64512 (7 ∷ [])
-    received-13 : w13 .b .received ≡ put rb 64512 (7 ∷ [])
+    received-11 : w11 .b .received ≡ copied rb 64512 (7 ∷ [])
+    received-12 : w12 .b .received ≡ copied rb 64512 (7 ∷ [])
+    received-13 : w13 .b .received ≡ copied rb 64512 (7 ∷ [])
     given-6 : w6 .a .given ≡ data-7 ∷ finish ∷ []
     given-10 : w10 .a .given ≡ data-7 ∷ finish ∷ []
     given-11 : w11 .a .given ≡ data-7 ∷ finish ∷ []
@@ -244,7 +253,7 @@ module _ (sa ra sb rb : List ℕ) where
     out-16 : w16 .b .out ≡ record { kind = msgs.Data; bytes = received-cell } ∷ finish ∷ []
 
   computed : Computed
-  unfolding plus minus signed before ackQueued waiting oldestAck shifted ackTaken markedRow markAckedAs markResentAs tripAfter tripMoved freshRow emptyRow unconfirmedRow withUnacked nextCell window sound? queuedOf sumOf bytesIn refilled place lookedAt packetOf withTable isTaken isListed takeAckVerdict soundb freshTx freshRx freshState freshVerdict freshOf slotVerdict timedVerdict requeued rowOf slotOk timeOk inTable withPacket lengthOk lowestEmpty addVerdict addOf unconfirmedAs unconfirmedState unconfirmOf resendVerdict resentState resendOf totalsOk sendVerdict sentTx toldRx sentState sendOf sendStore ackedRow ackedTx ackedState ackOf settledRowAs receivedTx settledTxAs sweepFrom sweepOf sweptTx cellOf nearOldest isRepeat canAdvance passedOver advanced receiveVerdict effectTx storedRx repeatedState receivedState receiveOf receiveStore ackAnswer takenAckState takeAckOf readyOf handOutBy showVerdict showingOf shownOf takeVerdict canSkip passedBy skipped takenRx takenState takeOf resendAt takeAckAt sendWith receiveWith takeWith w0 w1 w2 w3 w4 w5 w6 w7 w8 w9 w10 w11 w12 w13 w14 w15 w16 w17 w18
+  unfolding plus minus signed before ackQueued waiting oldestAck shifted ackTaken markedRow markAckedAs markResentAs tripAfter tripMoved freshRow emptyRow unconfirmedRow withUnacked nextCell window sound? queuedOf sumOf bytesIn refilled place lookedAt packetOf withTable isTaken isListed takeAckVerdict soundb freshTx freshRx freshState freshVerdict freshOf slotVerdict timedVerdict requeued rowOf slotOk timeOk inTable withPacket lengthOk lowestEmpty addVerdict addOf unconfirmed unconfirmedState unconfirmOf resendVerdict resentState resendOf totalsOk sendVerdict sentTx toldRx sentState sendOf sendStore ackedRow ackedTx ackedState ackOf settledRowAs receivedTx settledTxAs sweepFrom sweepOf sweptTx cellOf nearOldest isRepeat canAdvance passedOver turns receiveVerdict effectTx storedRx repeatedState receivedState receiveOf receiveStore ackAnswer takenAckState takeAckOf readyOf handOutBy showVerdict showingOf shownOf takeVerdict canSkip passedBy takenRx takenState takeOf resendAt takeAckAt sendWith receiveWith takeWith w0 w1 w2 w3 w4 w5 w6 w7 w8 w9 w10 w11 w12 w13 w14 w15 w16 w17 w18
   computed = record {
     sent-4 = refl;
     sent-5 = refl;
@@ -267,7 +276,7 @@ module _ (sa ra sb rb : List ℕ) where
   }
 
   computed-later : ComputedLater
-  unfolding plus minus signed before ackQueued waiting oldestAck shifted ackTaken markedRow markAckedAs markResentAs tripAfter tripMoved freshRow emptyRow unconfirmedRow withUnacked nextCell window sound? queuedOf sumOf bytesIn refilled place lookedAt packetOf withTable isTaken isListed takeAckVerdict soundb freshTx freshRx freshState freshVerdict freshOf slotVerdict timedVerdict requeued rowOf slotOk timeOk inTable withPacket lengthOk lowestEmpty addVerdict addOf unconfirmedAs unconfirmedState unconfirmOf resendVerdict resentState resendOf totalsOk sendVerdict sentTx toldRx sentState sendOf sendStore ackedRow ackedTx ackedState ackOf settledRowAs receivedTx settledTxAs sweepFrom sweepOf sweptTx cellOf nearOldest isRepeat canAdvance passedOver advanced receiveVerdict effectTx storedRx repeatedState receivedState receiveOf receiveStore ackAnswer takenAckState takeAckOf readyOf handOutBy showVerdict showingOf shownOf takeVerdict canSkip passedBy skipped takenRx takenState takeOf resendAt takeAckAt sendWith receiveWith takeWith w0 w1 w2 w3 w4 w5 w6 w7 w8 w9 w10 w11 w12 w13 w14 w15 w16 w17 w18
+  unfolding plus minus signed before ackQueued waiting oldestAck shifted ackTaken markedRow markAckedAs markResentAs tripAfter tripMoved freshRow emptyRow unconfirmedRow withUnacked nextCell window sound? queuedOf sumOf bytesIn refilled place lookedAt packetOf withTable isTaken isListed takeAckVerdict soundb freshTx freshRx freshState freshVerdict freshOf slotVerdict timedVerdict requeued rowOf slotOk timeOk inTable withPacket lengthOk lowestEmpty addVerdict addOf unconfirmed unconfirmedState unconfirmOf resendVerdict resentState resendOf totalsOk sendVerdict sentTx toldRx sentState sendOf sendStore ackedRow ackedTx ackedState ackOf settledRowAs receivedTx settledTxAs sweepFrom sweepOf sweptTx cellOf nearOldest isRepeat canAdvance passedOver turns receiveVerdict effectTx storedRx repeatedState receivedState receiveOf receiveStore ackAnswer takenAckState takeAckOf readyOf handOutBy showVerdict showingOf shownOf takeVerdict canSkip passedBy takenRx takenState takeOf resendAt takeAckAt sendWith receiveWith takeWith w0 w1 w2 w3 w4 w5 w6 w7 w8 w9 w10 w11 w12 w13 w14 w15 w16 w17 w18
   computed-later = record {
     given-16 = refl;
     acks-16 = refl;
@@ -296,28 +305,28 @@ module _ (sa ra sb rb : List ℕ) where
     two : (l : List Msg) → l ≡ data-7 ∷ finish ∷ [] → length l ≡ 2
     two l e = ap length e
 
-    put-a : length (put sa 64512 (7 ∷ [])) ≡ 65536
-    put-a = length-put sa 64512 (7 ∷ []) (omega (arith, ha)) ∙ ha
+    put-a : length (copied sa 64512 (7 ∷ [])) ≡ 65536
+    put-a = copied-long PACKETS (omega arith) sa ha 4294967295 (7 ∷ []) (omega arith)
 
-    put-b : length (put rb 64512 (7 ∷ [])) ≡ 65536
-    put-b = length-put rb 64512 (7 ∷ []) (omega (arith, hb)) ∙ hb
+    put-b : length (copied rb 64512 (7 ∷ [])) ≡ 65536
+    put-b = copied-long CELLS (omega arith) rb hb 4294967295 (7 ∷ []) (omega arith)
 
     -- what was resent is what was sent
     resent-same : _≡_ {A = Packet} p0 (record { index = 0; number = 4294967295; msg = record { kind = msgs.Data; bytes = sent-cell } })
-    resent-same = λ d. record { index = 0; number = 4294967295; msg = record { kind = msgs.Data; bytes = sym (get-put-same sa 64512 (7 ∷ []) (omega (arith, ha))) d } }
+    resent-same = λ d. record { index = 0; number = 4294967295; msg = record { kind = msgs.Data; bytes = sym (copied-here PACKETS (omega arith) sa ha 4294967295 (7 ∷ []) (omega arith)) d } }
 
     to-10 : Run w0 w10
     unfolding w1 w2 w3 w4 w5 w6 w7 w8 w9 w10
     to-10 =
         _then_ {X = w9} {Y = w10} (_then_ {X = w8} {Y = w9} (_then_ {X = w7} {Y = w8} (_then_ {X = w6} {Y = w7} (_then_ {X = w5} {Y = w6} (_then_ {X = w4} {Y = w5} (_then_ {X = w3} {Y = w4} (_then_ {X = w2} {Y = w3} (_then_ {X = w1} {Y = w2} (_then_ {X = w0} {Y = w1} here
-        (at-a (Add 1 0 Unlimited false false)))
-        (at-a (Add 2 0 Unlimited false false)))
-        (at-b (Add {W = swap w2} 1 0 Unlimited false false)))
-        (at-b (Add {W = swap w3} 2 0 Unlimited false false)))
+        (at-a (Other (calls.Add 1 0 Unlimited false false) tt tt)))
+        (at-a (Other (calls.Add 2 0 Unlimited false false) tt tt)))
+        (at-b (Other {W = swap w2} (calls.Add 1 0 Unlimited false false) tt tt)))
+        (at-b (Other {W = swap w3} (calls.Add 2 0 Unlimited false false) tt tt)))
         (at-a (send-step w4 0 0 data-7 (ap length (c .sent-4) ∙ ha))))
         (at-a (send-step w5 0 0 finish (ap length (c .sent-5) ∙ put-a))))
         (at-b (receive-step (swap w6) 0 p1 (ap length (c .received-6) ∙ hb) (rw (c .msgs-6) (List·Memᴰ·head refl)) (omega (arith, two (w6 .a .given) (c .given-6))))))
-        (at-a (Unconfirm 0)))
+        (at-a (Other (calls.Unconfirm 0) tt tt)))
         (at-a (Resend 1 0 4294967295 (omega arith))))
         (at-a (Resend 1 0 0 (omega arith)))
 
@@ -406,7 +415,7 @@ module _ (sa ra sb rb : List ℕ) where
       emptied = later .table-18;
       nothing = later .none-16;
       given = later .given-16;
-      out = later .out-16 ∙ (λ d. record { kind = msgs.Data; bytes = get-put-same rb 64512 (7 ∷ []) (omega (arith, hb)) d } ∷ finish ∷ []);
+      out = later .out-16 ∙ (λ d. record { kind = msgs.Data; bytes = copied-here CELLS (omega arith) rb hb 4294967295 (7 ∷ []) (omega arith) d } ∷ finish ∷ []);
     }
 
 -- the theorem says of this run that its table is emptied

@@ -36,6 +36,12 @@ use Rattle.engine.specs.Fields.{withStatus, withNext, withPackets, withT
 -- bytes and `txed_unacked` and joins `txed_unconsumable`; ResendQueued, the same without the link, and it leaves the queue; Sent
 -- elsewhere or Received, nothing. Only the first case moves the round trip"
 
+-- what an ack over this slot makes of the status
+unfoldable pub settled : ℕ → SentReliableStatus → SentReliableStatus
+settled slot (Sent flight) = cond (eqb (flight .slot) slot) Received (Sent flight)
+settled slot Received = Received
+settled slot (ResendQueued link) = Received
+
 -- the link's row: only a packet Sent on this slot leaves its unacked bytes and moves its round trip
 unfoldable pub settledRowAs : SentReliableStatus → LinkRow → ℕ → ℕ → ℕ → LinkRow
 settledRowAs (Sent flight) row len slot time = cond (eqb (flight .slot) slot) (tripMoved (withUnacked row (row .«txed_unacked_data» - len)) (flight .sent) time) row

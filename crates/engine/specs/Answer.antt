@@ -35,3 +35,8 @@ told-of v w s next e same = ap (λ (x : Changed). outcomeTold (x .outcome)) e �
 pub done-passed : (v : Verdict) (s next : State) → changedBy v s next .outcome ≡ Done → v ≡ verdicts.Pass
 done-passed verdicts.Pass s next e = refl
 done-passed (verdicts.No r) s next e = let z : _≡_ {A = ℕ} 0 1 = cc in absurd (omega arith)
+
+-- a refused call leaves the state as it came, so only an accepted one has something to keep
+pub changed-keeps : (P : State → Type 0) (v : Verdict) (s next : State) → P s → (v ≡ verdicts.Pass → P next) → P (changedBy v s next .state)
+changed-keeps P verdicts.Pass s next old new = new refl
+changed-keeps P (verdicts.No e) s next old new = old

@@ -1,10 +1,7 @@
 -- The receive table's changes. Document 01: "number n uses cell n mod 64"; "Then consecutive messages advance the next expected
 -- number; Data and SendFinish among them become ready." N is the cell count, 64 here. Assumes nothing.
-use mathlib.Core.Path.{_≡_, refl, ap}
 use mathlib.Core.Bool.{Bool, cond, _&&_, _||_}
-use Prim.Native.Nat.{ℕ, zero, suc, _-_, _%_, _≤_, _<_}
-use native.Mathlib.Nat.{not-suc-le-zero}
-use native.Mathlib.Omega.{arith}
+use Prim.Native.Nat.{ℕ, _%_}
 use lib.Dec.{eqb, ltb}
 use lib.ListN.{getD, set}
 use Rattle.seq.specs.declared.Seq.{Seq}
@@ -14,6 +11,7 @@ use Rattle.engine.specs.declared.state.Held.the-variants.{Nothing, Messa
 use Rattle.engine.specs.declared.state.Receiving.{Receiving}
 use Rattle.engine.specs.Received.{noCell, isFull, isReadyKind}
 use Rattle.engine.specs.Fields.{withCells}
+use Rattle.engine.specs.Turns.{turns}
 
 -- what the number's cell holds
 unfoldable pub cellOf : ℕ → Receiving → ℕ → Held
@@ -55,21 +53,5 @@ passedOver N rx =
     (set (rx .«rxed_reliable») (n % N) (record { held = stays }))
 
 -- "consecutive messages advance the next expected number": as many as there are, at most k
-unfoldable pub advanced : ℕ → ℕ → Receiving → Receiving
-unfolding canAdvance passedOver
-advanced N zero rx = rx
-advanced N (suc k) rx = cond (canAdvance N rx) (advanced N k (passedOver N rx)) rx
-
--- ---- laws
-
-pub advance-step : (N k : ℕ) (rx : Receiving) → 0 < k → advanced N k rx ≡ cond (canAdvance N rx) (advanced N (k - 1) (passedOver N rx)) rx
-unfolding advanced
-advance-step N zero rx h = absurd (not-suc-le-zero h)
-advance-step N (suc k) rx h =
-    let e : k ≡ suc k - 1 = omega arith in
-    ap (λ m. cond (canAdvance N rx) (advanced N m (passedOver N rx)) rx) e
-
-pub advance-end : (N k : ℕ) (rx : Receiving) → k ≤ 0 → advanced N k rx ≡ rx
-unfolding advanced
-advance-end N zero rx h = refl
-advance-end N (suc k) rx h = absurd (not-suc-le-zero h)
+abbrev pub advanced : ℕ → ℕ → Receiving → Receiving
+advanced N k rx = turns (canAdvance N) (passedOver N) k rx

@@ -11,17 +11,18 @@ use Rattle.engine.specs.declared.state.State.{State}
 use Rattle.engine.specs.declared.answer.Changed.{Changed}
 use Rattle.engine.specs.Gates.{timedVerdict}
 use Rattle.engine.specs.Answer.{changedBy}
-use Rattle.engine.specs.Fields.{withStatus, withTx, withTime, flushedFlight}
-use Rattle.engine.specs.Packets.{packets}
+use Rattle.engine.specs.Fields.{withTx, withTime, flushedFlight}
+use Rattle.engine.specs.Packets.{packets, restatused}
 use Rattle.engine.specs.Table.{withTable}
 
-unfoldable pub flushedAs : SentReliableStatus → ℕ → ℕ → SentReliable → SentReliable
-flushedAs (Sent flight) slot time p = cond (eqb (flight .slot) slot) (withStatus p (Sent (flushedFlight flight time))) p
-flushedAs Received slot time p = p
-flushedAs (ResendQueued link) slot time p = p
+-- what a flush makes of a status
+unfoldable pub flushed : ℕ → ℕ → SentReliableStatus → SentReliableStatus
+flushed slot time (Sent flight) = cond (eqb (flight .slot) slot) (Sent (flushedFlight flight time)) (Sent flight)
+flushed slot time Received = Received
+flushed slot time (ResendQueued link) = ResendQueued link
 
 abbrev pub flushedPacket : ℕ → ℕ → SentReliable → SentReliable
-flushedPacket slot time p = flushedAs (p .status) slot time p
+flushedPacket slot time p = restatused (flushed slot time) p
 
 unfoldable pub flushedState : State → ℕ → ℕ → State
 flushedState s slot time = withTime (withTx s (withTable (s .tx) (map (flushedPacket slot time) (packets (s .tx))))) time

@@ -5,7 +5,7 @@
 -- is what lies before the next expected number; N is the cell count. Assumes nothing.
 use mathlib.Core.Path.{_≡_, refl, sym, ap, ap₂, _∙_}
 use mathlib.Core.Bool.{Bool, true, false, cond, not, _&&_}
-use Prim.Native.Nat.{ℕ, _%_, _≤_, _+_, _-_, zero, suc, _^_, _<_, _/_}
+use Prim.Native.Nat.{ℕ, _%_, _≤_, _+_, _-_, _^_, _<_, _/_}
 use native.Mathlib.Omega.{arith}
 use lib.Dec.{eqb, ltb}
 use lib.ListN.{getD, length, take, drop, set}
@@ -32,10 +32,10 @@ use mathlib.Core.List.{List, [], _∷_}
 use borrow.Author.Tests.{eqb-true}
 use Rattle.engine.specs.Decide.{soundb, sound}
 use Rattle.engine.specs.Stores.{cellStart}
-use native.Mathlib.Nat.{not-suc-le-zero}
 use borrow.Table.Steps.{cases}
 use Rattle.seq.specs.Numbers.{seqOf, plus}
 use Rattle.engine.specs.Rows.{rowOf, slotOk}
+use Rattle.engine.specs.Gates.{AtSlot, slot-ok}
 use Rattle.engine.specs.declared.handing_out.TakeResult.{TakeResult}
 use Rattle.link.specs.declared.acks.OldestAck.{OldestAck}
 use Rattle.link.specs.declared.acks.OldestAck.the-variants as oldest
@@ -45,6 +45,7 @@ use Rattle.engine.specs.declared.handing_out.TakeAck.the-variants as tel
 use Rattle.engine.specs.declared.handing_out.TakeAckResult.{TakeAckResult}
 use Rattle.engine.specs.declared.handing_out.Due.{Due}
 use Rattle.engine.specs.Ring.{window-step}
+use Rattle.engine.specs.Turns.{turns}
 use Rattle.engine.specs.Sizes.{CELLS, DATA_BYTES, RECEIVED_BYTES}
 use Rattle.engine.specs.Packets.{isData}
 use Rattle.engine.specs.Fields.{withCells, withBytes, withRow, withRx}
@@ -137,10 +138,8 @@ unfoldable pub passedBy : Receiving → Receiving
 passedBy rx = withCells rx (rx .«rx_seq») (seqOf (plus (rx .«rx_oldest» .0) 1)) (rx .«rxed_reliable»)
 
 -- to the next ready message or the next expected number, over at most k numbers
-unfoldable pub skipped : ℕ → ℕ → Receiving → Receiving
-unfolding canSkip passedBy
-skipped N zero rx = rx
-skipped N (suc k) rx = cond (canSkip N rx) (skipped N k (passedBy rx)) rx
+abbrev pub skipped : ℕ → ℕ → Receiving → Receiving
+skipped N k rx = turns (canSkip N) passedBy k rx
 
 -- the table without its oldest ready message, of so many data bytes
 unfoldable pub takenRx : ℕ → Receiving → ℕ → Receiving
@@ -295,18 +294,6 @@ part-same start len store =
     let e : start + len - start ≡ len = omega arith in
     ap (λ n. take n (drop start store)) e
 
-pub skip-step : (N k : ℕ) (rx : Receiving) → 0 < k → skipped N k rx ≡ cond (canSkip N rx) (skipped N (k - 1) (passedBy rx)) rx
-unfolding skipped
-skip-step N zero rx h = absurd (not-suc-le-zero h)
-skip-step N (suc k) rx h =
-    let e : k ≡ suc k - 1 = omega arith in
-    ap (λ m. cond (canSkip N rx) (skipped N m (passedBy rx)) rx) e
-
-pub skip-end : (N k : ℕ) (rx : Receiving) → k ≤ 0 → skipped N k rx ≡ rx
-unfolding skipped
-skip-end N zero rx h = refl
-skip-end N (suc k) rx h = absurd (not-suc-le-zero h)
-
 -- a message that is taken was ready, in a sound state, and the taken-and-untold count stays a total
 pub record Taking (s : State) (msg : ReliableMsg) (seq : Seq) (len : ℕ) : Type 0 where
   pub fine : Sound s
@@ -327,6 +314,19 @@ taking s msg seq len e =
       number = h .number;
       total = rw (ap readyBytes (h .ready (e19 .0))) at (total-fits (s .rx .«rxed_reliable_consumed») (readyBytes (readyOf CELLS (s .rx))) (e9 .0));
     }
+
+-- an ack that is taken was waiting, on a live link
+pub record TakeAckPassed (s : State) (slot : ℕ) : Type 0 where
+  pub at : AtSlot s slot
+  pub waits : isWaiting (oldestAck (rowOf s slot)) ≡ true
+
+pub take-ack-passed : (s : State) (slot : ℕ) → takeAckVerdict s slot ≡ verdicts.Pass → TakeAckPassed s slot
+unfolding takeAckVerdict
+take-ack-passed s slot e =
+    let e1 = gate-pass (soundb s) _ _ e in
+    let e4 = gate-pass (slotOk s slot) _ _ (e1 .1) in
+    let e19 = gate-pass (isWaiting (oldestAck (rowOf s slot))) _ _ (e4 .1) in
+    record { at = slot-ok s slot (e1 .0) (e4 .0); waits = e19 .0 }
 
 -- a ready message's data bytes are all that its cell counts
 pub data-all : (msg : ReliableMsg) (len : ℕ) → isReadyKind msg ≡ true → lengthOk msg len ≡ true → dataLength msg len ≡ len

@@ -2,6 +2,7 @@ pub mod Sizes
 pub mod Fields
 pub mod Totals
 pub mod Ring
+pub mod Turns
 pub mod Packets
 pub mod Received
 pub mod Roster

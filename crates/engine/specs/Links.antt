@@ -9,19 +9,20 @@ use native.Mathlib.Omega.{arith}
 use lib.Dec.{eqb, leb, ltb}
 use lib.ListN.{length, getD, drop, drop-of-length-le}
 use lib.Seq.{drop-cons}
-use borrow.Author.Tests.{eq-eqb}
+use borrow.Author.Tests.{eq-eqb, leb-true, ltb-true, not-true}
 use borrow.Table.Steps.{cases}
 use Rattle.refusal.specs.Answers.{Told, success, refused}
-use Rattle.refusal.specs.Tests.{false-true}
+use Rattle.refusal.specs.Tests.{false-true, split}
 use Rattle.refusal.specs.declared.verdict.Verdict.{Verdict}
 use Rattle.refusal.specs.declared.verdict.Verdict.the-variants as verdicts
-use Rattle.refusal.specs.Verdicts.{gate}
+use Rattle.refusal.specs.Verdicts.{gate, gate-pass}
 use Rattle.link.specs.declared.row.MaxPing.{MaxPing}
 use Rattle.link.specs.Row.{noRow, freshRow, confirmed, blockedRow}
 use Rattle.link.specs.Sizes.{maxPingWithin, MAX_TIME}
 use Rattle.engine.specs.declared.state.State.{State}
 use Rattle.link.specs.declared.row.LinkRow.{LinkRow}
-use Rattle.engine.specs.Decide.{soundb}
+use Rattle.engine.specs.Decide.{soundb, sound}
+use Rattle.engine.specs.Sound.{Sound}
 use Rattle.engine.specs.Rows.{rowOf}
 use Rattle.engine.specs.declared.links.AddAnswer.{AddAnswer}
 use Rattle.engine.specs.declared.links.AddAnswer.the-variants.{Slot, No}
@@ -96,6 +97,30 @@ unfoldable pub pongOf : State → ℕ → ℕ → Changed
 pongOf s slot time = changedBy (timedVerdict s slot time verdicts.Pass) s (withTime (withRow s slot (ponged (rowOf s slot) time)) time)
 
 -- ---- laws
+
+-- what an accepted link says
+pub record AddPassed (s : State) (id roundtrip : ℕ) (max : MaxPing) : Type 0 where
+  pub fine : Sound s
+  pub trip : roundtrip ≤ MAX_TIME
+  pub limit : maxPingWithin max ≡ true
+  pub small : lowestIn s < SLOTS
+  pub nowhere : isTaken (s .links) id ≡ false
+
+pub add-passed : (s : State) (id roundtrip : ℕ) (max : MaxPing) → addVerdict s id roundtrip max ≡ verdicts.Pass → AddPassed s id roundtrip max
+unfolding addVerdict
+add-passed s id roundtrip max e =
+    let e1 = gate-pass (soundb s) _ _ e in
+    let e3 = gate-pass (leb roundtrip MAX_TIME && maxPingWithin max) _ _ (e1 .1) in
+    let e5 = gate-pass (ltb (lowestIn s) SLOTS) _ _ (e3 .1) in
+    let e6 = gate-pass (not (isTaken (s .links) id)) _ _ (e5 .1) in
+    let sizes = split (leb roundtrip MAX_TIME) (maxPingWithin max) (e3 .0) in
+    record {
+      fine = sound s (e1 .0);
+      trip = leb-true roundtrip MAX_TIME (sizes .0);
+      limit = sizes .1;
+      small = ltb-true (lowestIn s) SLOTS (e5 .0);
+      nowhere = not-true (isTaken (s .links) id) (e6 .0);
+    }
 
 -- the rows from j on are row j and those after it
 module _ (rows : List LinkRow) (j : ℕ) where

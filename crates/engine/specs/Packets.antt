@@ -1,4 +1,5 @@
 -- The packet table as a list, oldest first, and the sums over it. Assumes nothing.
+use mathlib.Core.Path.{_≡_, sym, ap, _∙_}
 use mathlib.Core.Bool.{Bool, true, false, cond}
 use mathlib.Core.List.{List, [], _∷_}
 use Prim.Native.Nat.{ℕ, _+_, _%_}
@@ -15,7 +16,7 @@ use Rattle.engine.specs.declared.state.SentReliable.{SentReliable}
 use Rattle.engine.specs.declared.state.Sending.{Sending}
 use Rattle.engine.specs.Ring.{window}
 use Rattle.engine.specs.Sizes.{PACKETS}
-use Rattle.engine.specs.Fields.{newPacket, newFlight}
+use Rattle.engine.specs.Fields.{newPacket, newFlight, withStatus}
 
 -- what an index past the table would read
 abbrev pub noPacket : SentReliable
@@ -48,6 +49,10 @@ isQueued (Sent flight) = false
 isQueued Received = false
 isQueued (ResendQueued id) = true
 
+-- a packet with what a change makes of its status
+abbrev pub restatused : (SentReliableStatus → SentReliableStatus) → SentReliable → SentReliable
+restatused change p = withStatus p (change (p .status))
+
 abbrev pub isData : ReliableMsg → Bool
 isData msg = isKind MSG_DATA msg
 
@@ -79,3 +84,9 @@ weight k p = weightAs k (p .status) (p .len)
 unfoldable pub sumOf : Pick → List SentReliable → ℕ
 sumOf k [] = 0
 sumOf k (p ∷ ps) = weight k p + sumOf k ps
+
+-- ---- laws
+
+-- a change that leaves a packet's status leaves the packet
+pub status-left : (change : SentReliableStatus → SentReliableStatus) (p : SentReliable) (st : SentReliableStatus) → p .status ≡ st → change st ≡ st → p ≡ restatused change p
+status-left change p st e same = ap (withStatus p) (e ∙ sym same ∙ ap change (sym e))

@@ -4,10 +4,10 @@
 use mathlib.Core.Path.{_≡_}
 use mathlib.Core.Bool.{Bool, true, false, cond, _||_}
 use mathlib.Core.List.{List}
-use Prim.Native.Nat.{ℕ, _+_, _-_, _≤_}
+use Prim.Native.Nat.{ℕ, _+_, _-_, _≤_, _<_}
 use lib.Dec.{eqb, leb, ltb}
 use lib.ListN.{length, set}
-use borrow.Author.Tests.{eqb-true, leb-true}
+use borrow.Author.Tests.{eqb-true, leb-true, ltb-true}
 use Rattle.seq.specs.Numbers.{seqOf, minus, USABLE_INTERVAL}
 use Rattle.msg.specs.declared.reliable.ReliableMsg.{ReliableMsg}
 use Rattle.msg.specs.Reliable.{isKind, countOf, MSG_RECEIVE_CLOSE, MSG_RECEIVE_FINISH}
@@ -25,6 +25,7 @@ use Rattle.engine.specs.Decide.{soundb}
 use Rattle.engine.specs.Tally.{lengthOk}
 use Rattle.engine.specs.DecidedTables.{length-le}
 use Rattle.engine.specs.Rows.{rowOf, slotOk}
+use Rattle.engine.specs.Gates.{AtSlot, slot-ok}
 use Rattle.engine.specs.Answer.{changedBy}
 use Rattle.engine.specs.Stores.{cellStart, copied, storeBy}
 use Rattle.engine.specs.Cells.{nearOldest, isRepeat, advanced, withCell}
@@ -88,19 +89,26 @@ receiveStore s store slot msg n bytes =
 -- ---- laws
 
 -- what an accepted new number says
-pub record Accepted (s : State) (store : ℕ) (msg : ReliableMsg) (len : ℕ) : Type 0 where
-  pub stored : store ≡ RECEIVED_BYTES
-  pub short : len ≤ DATA_BYTES
+pub record NewNumber (s : State) (msg : ReliableMsg) (n len : ℕ) : Type 0 where
+  pub near : nearOldest CELLS (s .rx) n ≡ true
   pub within : s .rx .«rxed_reliable_size» + len ≤ s .rx .«recv_buffer»
   pub told : countOf msg ≤ s .tx .«txed_unconsumed»
+
+-- .. and any that is accepted, a repeat too
+pub record ReceivePassed (s : State) (store slot : ℕ) (msg : ReliableMsg) (n len : ℕ) : Type 0 where
+  pub at : AtSlot s slot
+  pub stored : store ≡ RECEIVED_BYTES
+  pub fits : lengthOk msg len ≡ true
+  pub short : len ≤ DATA_BYTES
+  pub room : rowOf s slot .«ack_count» < ACKS
+  pub new : isRepeat CELLS (s .rx) n ≡ false → NewNumber s msg n len
 
 new-test : (again b : Bool) → again ≡ false → (again || b) ≡ true → b ≡ true
 new-test again b n e = simp n at e
 
-pub accepted : (s : State) (store slot : ℕ) (msg : ReliableMsg) (n len : ℕ) → receiveVerdict s store slot msg n len ≡ Pass → isRepeat CELLS (s .rx) n ≡ false
-    → Accepted s store msg len
+pub receive-passed : (s : State) (store slot : ℕ) (msg : ReliableMsg) (n len : ℕ) → receiveVerdict s store slot msg n len ≡ Pass → ReceivePassed s store slot msg n len
 unfolding receiveVerdict
-accepted s store slot msg n len e new =
+receive-passed s store slot msg n len e =
     let again = isRepeat CELLS (s .rx) n in
     let e1 = gate-pass (soundb s) _ _ e in
     let e2 = gate-pass (eqb store RECEIVED_BYTES) _ _ (e1 .1) in
@@ -112,8 +120,14 @@ accepted s store slot msg n len e new =
     let e14 = gate-pass (again || fits (s .rx .«rxed_reliable_size») len (s .rx .«recv_buffer»)) _ _ (e13 .1) in
     let e15 = gate-pass (again || consumedOk msg (s .tx .«txed_unconsumed»)) _ _ (e14 .1) in
     record {
+      at = slot-ok s slot (e1 .0) (e4 .0);
       stored = eqb-true store RECEIVED_BYTES (e2 .0);
+      fits = e7 .0;
       short = length-le msg len (e7 .0);
-      within = leb-true _ _ (new-test again (fits (s .rx .«rxed_reliable_size») len (s .rx .«recv_buffer»)) new (e14 .0));
-      told = leb-true (countOf msg) (s .tx .«txed_unconsumed») (new-test again (consumedOk msg (s .tx .«txed_unconsumed»)) new (e15 .0));
+      room = ltb-true (rowOf s slot .«ack_count») ACKS (e13 .0);
+      new = λ is. record {
+        near = new-test again (nearOldest CELLS (s .rx) n) is (e12 .0);
+        within = leb-true _ _ (new-test again (fits (s .rx .«rxed_reliable_size») len (s .rx .«recv_buffer»)) is (e14 .0));
+        told = leb-true (countOf msg) (s .tx .«txed_unconsumed») (new-test again (consumedOk msg (s .tx .«txed_unconsumed»)) is (e15 .0));
+      };
     }

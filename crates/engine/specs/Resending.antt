@@ -6,9 +6,9 @@ use mathlib.Core.Bool.{Bool, true, false, not, _&&_, _||_, or-true}
 use mathlib.Core.List.{List, [], _∷_}
 use Prim.Native.Nat.{ℕ, zero, suc, _+_, _-_, _%_, _^_, _≤_, _<_}
 use native.Mathlib.Omega.{arith}
-use lib.Dec.{eqb, ltb}
+use lib.Dec.{eqb}
 use lib.ListN.{length, getD, set}
-use borrow.Author.Tests.{ltb-true, eqb-true, eq-eqb, le-leb}
+use borrow.Author.Tests.{eqb-true, eq-eqb, le-leb}
 use borrow.Table.Steps.{cases}
 use Rattle.seq.specs.declared.Seq.{Seq}
 use Rattle.seq.specs.Numbers.{plus, minus}
@@ -28,15 +28,15 @@ use Rattle.engine.specs.Packets.{noPacket, firstOf, packets, queue, isQu
 use Rattle.engine.specs.Ring.{window-length}
 use Rattle.engine.specs.Queue.{requeued}
 use Rattle.engine.specs.Table.{inTable, place, lookedAt, packetOf, withPacket}
-use Rattle.engine.specs.Rows.{rowOf, slotOk, timeOk, row-of}
+use Rattle.engine.specs.Rows.{rowOf, row-of}
 use Rattle.engine.specs.Decide.{soundb, sound}
-use Rattle.engine.specs.Gates.{timedVerdict}
-use Rattle.engine.specs.Sound.{Sound, Shaped, rowAt, packetAt}
+use Rattle.engine.specs.Gates.{timedVerdict, AtTime, timed-passed}
+use Rattle.engine.specs.Sound.{Sound, Shaped, packetAt}
 use Rattle.engine.specs.InTable.{placed, packet-short, looked-cell, looked-number, row-small}
 use Rattle.engine.specs.declared.resending.ResendAnswer.{ResendAnswer}
 use Rattle.engine.specs.declared.resending.ResendAnswer.the-variants.{Message, No}
 use Rattle.engine.specs.declared.resending.ResendResult.{ResendResult}
-use Rattle.engine.specs.Sizes.{SLOTS, PACKETS}
+use Rattle.engine.specs.Sizes.{PACKETS}
 use Rattle.engine.specs.Fields.{withStatus, withParts, newFlight}
 
 -- the identity that a packet was last sent on
@@ -147,37 +147,32 @@ module _ (s : State) (n : ℕ) (shaped : Shaped s) (fine : Sound s) (u32 : n < 2
       join (both .0) (ap (λ p. isQueued (p .status)) (cell (both .0)) ∙ both .1))
 
 -- what an accepted resend says
-pub record ResendPassed (s : State) (slot n : ℕ) : Type 0 where
-  pub fine : Sound s
-  pub in-eight : slot < SLOTS
-  pub live : rowAt s slot .live ≡ true
+pub record ResendPassed (s : State) (slot time n : ℕ) : Type 0 where
+  pub timed : AtTime s slot time
   pub held : inTable (s .tx) n ≡ true
   pub queued : isQueued (lookedAt (s .tx) n .status) ≡ true
 
-pub resend-passed : (s : State) (slot time n : ℕ) → Shaped s → n < 2 ^ 32 → resendVerdict s slot time n ≡ verdicts.Pass → ResendPassed s slot n
-unfolding resendVerdict timedVerdict slotOk
+pub resend-passed : (s : State) (slot time n : ℕ) → Shaped s → n < 2 ^ 32 → resendVerdict s slot time n ≡ verdicts.Pass → ResendPassed s slot time n
+unfolding resendVerdict
 resend-passed s slot time n shaped h e =
-    let e1 = gate-pass (soundb s) _ _ e in
-    let e3 = gate-pass (timeOk s time) _ _ (e1 .1) in
-    let e4 = gate-pass (slotOk s slot) _ _ (e3 .1) in
-    let e16 = gate-pass (isListed (queue (s .tx)) n) _ _ (e4 .1) in
-    let fine = sound s (e1 .0) in
-    let both = listed-queued s n shaped fine h (e16 .0) in
-    let slot-parts = split (ltb slot SLOTS) (rowAt s slot .live) (e4 .0) in
-    record { fine = fine; in-eight = ltb-true slot SLOTS (slot-parts .0); live = slot-parts .1; held = both .0; queued = both .1 }
+    let own = timed-passed s slot time _ e in
+    let e16 = gate-pass (isListed (queue (s .tx)) n) _ _ (own .1) in
+    let both = listed-queued s n shaped (own .0 .at .fine) h (e16 .0) in
+    record { timed = own .0; held = both .0; queued = both .1 }
 
 -- the new link's unacked bytes stay small
 pub resend-fits : (s : State) (slot time n : ℕ) → Shaped s → n < 2 ^ 32 → resendVerdict s slot time n ≡ verdicts.Pass
     → rowOf s slot .«txed_unacked_data» + lookedAt (s .tx) n .len < 2 ^ 32
 resend-fits s slot time n shaped h e =
     let p = resend-passed s slot time n shaped h e in
-    omega (arith, packet-short s shaped (p .fine) n h (p .held), row-small s shaped (p .fine) slot (p .in-eight) (p .live), ap (λ r. r .«txed_unacked_data») (row-of s slot (p .in-eight)))
+    let at = p .timed .at in
+    omega (arith, packet-short s shaped (at .fine) n h (p .held), row-small s shaped (at .fine) slot (at .small) (at .live), ap (λ r. r .«txed_unacked_data») (row-of s slot (at .small)))
 
 -- an accepted resend's packet is in the number's cell
 pub resend-cell : (s : State) (slot time n : ℕ) → Shaped s → n < 2 ^ 32 → resendVerdict s slot time n ≡ verdicts.Pass → packetOf (s .tx) n ≡ lookedAt (s .tx) n
 resend-cell s slot time n shaped h e =
     let p = resend-passed s slot time n shaped h e in
-    looked-cell s shaped (p .fine) n h (p .held)
+    looked-cell s shaped (p .timed .at .fine) n h (p .held)
 
 -- what the code asks of the number's cell, in the gates
 abbrev pub resendAsked : State → ℕ → ℕ → ℕ → Verdict

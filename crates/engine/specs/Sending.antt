@@ -2,7 +2,7 @@
 -- identity; `txed_unacked`, `txed_unconsumed` and the link's unacked bytes grow by the data length. The answer is the number. A
 -- Consumed reduces the taken-and-untold count by its amount (P)." Assumes nothing.
 use mathlib.Core.Path.{_≡_}
-use mathlib.Core.Bool.{Bool, false, not, _&&_, _||_}
+use mathlib.Core.Bool.{Bool, true, false, not, _&&_, _||_}
 use mathlib.Core.List.{List, [], _∷_}
 use Prim.Native.Nat.{ℕ, _+_, _-_, _%_, _^_, _≤_, _<_}
 use lib.Dec.{eqb, leb, ltb}
@@ -25,6 +25,7 @@ use Rattle.engine.specs.Decide.{soundb}
 use Rattle.engine.specs.Tally.{lengthOk}
 use Rattle.engine.specs.DecidedTables.{length-le}
 use Rattle.engine.specs.Rows.{rowOf, slotOk, timeOk}
+use Rattle.engine.specs.Gates.{AtTime, time-ok}
 use Rattle.engine.specs.Stores.{cellStart, copied, storeBy}
 use Rattle.engine.specs.declared.sending.SendAnswer.{SendAnswer}
 use Rattle.engine.specs.declared.sending.SendAnswer.the-variants.{Number, No}
@@ -120,12 +121,14 @@ pub record Room (s : State) (slot : ℕ) (msg : ReliableMsg) (len : ℕ) : Type 
   pub told : countOf msg ≤ s .rx .«rxed_reliable_consumed»
 
 -- an accepted message has room everywhere, and its store and length are within their sizes
-pub record SendPassed (s : State) (store slot : ℕ) (msg : ReliableMsg) (len : ℕ) : Type 0 where
+pub record SendPassed (s : State) (store slot time : ℕ) (msg : ReliableMsg) (len : ℕ) : Type 0 where
+  pub timed : AtTime s slot time
+  pub fits : lengthOk msg len ≡ true
   pub room : Room s slot msg len
   pub stored : store ≡ SENT_BYTES
   pub short : len ≤ DATA_BYTES
 
-pub send-passed : (s : State) (store slot time : ℕ) (msg : ReliableMsg) (len : ℕ) → sendVerdict s store slot time msg len ≡ verdicts.Pass → SendPassed s store slot msg len
+pub send-passed : (s : State) (store slot time : ℕ) (msg : ReliableMsg) (len : ℕ) → sendVerdict s store slot time msg len ≡ verdicts.Pass → SendPassed s store slot time msg len
 unfolding sendVerdict totalsOk
 send-passed s store slot time msg len e =
     let e1 = gate-pass (soundb s) _ _ e in
@@ -140,6 +143,8 @@ send-passed s store slot time msg len e =
     let t2 = split (fits (s .tx .«txed_unconsumed») len MAX_TOTAL) _ (t1 .1) in
     let t3 = split (fits (rowOf s slot .«txed_unacked_data») len MAX_TOTAL) (toldOk msg (s .rx .«rxed_reliable_consumed»)) (t2 .1) in
     record {
+      timed = time-ok s slot time (e1 .0) (e3 .0) (e4 .0);
+      fits = e7 .0;
       room = record {
         places = ltb-true (s .tx .«txed_count») PACKETS (e10 .0);
         unacked-fits = total-fits (s .tx .«txed_unacked») len (t1 .0);

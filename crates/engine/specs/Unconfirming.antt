@@ -13,18 +13,18 @@ use Rattle.engine.specs.Queue.{requeued}
 use Rattle.engine.specs.Rows.{rowOf}
 use Rattle.engine.specs.Answer.{changedBy}
 use Rattle.engine.specs.Gates.{slotVerdict}
-use Rattle.engine.specs.Fields.{withStatus, withRow, withTx}
-use Rattle.engine.specs.Packets.{packets}
+use Rattle.engine.specs.Fields.{withRow, withTx}
+use Rattle.engine.specs.Packets.{packets, restatused}
 use Rattle.engine.specs.Table.{withTable}
 
 -- "Its Sent packets become ResendQueued, remembering the identity"
-unfoldable pub unconfirmedAs : SentReliableStatus → ℕ → SentReliable → SentReliable
-unconfirmedAs (Sent flight) slot p = cond (eqb (flight .slot) slot) (withStatus p (ResendQueued (flight .link))) p
-unconfirmedAs Received slot p = p
-unconfirmedAs (ResendQueued link) slot p = p
+unfoldable pub unconfirmed : ℕ → SentReliableStatus → SentReliableStatus
+unconfirmed slot (Sent flight) = cond (eqb (flight .slot) slot) (ResendQueued (flight .link)) (Sent flight)
+unconfirmed slot Received = Received
+unconfirmed slot (ResendQueued link) = ResendQueued link
 
 abbrev pub unconfirmedPacket : ℕ → SentReliable → SentReliable
-unconfirmedPacket slot p = unconfirmedAs (p .status) slot p
+unconfirmedPacket slot p = restatused (unconfirmed slot) p
 
 -- "The link becomes unconfirmed; its mark is cleared, its round trip and flag kept (P). .. the queue stays oldest first."
 unfoldable pub unconfirmedState : State → ℕ → State

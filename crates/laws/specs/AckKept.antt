@@ -1,206 +1,212 @@
 -- `ack` keeps a sound state sound: the settled packet leaves the sums of what is unacked, and the sweep makes the first packet one
 -- that isn't Received. Assumes nothing.
 use mathlib.Core.Path.{_≡_, refl, sym, ap, _∙_}
-use mathlib.Core.Bool.{true, cond}
-use mathlib.Core.List.{List}
-use Prim.Native.Nat.{ℕ, _+_, _-_, _^_, _≤_, _<_}
+use mathlib.Core.Bool.{true, false}
+use mathlib.Core.List.{List, [], _∷_, map}
+use Prim.Native.Nat.{ℕ, suc, _+_, _-_, _^_, _≤_, _<_}
 use native.Mathlib.Decide.{ℕ-discrete}
 use native.Mathlib.Omega.{arith}
 use lib.Dec.{eqb}
-use lib.ListN.{length, set, take}
+use lib.ListN.{length, getD, take, length-set}
 use borrow.Author.Tests.{eq-eqb, ne-eqb}
 use borrow.Table.Steps.{cases}
-use Rattle.refusal.specs.declared.verdict.Verdict.the-variants.{Pass}
 use Rattle.seq.specs.declared.Seq.{Seq}
+use Rattle.seq.specs.Laws.{plus-lt}
 use Rattle.link.specs.declared.row.LinkRow.{LinkRow}
 use Rattle.link.specs.Row.{withUnacked}
 use Rattle.link.specs.Limit.{markAcked}
 use Rattle.link.specs.Roundtrip.{tripMoved}
-use Rattle.link.specs.Sizes.{MAX_TIME}
 use Rattle.engine.specs.declared.state.SentReliableStatus.{SentReliableStatus}
 use Rattle.engine.specs.declared.state.SentReliableStatus.the-variants.{Sent, Received, ResendQueued}
 use Rattle.engine.specs.declared.state.SentReliable.{SentReliable}
 use Rattle.engine.specs.declared.state.Sending.{Sending}
 use Rattle.engine.specs.declared.state.State.{State}
-use Rattle.engine.specs.Packets.{packets, isQueued, queuedOf, Pick, SentOn, Outstanding, Settled, weightAs, sumOf}
-use Rattle.engine.specs.Queue.{requeued, requeued-queue}
-use Rattle.engine.specs.Table.{inTable, lookedAt}
-use Rattle.engine.specs.InTable.{packet-short, sum-small}
+use Rattle.engine.specs.Packets.{noPacket, firstOf, packets, queue, isReceived, isQueued, queuedOf, Pick, SentOn, Outstanding, Settled, weightAs, sumOf}
+use Rattle.engine.specs.Queue.{requeued}
+use Rattle.engine.specs.Table.{inTable, lookedAt, withPacket}
 use Rattle.engine.specs.Rows.{rowOf, row-of}
-use Rattle.engine.specs.Sound.{Sound, Shaped, rowAt}
+use Rattle.engine.specs.Sound.{rowAt, packetAt}
 use Rattle.engine.specs.DecidedTables.{RowFine}
-use Rattle.engine.specs.Gates.{timedVerdict}
-use Rattle.engine.specs.Acking.{settledRowAs, receivedTx, settledTxAs, sweptTx, ackedRow, ackedTx, ackedState, ackOf}
-use Rattle.engine.specs.Fields.{withStatus}
-use Rattle.engine.specs.declared.state.InFlight.{InFlight}
-use Rattle.engine.specs.Sizes.{SLOTS, PACKETS}
-use Rattle.laws.specs.Passed.{changed-keeps, timed-passed}
-use Rattle.laws.specs.RowsKept.{rows-of, row-later, links-set, rows-set, apart-kept, here-same, row-sound, row-shaped}
-use Rattle.laws.specs.PacketsKept.{requeued-count, requeued-long}
-use Rattle.laws.specs.PacketReplaced.{replaced, replaced-sum, replaced-queued}
-use Rattle.laws.specs.NearlySound.{Nearly, sound-nearly, withSent, nearly-sound, restated, restated-shaped, restated-nearly}
-use Rattle.laws.specs.RowAcks.{SameAcks, acked-acks, same-full}
+use Rattle.engine.specs.Gates.{AtTime}
+use Rattle.engine.specs.Acking.{settled, settledRowAs, receivedTx, settledTxAs, sweepFrom, sweepOf, sweptTx, ackedRow, ackedTx, ackedState, acked-count}
+use Rattle.engine.specs.Fields.{withStatus, withQueue}
+use Rattle.engine.specs.Sizes.{PACKETS}
+use Rattle.laws.specs.Good.{Good}
+use Rattle.laws.specs.RowsKept.{rows-of, row-later}
+use Rattle.laws.specs.RowAcks.{acked-acks, same-full}
 use Rattle.laws.specs.RowChanged.{like-fine, mark-acked, bytes-fine, bytes-live, bytes-id, trip-fine, trip-live, trip-id}
-use Rattle.laws.specs.SweepKept.{swept-nearly, swept-first, swept-shaped}
+use Rattle.laws.specs.Parts.{Sized, same-sizes, after-good, Fits, change-at, changed-sending, still}
+use Rattle.laws.specs.PacketsKept.{packets-count, map-length, map-at, requeued-kept}
+use Rattle.laws.specs.PacketEffects.{restated, changeAt, swept, received-is, sweeps, sweep-keeps, sweep-packets, replaced-sum, replaced-queued, ack-packets}
 
-module _ (s : State) (slot time a : ℕ) (shaped : Shaped s) (sound : Sound s) (number : a < 2 ^ 32)
-    (later : s .time ≤ time) (top : time ≤ MAX_TIME) (small : slot < SLOTS) (lives : rowAt s slot .live ≡ true) where
-  -- the state before the sweep is shaped, since the row keeps its waiting acks, and nearly sound
-  abbrev pub Fits : LinkRow → Sending → Type 0
-  Fits row tx =
-      (SameAcks row (rowOf s slot) → Shaped (withSent s (set (s .links) slot row) tx time)) × Nearly (withSent s (set (s .links) slot row) tx time)
+-- ---- the sweep
 
-  abbrev sums : ℕ → ℕ
-  sums j = sumOf (SentOn j) (packets (s .tx))
+-- it keeps the resend queue, and every sum but that of what is Received ..
+sweep-queued : (ps : List SentReliable) → queuedOf (swept ps) ≡ queuedOf ps
+unfolding queuedOf
+sweep-queued ps = sweep-keeps (λ ps qs. queuedOf qs ≡ queuedOf ps) (λ ps. refl) (λ p ps qs r e. e ∙ sym (simp r)) ps
 
-  inside : slot < length (s .links)
-  inside = omega (arith, shaped .links-full, small)
+sweep-sum : (k : Pick) → ((len : ℕ) → weightAs k Received len ≡ 0) → (ps : List SentReliable) → sumOf k (swept ps) ≡ sumOf k ps
+unfolding sumOf
+sweep-sum k none ps =
+    sweep-keeps (λ ps qs. sumOf k qs ≡ sumOf k ps) (λ ps. refl)
+    (λ p ps qs r e. omega (arith, e, none (p .len), ap (λ st. weightAs k st (p .len)) r)) ps
 
-  -- ---- the mark alone
+-- .. which it reduces by what it drops; the number it ends at is a packet's, or the one before
+sweep-front : (P : Seq → Type 0) (ps : List SentReliable) (last : Seq) (held : ℕ) → held ≡ sumOf Settled ps → P last → ((i : ℕ) → i < length ps → P (getD ps i noPacket .seq))
+    → (sweepFrom ps last held .held ≡ sumOf Settled (swept ps)) × P (sweepFrom ps last held .last)
+unfolding sweepFrom swept sumOf
+sweep-front P [] last held e own each = (e, own)
+sweep-front P (p ∷ ps) last held e own each =
+    cases (isReceived (p .status))
+    (λ t. simp t (sweep-front P ps (p .seq) (held - p .len) (omega (arith, e, ap (λ st. weightAs Settled st (p .len)) (received-is (p .status) t)))
+    (each 0 (omega arith)) (λ i h. each (suc i) (omega arith))))
+    (λ t. simp t (e, each 0 (omega arith)))
+
+-- an ack makes Received of a status, or leaves it
+settle-by : (P : SentReliableStatus → Type 0) (slot : ℕ) → P Received → (st : SentReliableStatus) → P st → P (settled slot st)
+unfolding settled
+settle-by P slot new (Sent flight) old = cases (eqb (flight .slot) slot) (λ t. simp t new) (λ t. simp t old)
+settle-by P slot new Received old = new
+settle-by P slot new (ResendQueued link) old = new
+
+module _ (s : State) (good : Good s) (slot time a : ℕ) (number : a < 2 ^ 32) (ok : AtTime s slot time) where
+  -- ---- before the sweep
+
+  -- the row and the sending half are as Sound asks, but for "the first packet isn't Received"
+  record Settles (row : LinkRow) (tx : Sending) : Type 0 where
+    queued : queue tx ≡ queuedOf (packets tx)
+    room : tx .«resend_count» ≤ PACKETS
+    unacked : tx .«txed_unacked» ≡ sumOf Outstanding (packets tx)
+    unconsumable : tx .«txed_unconsumable» ≡ sumOf Settled (packets tx)
+    live : row .live ≡ rowAt s slot .live
+    id : row .«link_id» ≡ rowAt s slot .«link_id»
+    fine : RowFine row (sumOf (SentOn slot) (packets tx)) time
+    others : (j : ℕ) → (j ≡ slot → ⊥) → sumOf (SentOn j) (packets tx) ≡ sumOf (SentOn j) (packets (s .tx))
+    next : tx .«tx_seq» ≡ s .tx .«tx_seq»
+    sized : Sized tx
 
   abbrev marked : LinkRow
   marked = markAcked (rowOf s slot) a
 
-  marked-live : marked .live ≡ rowAt s slot .live
-  marked-live = mark-acked _ (rowOf s slot) a .live ∙ ap (λ r. r .live) (row-of s slot small)
-
-  marked-id : marked .«link_id» ≡ rowAt s slot .«link_id»
-  marked-id = mark-acked _ (rowOf s slot) a .id ∙ ap (λ r. r .«link_id») (row-of s slot small)
-
-  marked-fine : RowFine marked (sums slot) time
-  marked-fine =
-      like-fine marked (rowOf s slot) (sums slot) time (mark-acked _ (rowOf s slot) a)
-      (rw (row-of s slot small) (row-later (rowAt s slot) (sums slot) (s .time) time later (rows-of s sound slot small lives)))
-
-  only-marked : Fits marked (s .tx)
+  -- the mark alone
+  only-marked : Settles marked (s .tx)
   only-marked =
-      let fine : RowFine marked (rowAt s slot .«txed_unacked_data») time = rw (sound .link-unacked slot small lives) marked-fine in
-      (λ same. row-shaped s slot marked time shaped (same-full s slot shaped marked same) (omega arith), sound-nearly _ (row-sound s slot marked time shaped sound small lives later top marked-live marked-id fine))
-
-  -- ---- the packet becomes Received
+      let own = row-of s slot (ok .at .small) in
+      let like = mark-acked _ (rowOf s slot) a in
+      record {
+        queued = good .sound .queued;
+        room = good .sound .queue-count;
+        unacked = good .sound .unacked;
+        unconsumable = good .sound .unconsumable;
+        live = like .live ∙ ap (λ x. x .live) own;
+        id = like .id ∙ ap (λ x. x .«link_id») own;
+        fine = like-fine marked (rowOf s slot) _ time like (rw own (row-later _ _ (s .time) time (ok .later) (rows-of s (good .sound) slot (ok .at .small) (ok .at .live))));
+        others = λ j ne. refl;
+        next = refl;
+        sized = same-sizes s good (s .tx) (good .shaped .packets-full) (good .shaped .queue-full) refl refl refl;
+      }
 
   module _ (held : inTable (s .tx) a ≡ true) where
     abbrev old : SentReliable
     old = lookedAt (s .tx) a
 
+    abbrev new : SentReliable
+    new = withStatus old Received
+
     abbrev after : List SentReliable
-    after = replaced (s .tx) a (withStatus old Received)
+    after = packets (withPacket (s .tx) a new)
 
-    sum-after : (k : Pick) → sumOf k after + weightAs k (old .status) (old .len) ≡ sumOf k (packets (s .tx)) + weightAs k Received (old .len)
-    sum-after k = replaced-sum (s .tx) a (shaped .next-u32) number (sound .packet-count) (shaped .packets-full) held (withStatus old Received) k
+    sums : (k : Pick) (st : SentReliableStatus) → old .status ≡ st → sumOf k after + weightAs k st (old .len) ≡ sumOf k (packets (s .tx)) + weightAs k Received (old .len)
+    sums k st e = rw e at (replaced-sum s good a number held new k)
 
-    -- whatever row and queue: the row is as Sound asks, and the queue lists what is queued
-    received-fits : (row : LinkRow) (q : List Seq) (c : ℕ) → row .live ≡ rowAt s slot .live → row .«link_id» ≡ rowAt s slot .«link_id»
-        → RowFine row (sumOf (SentOn slot) after) time → ((j : ℕ) → j < SLOTS → (j ≡ slot → ⊥) → weightAs (SentOn j) (old .status) (old .len) ≡ 0)
-        → weightAs Outstanding (old .status) (old .len) ≡ old .len → weightAs Settled (old .status) (old .len) ≡ 0
-        → take c q ≡ queuedOf after → c ≤ PACKETS → length q ≡ PACKETS
-        → Fits row (restated (s .tx) a Received q c (s .tx .«txed_unacked» - old .len) (s .tx .«txed_unconsumable» + old .len))
-    received-fits row q c live id fine others counted settled lists room places =
-        let tx = restated (s .tx) a Received q c (s .tx .«txed_unacked» - old .len) (s .tx .«txed_unconsumable» + old .len) in
-        let links = set (s .links) slot row in (
-          λ same. restated-shaped s a shaped sound number held Received links time q c
-              (s .tx .«txed_unacked» - old .len) (s .tx .«txed_unconsumable» + old .len)
-              (links-set s slot row shaped (same-full s slot shaped row same))
-              top
-              places
-              room
-              (omega (arith, shaped .unacked-u32))
-              (omega (arith, packet-short s shaped sound a number held, sum-small s shaped sound Settled, sound .unconsumable)),
-          restated-nearly s a shaped sound number held Received links time q c
-              (s .tx .«txed_unacked» - old .len) (s .tx .«txed_unconsumable» + old .len) later top
-              (here-same s (withSent s links tx time) slot row refl inside live id)
-              tt tt lists room
-              (omega (arith, sound .unacked, sum-after Outstanding, counted))
-              (omega (arith, sound .unconsumable, sum-after Settled, settled))
-              (rows-set (s .links) slot row sums (λ j. sumOf (SentOn j) after) (s .time) time inside later (rows-of s sound) (λ l. fine)
-              (λ j l ne. omega (arith, sum-after (SentOn j), others j l ne)))
-              (apart-kept (s .links) slot row inside small live id (sound .identities)),
-        )
+    -- the packet becomes Received, whatever the row and the queue
+    received : (st : SentReliableStatus) → old .status ≡ st → (row : LinkRow) (q : List Seq) (c : ℕ) → row .live ≡ marked .live → row .«link_id» ≡ marked .«link_id»
+        → RowFine row (sumOf (SentOn slot) after) time → ((j : ℕ) → (j ≡ slot → ⊥) → weightAs (SentOn j) st (old .len) ≡ 0)
+        → weightAs Outstanding st (old .len) ≡ old .len → weightAs Settled st (old .len) ≡ 0
+        → take c q ≡ queuedOf after → c ≤ PACKETS → length q ≡ PACKETS → Settles row (withQueue (receivedTx (s .tx) a old) q c)
+    unfolding receivedTx withPacket
+    received st e row q c live id fine none counted open-yet lists room places = record {
+      queued = lists;
+      room = room;
+      unacked = omega (arith, good .sound .unacked, sums Outstanding st e, counted);
+      unconsumable = omega (arith, good .sound .unconsumable, sums Settled st e, open-yet);
+      live = live ∙ only-marked .live;
+      id = id ∙ only-marked .id;
+      fine = fine;
+      others = λ j ne. omega (arith, sums (SentOn j) st e, none j ne);
+      next = refl;
+      sized = same-sizes s good _ (length-set (s .tx .«txed_packets») _ new ∙ good .shaped .packets-full) places refl refl refl;
+    }
 
+    settles : (st : SentReliableStatus) → old .status ≡ st → Settles (settledRowAs st marked (old .len) slot time) (settledTxAs st (s .tx) slot a old)
+    unfolding settledRowAs settledTxAs receivedTx requeued withPacket
     -- "Sent on this slot, .. its size leaves the link's unacked bytes"
-    sent-fits : (flight : InFlight) → flight .slot ≡ slot → old .status ≡ Sent flight
-        → Fits (tripMoved (withUnacked marked (marked .«txed_unacked_data» - old .len)) (flight .sent) time) (receivedTx (s .tx) a old)
-    unfolding receivedTx
-    sent-fits flight q e =
-        let weighs : (k : Pick) → weightAs k (old .status) (old .len) ≡ weightAs k (Sent flight) (old .len) =
-        λ k. ap (λ st. weightAs k st (old .len)) e in
-        let here : cond (eqb (flight .slot) slot) (old .len) 0 ≡ old .len = simp (eq-eqb (flight .slot) slot q) in
-        let bytes : marked .«txed_unacked_data» - old .len ≡ sumOf (SentOn slot) after =
-        omega (arith, marked-fine .sums, sum-after (SentOn slot), weighs (SentOn slot), here) in
-        let less = withUnacked marked (marked .«txed_unacked_data» - old .len) in
-        received-fits (tripMoved less (flight .sent) time) (s .tx .«resend_queue») (s .tx .«resend_count»)
-        (trip-live less (flight .sent) time ∙ bytes-live marked _ ∙ marked-live)
-        (trip-id less (flight .sent) time ∙ bytes-id marked _ ∙ marked-id)
-        (trip-fine less (sumOf (SentOn slot) after) (flight .sent) time top
-        (bytes-fine marked (sums slot) (marked .«txed_unacked_data» - old .len) (sumOf (SentOn slot) after) time bytes marked-fine))
-        (λ j l ne. weighs (SentOn j) ∙ simp (ne-eqb (flight .slot) j (λ f. ne (sym f ∙ q))))
-        (weighs Outstanding) (weighs Settled)
-        (sound .queued ∙ sym (replaced-queued (s .tx) a (shaped .next-u32) number (sound .packet-count) (shaped .packets-full) held
-        (withStatus old Received) refl (sym (ap isQueued e))))
-        (sound .queue-count) (shaped .queue-full)
-
-    -- "ResendQueued, the same without the link, and it leaves the queue"
-    queued-fits : (link : ℕ) → old .status ≡ ResendQueued link → Fits marked (requeued (receivedTx (s .tx) a old))
-    unfolding receivedTx requeued
-    queued-fits link e =
-        let weighs : (k : Pick) → weightAs k (old .status) (old .len) ≡ weightAs k (ResendQueued link) (old .len) =
-        λ k. ap (λ st. weightAs k st (old .len)) e in
-        let tx = receivedTx (s .tx) a old in
-        let same : sums slot ≡ sumOf (SentOn slot) after = omega (arith, sum-after (SentOn slot), weighs (SentOn slot)) in
-        received-fits marked (requeued tx .«resend_queue») (requeued tx .«resend_count») marked-live marked-id (rw same at marked-fine)
-        (λ j l ne. weighs (SentOn j))
-        (weighs Outstanding) (weighs Settled)
-        (requeued-queue tx)
-        (requeued-count tx (sound .packet-count) (shaped .queue-full))
-        (requeued-long tx (sound .packet-count) (shaped .queue-full))
-
-    settled-fits : (st : SentReliableStatus) → old .status ≡ st → Fits (settledRowAs st marked (old .len) slot time) (settledTxAs st (s .tx) slot a old)
-    unfolding settledRowAs settledTxAs
-    settled-fits (Sent flight) e =
+    settles (Sent flight) e =
         elim (ℕ-discrete (flight .slot) slot) [
-          | yes q ↦ simp (eq-eqb (flight .slot) slot q) (sent-fits flight q e)
+          | yes q ↦
+              let here : weightAs (SentOn slot) (Sent flight) (old .len) ≡ old .len = simp (eq-eqb (flight .slot) slot q) in
+              let less = withUnacked marked (marked .«txed_unacked_data» - old .len) in
+              simp (eq-eqb (flight .slot) slot q) (received (Sent flight) e (tripMoved less (flight .sent) time) (s .tx .«resend_queue») (s .tx .«resend_count»)
+              (trip-live less _ time ∙ bytes-live marked _) (trip-id less _ time ∙ bytes-id marked _)
+              (trip-fine less _ (flight .sent) time (ok .top)
+              (bytes-fine marked _ _ (sumOf (SentOn slot) after) time (omega (arith, only-marked .fine .sums, sums (SentOn slot) (Sent flight) e, here)) (only-marked .fine)))
+              (λ j ne. simp (ne-eqb (flight .slot) j (λ f. ne (sym f ∙ q)))) refl refl
+              (good .sound .queued ∙ sym (replaced-queued s good a number held new refl (sym (ap isQueued e)))) (good .sound .queue-count) (good .shaped .queue-full))
           | no ne ↦ simp (ne-eqb (flight .slot) slot ne) only-marked
         ]
-    settled-fits Received e = only-marked
-    settled-fits (ResendQueued link) e = queued-fits link e
+    settles Received e = only-marked
+    -- "ResendQueued, the same without the link, and it leaves the queue"
+    settles (ResendQueued link) e =
+        let tx = receivedTx (s .tx) a old in
+        let same : sumOf (SentOn slot) (packets (s .tx)) ≡ sumOf (SentOn slot) after = omega (arith, sums (SentOn slot) (ResendQueued link) e) in
+        let again = requeued-kept tx (good .sound .packet-count) (good .shaped .queue-full) in
+        received (ResendQueued link) e marked (requeued tx .«resend_queue») (requeued tx .«resend_count») refl refl (rw same at (only-marked .fine)) (λ j ne. refl) refl refl
+        (again .0) (again .1) (again .2)
 
-  -- ---- the sweep
+  -- ---- the whole call
 
-  pub acked-fits : Fits (ackedRow s slot time a) (ackedTx s slot a)
+  ack-settles : Settles (ackedRow s slot time a) (ackedTx s slot a)
   unfolding ackedRow ackedTx
-  acked-fits =
-      cases (inTable (s .tx) a)
-      (λ t. simp t (settled-fits t (lookedAt (s .tx) a .status) refl))
-      (λ f. simp f only-marked)
+  ack-settles = cases (inTable (s .tx) a) (λ t. simp t (settles t (lookedAt (s .tx) a .status) refl)) (λ t. simp t only-marked)
 
-  acked-sound : Sound (ackedState s slot time a)
-  unfolding ackedState
-  acked-sound =
-      let before = withSent s (set (s .links) slot (ackedRow s slot time a)) (ackedTx s slot a) time in
-      nearly-sound s (set (s .links) slot (ackedRow s slot time a)) (sweptTx (ackedTx s slot a)) time sound
-      (swept-nearly before (acked-fits .1)) (swept-first before (acked-fits .1))
-
-  acked-shaped : Shaped (ackedState s slot time a)
-  unfolding ackedState
-  acked-shaped =
-      let before = withSent s (set (s .links) slot (ackedRow s slot time a)) (ackedTx s slot a) time in
-      swept-shaped before (acked-fits .1) (acked-fits .0 (acked-acks s slot time a))
-
--- ---- the call
-
-module _ (s : State) (slot time a : ℕ) (shaped : Shaped s) (sound : Sound s) (number : a < 2 ^ 32) where
-  pub ack-sound : Sound (ackOf s slot time a .state)
-  unfolding ackOf
-  ack-sound =
-      changed-keeps Sound (timedVerdict s slot time Pass) s (ackedState s slot time a) sound
-      (λ e.
-      let ok = timed-passed s slot time _ e in
-      acked-sound s slot time a shaped sound number (ok .0) (ok .1) (ok .2) (ok .3))
-
-  pub ack-shaped : Shaped (ackOf s slot time a .state)
-  unfolding ackOf
-  ack-shaped =
-      changed-keeps Shaped (timedVerdict s slot time Pass) s (ackedState s slot time a) shaped
-      (λ e.
-      let ok = timed-passed s slot time _ e in
-      acked-shaped s slot time a shaped sound number (ok .0) (ok .1) (ok .2) (ok .3))
+-- what is settled is swept
+pub acked-good : (s : State) → Good s → (slot time a : ℕ) → a < 2 ^ 32 → AtTime s slot time → Good (ackedState s slot time a)
+unfolding ackedState sweptTx sweepOf
+acked-good s good slot time a number ok =
+    let t = ackedState s slot time a in
+    let tx = ackedTx s slot a in
+    let row = ackedRow s slot time a in
+    let p = ack-settles s good slot time a number ok in
+    let z = p .sized in
+    let change = changeAt a (settled slot) in
+    let ms = map (restated change) (packets (s .tx)) in
+    let before = ack-packets s good slot a number in
+    let r = sweeps ms in
+    let now = sweep-packets tx (omega (arith, acked-count s slot a, good .sound .packet-count)) in
+    let long = map-length (restated change) (packets (s .tx)) in
+    let sums : (k : Pick) → ((len : ℕ) → weightAs k Received len ≡ 0) → sumOf k (packets (t .tx)) ≡ sumOf k (packets tx) =
+    λ k none. ap (sumOf k) now ∙ sweep-sum k none (packets tx) in
+    let numbers : (i : ℕ) → i < length ms → getD ms i noPacket .seq .0 < 2 ^ 32 =
+    λ i h. rw (map-at (restated change) noPacket (packets (s .tx)) i (omega (arith, long)))
+    (rw (good .sound .consecutive i (omega (arith, long, packets-count (s .tx)))) (plus-lt (firstOf (s .tx)) i)) in
+    let front = sweep-front (λ n. n .0 < 2 ^ 32) (packets tx) (tx .«txed_last_consumed») (tx .«txed_unconsumable») (p .unconsumable) (z .last) (rw before numbers) in
+    let first : r .gone < s .tx .«txed_count» → isReceived (change (packetAt s (r .gone))) ≡ false =
+    λ h. rw (map-at (restated change) noPacket (packets (s .tx)) (r .gone) (omega (arith, packets-count (s .tx)))) at (r .first (omega (arith, long, packets-count (s .tx)))) in
+    after-good s t slot row good ok (record {
+      sending =
+          changed-sending s t good change (r .gone) (now ∙ ap swept before ∙ r .left) (omega (arith, r .within, long)) (p .next)
+          (λ q h.
+          let old = still s t good slot ok row refl (p .live) (p .id) (q .status) h in
+          change-at (Fits t) a (settled slot) q old (settle-by (Fits t) slot (tt, tt) (q .status) old))
+          first
+          (p .queued ∙ sym (ap queuedOf now ∙ sweep-queued (packets tx))) (p .room)
+          (p .unacked ∙ sym (sums Outstanding (λ len. refl))) (front .0 ∙ ap (sumOf Settled) (sym now));
+      links = refl;
+      full = same-full s slot (good .shaped) row (acked-acks s slot time a);
+      who = λ l. p .id;
+      fine = λ l. rw (sums (SentOn slot) (λ len. refl)) (p .fine);
+      others = λ j ne. sums (SentOn j) (λ len. refl) ∙ p .others j ne;
+      sized = record { cells = z .cells; places = z .places; next = z .next; unconsumed = z .unconsumed; last = front .1 };
+      received = (_, omega arith, refl);
+    })

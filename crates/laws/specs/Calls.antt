@@ -1,6 +1,6 @@
 -- Every call that is given a state, by its name and with what it is given, and what it makes of a state and the two lent stores:
 -- the definitions that the calls' promises cite. A call that gives no state leaves all as it came. Assumes nothing.
-use mathlib.Core.Bool.{Bool}
+use mathlib.Core.Bool.{Bool, cond}
 use mathlib.Core.List.{List}
 use Prim.Native.Nat.{ℕ, _^_, _<_}
 use lib.ListN.{length}
@@ -10,15 +10,28 @@ use Rattle.link.specs.declared.row.MaxPing.{MaxPing}
 use Rattle.link.specs.declared.timeout.AckTimeout.{AckTimeout}
 use Rattle.engine.specs.declared.state.State.{State}
 use Rattle.engine.specs.Answer.{outcomeTold}
-use Rattle.engine.specs.Links.{addOf, addTold, confirmOf, blockOf, markOf, pingOf, pongOf}
-use Rattle.engine.specs.Unconfirming.{unconfirmOf, removeOf}
-use Rattle.engine.specs.Sending.{sendOf, sendStore, sendTold}
-use Rattle.engine.specs.Flushing.{flushOf}
-use Rattle.engine.specs.Resending.{resendOf, resendTold}
-use Rattle.engine.specs.Acking.{ackOf}
-use Rattle.engine.specs.Receiving.{receiveOf, receiveStore}
-use Rattle.engine.specs.HandingOut.{handOutTold, showingOf, takeOf, takeAckOf, takeAckTold, dueOf, dueTold}
-use Rattle.engine.specs.Deadlines.{earliestConfirmTimeoutOf, confirmTimeoutTold}
+use Rattle.engine.specs.Links.{addOf, addTold, confirmOf, blockOf, markOf, pingOf, pongOf, addVerdict, lowestIn, AddPassed}
+use Rattle.engine.specs.Unconfirming.{unconfirmOf, removeOf, unconfirmedState, removedState}
+use Rattle.engine.specs.Sending.{sendOf, sendStore, sendTold, sendVerdict, sentState, SendPassed}
+use Rattle.engine.specs.Flushing.{flushOf, flushedState}
+use Rattle.engine.specs.Resending.{resendOf, resendTold, resendVerdict, resentState, ResendPassed}
+use Rattle.engine.specs.Acking.{ackOf, ackedState}
+use Rattle.engine.specs.Receiving.{receiveOf, receiveStore, receiveVerdict, repeatedState, receivedState, ReceivePassed}
+use Rattle.engine.specs.HandingOut.{handOutTold, showingOf, takeOf, takeAckOf, takeAckTold, dueOf, dueTold, readyOf, msgIn, dataLength, showVerdict, takeVerdict, takenState, Taking, takeAckVerdict, takenAckState, TakeAckPassed, dueVerdict}
+use Rattle.engine.specs.Deadlines.{earliestConfirmTimeoutOf, confirmTimeoutTold, confirmTimeoutVerdict}
+use Rattle.refusal.specs.declared.verdict.Verdict.{Verdict}
+use Rattle.link.specs.declared.row.Limit.the-variants.{At}
+use Rattle.link.specs.Row.{freshRow, confirmed, blockedRow}
+use Rattle.link.specs.Limit.{markedRow}
+use Rattle.link.specs.Roundtrip.{pinged, ponged}
+use Rattle.engine.specs.Gates.{slotVerdict, timedVerdict, AtSlot, AtTime}
+use Rattle.engine.specs.Rows.{rowOf}
+use Rattle.engine.specs.Stores.{cellStart, copied}
+use Rattle.engine.specs.Received.{heldBytes}
+use Rattle.engine.specs.Cells.{isRepeat}
+use Rattle.engine.specs.Sizes.{CELLS, PACKETS}
+use Rattle.engine.specs.Fields.{withRow, withTime}
+use Rattle.refusal.specs.declared.verdict.Verdict.the-variants as verdicts
 
 pub data Call : Type 0 where
   Add : (id roundtrip : ℕ) (max : MaxPing) (blocked unconfirmed : Bool) → Call
@@ -112,3 +125,101 @@ Typed Take = Unit
 Typed Due = Unit
 Typed (TakeAck slot) = Unit
 Typed (EarliestConfirmTimeout timeout unreliable) = Unit
+
+-- the calls that are given what one likes in a run of two ends, and of which an observer writes nothing down (crate `ends`)
+abbrev pub Unnoted : Call → Type 0
+Unnoted (Add id roundtrip max blocked unconfirmed) = Unit
+Unnoted (Remove slot) = Unit
+Unnoted (Confirm slot) = Unit
+Unnoted (Unconfirm slot) = Unit
+Unnoted (Block slot blocked) = Unit
+Unnoted (Mark slot seq) = Unit
+Unnoted (Ping slot time) = Unit
+Unnoted (Pong slot time) = Unit
+Unnoted (Flush slot time) = Unit
+Unnoted (Send slot time msg bytes) = ⊥
+Unnoted (Resend slot time n) = ⊥
+Unnoted (Ack slot time n) = ⊥
+Unnoted (Receive slot msg n bytes) = ⊥
+Unnoted Show = Unit
+Unnoted Take = ⊥
+Unnoted Due = Unit
+Unnoted (TakeAck slot) = ⊥
+Unnoted (EarliestConfirmTimeout timeout unreliable) = Unit
+
+-- ---- what decides a call, and what it leaves where it passes: Passed shows that `number` and `next` go by these
+
+-- the refusals of each call, in the order of their numbers
+abbrev pub verdict : Call → Holding → Verdict
+verdict (Add id roundtrip max blocked unconfirmed) h = addVerdict (h .state) id roundtrip max
+verdict (Remove slot) h = slotVerdict (h .state) slot
+verdict (Confirm slot) h = slotVerdict (h .state) slot
+verdict (Unconfirm slot) h = slotVerdict (h .state) slot
+verdict (Block slot blocked) h = slotVerdict (h .state) slot
+verdict (Mark slot seq) h = slotVerdict (h .state) slot
+verdict (Ping slot time) h = timedVerdict (h .state) slot time verdicts.Pass
+verdict (Pong slot time) h = timedVerdict (h .state) slot time verdicts.Pass
+verdict (Flush slot time) h = timedVerdict (h .state) slot time verdicts.Pass
+verdict (Send slot time msg bytes) h = sendVerdict (h .state) (length (h .sent)) slot time msg (length bytes)
+verdict (Resend slot time n) h = resendVerdict (h .state) slot time n
+verdict (Ack slot time n) h = timedVerdict (h .state) slot time verdicts.Pass
+verdict (Receive slot msg n bytes) h = receiveVerdict (h .state) (length (h .received)) slot msg n (length bytes)
+verdict Show h = showVerdict (h .state) (length (h .received))
+verdict Take h = takeVerdict (h .state)
+verdict Due h = dueVerdict (h .state)
+verdict (TakeAck slot) h = takeAckVerdict (h .state) slot
+verdict (EarliestConfirmTimeout timeout unreliable) h = confirmTimeoutVerdict (h .state) timeout
+
+-- the oldest ready message's data bytes
+abbrev pub readyLength : State → ℕ
+readyLength s = dataLength (msgIn (readyOf CELLS (s .rx))) (heldBytes (readyOf CELLS (s .rx)))
+
+-- what each leaves where it passes
+abbrev pub done : Call → Holding → Holding
+done (Add id roundtrip max blocked unconfirmed) h = withState h (withRow (h .state) (lowestIn (h .state)) (freshRow id roundtrip max blocked unconfirmed))
+done (Remove slot) h = withState h (removedState (h .state) slot)
+done (Confirm slot) h = withState h (withRow (h .state) slot (confirmed (rowOf (h .state) slot)))
+done (Unconfirm slot) h = withState h (unconfirmedState (h .state) slot)
+done (Block slot blocked) h = withState h (withRow (h .state) slot (blockedRow (rowOf (h .state) slot) blocked))
+done (Mark slot seq) h = withState h (withRow (h .state) slot (markedRow (rowOf (h .state) slot) (At seq)))
+done (Ping slot time) h = withState h (withTime (withRow (h .state) slot (pinged (rowOf (h .state) slot) time)) time)
+done (Pong slot time) h = withState h (withTime (withRow (h .state) slot (ponged (rowOf (h .state) slot) time)) time)
+done (Flush slot time) h = withState h (flushedState (h .state) slot time)
+done (Send slot time msg bytes) h = record {
+  state = sentState (h .state) slot time msg (length bytes);
+  sent = copied (h .sent) (cellStart PACKETS (h .state .tx .«tx_seq» .0)) bytes;
+  received = h .received;
+}
+done (Resend slot time n) h = withState h (resentState (h .state) slot time n)
+done (Ack slot time n) h = withState h (ackedState (h .state) slot time n)
+done (Receive slot msg n bytes) h = record {
+  state = cond (isRepeat CELLS (h .state .rx) n) (repeatedState (h .state) slot n) (receivedState (h .state) slot msg n (length bytes));
+  sent = h .sent;
+  received = cond (isRepeat CELLS (h .state .rx) n) (h .received) (copied (h .received) (cellStart CELLS n) bytes);
+}
+done Show h = h
+done Take h = withState h (takenState (h .state) (readyLength (h .state)))
+done Due h = h
+done (TakeAck slot) h = withState h (takenAckState (h .state) slot)
+done (EarliestConfirmTimeout timeout unreliable) h = h
+
+-- all that an accepted call says of its arguments and of what is held
+abbrev pub Passed : Call → Holding → Type 0
+Passed (Add id roundtrip max blocked unconfirmed) h = AddPassed (h .state) id roundtrip max
+Passed (Remove slot) h = AtSlot (h .state) slot
+Passed (Confirm slot) h = AtSlot (h .state) slot
+Passed (Unconfirm slot) h = AtSlot (h .state) slot
+Passed (Block slot blocked) h = AtSlot (h .state) slot
+Passed (Mark slot seq) h = AtSlot (h .state) slot
+Passed (Ping slot time) h = AtTime (h .state) slot time
+Passed (Pong slot time) h = AtTime (h .state) slot time
+Passed (Flush slot time) h = AtTime (h .state) slot time
+Passed (Send slot time msg bytes) h = SendPassed (h .state) (length (h .sent)) slot time msg (length bytes)
+Passed (Resend slot time n) h = ResendPassed (h .state) slot time n
+Passed (Ack slot time n) h = AtTime (h .state) slot time
+Passed (Receive slot msg n bytes) h = ReceivePassed (h .state) (length (h .received)) slot msg n (length bytes)
+Passed Show h = Unit
+Passed Take h = Taking (h .state) (msgIn (readyOf CELLS (h .state .rx))) (h .state .rx .«rx_oldest») (heldBytes (readyOf CELLS (h .state .rx)))
+Passed Due h = Unit
+Passed (TakeAck slot) h = TakeAckPassed (h .state) slot
+Passed (EarliestConfirmTimeout timeout unreliable) h = Unit

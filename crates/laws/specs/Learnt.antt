@@ -36,7 +36,8 @@ use Rattle.refusal.specs.Answers.{toldBy}
 use Rattle.engine.proofs as engine
 use Rattle.laws.specs.Calls.{Call, Add, Remove, Confirm, Unconfirm, Block, Mark, Ping, Pong, Flush, Send, Resend, Ack, Receive, Show, Take, Due, TakeAck, EarliestConfirmTimeout, Holding, withState, number, next, Typed}
 use Rattle.laws.specs.Refused.{refused}
-use Rattle.laws.specs.SoundKept.{Good, kept}
+use Rattle.laws.specs.Good.{Good}
+use Rattle.laws.specs.SoundKept.{kept}
 use Rattle.laws.specs.Unique.{Place, lent}
 
 -- a call on what h holds answers the number n and leaves `after`, as `number` and `next` say

@@ -1,25 +1,23 @@
 -- Document 01: "Calls keep a sound state sound." The fresh state is sound, and confirm, block, mark, ping, pong and add keep a
 -- sound state sound and a shaped one shaped. Assumes nothing.
-use mathlib.Core.Path.{_≡_, refl, sym, ap, _∙_}
-use mathlib.Core.Bool.{Bool, true, false, not, _&&_}
+use mathlib.Core.Path.{_≡_, refl, sym, ap, subst, _∙_}
+use mathlib.Core.Bool.{Bool, false, _&&_}
 use mathlib.Core.List.{List, _∷_}
 use Prim.Native.Nat.{ℕ, zero, suc, _-_, _%_, _^_, _≤_, _<_}
 use native.Mathlib.Omega.{arith}
-use lib.Dec.{leb, ltb}
+use lib.Dec.{leb}
 use lib.ListN.{length, getD, set, replicate, length-replicate, getD-replicate}
-use borrow.Author.Tests.{leb-true, ltb-true, le-leb, not-true}
-use Rattle.seq.specs.declared.Seq.{Seq}
+use borrow.Author.Tests.{leb-true, le-leb}
 use Rattle.seq.specs.Numbers.{seqOf, minus}
 use Rattle.seq.specs.Laws.{minus-lt}
 use Rattle.refusal.specs.declared.verdict.Verdict.{Verdict}
-use Rattle.refusal.specs.declared.verdict.Verdict.the-variants.{Pass, No}
+use Rattle.refusal.specs.declared.verdict.Verdict.the-variants.{Pass}
 use Rattle.refusal.specs.Refusals.{refuse}
-use Rattle.refusal.specs.Verdicts.{gate, gate-pass}
+use Rattle.refusal.specs.Verdicts.{gate-pass}
 use Rattle.refusal.specs.Tests.{split, false-true}
 use Rattle.link.specs.declared.row.LinkRow.{LinkRow}
 use Rattle.link.specs.declared.row.MaxPing.{MaxPing}
 use Rattle.link.specs.declared.row.Limit.{Limit}
-use Rattle.link.specs.declared.row.Limit.the-variants.{At}
 use Rattle.link.specs.declared.row.Ping.{Ping}
 use Rattle.link.specs.declared.row.Ping.the-variants.{Idle, Since}
 use Rattle.link.specs.Fields.{withFlags}
@@ -33,19 +31,18 @@ use Rattle.engine.specs.declared.state.State.{State}
 use Rattle.engine.specs.Ring.{window, window-length, nextCell, next-cell-lt}
 use Rattle.engine.specs.Packets.{noPacket, firstOf, packets, SentOn, sumOf, queuedOf}
 use Rattle.engine.specs.Received.{noCell, cellView, expectedAt, bytesIn}
-use Rattle.engine.specs.Decide.{soundb}
 use Rattle.engine.specs.DecidedTables.{RowFine}
 use Rattle.engine.specs.Rows.{rowOf}
 use Rattle.engine.specs.Answer.{changedBy}
-use Rattle.engine.specs.Gates.{slotVerdict, timedVerdict}
+use Rattle.engine.specs.Gates.{AtSlot, AtTime}
 use Rattle.engine.specs.Starting.{freshTx, freshRx, freshState, freshVerdict, freshOf}
 use Rattle.engine.specs.Sound.{Sound, Shaped, rowAt, packetAt, cellAt}
-use Rattle.engine.specs.Links.{confirmOf, blockOf, markOf, pingOf, pongOf, lowestIn, addVerdict, addedBy, addOf, isTaken, lowest-empty, taken-nowhere}
+use Rattle.engine.specs.Links.{lowestIn, AddPassed, lowest-empty, taken-nowhere}
 use Rattle.engine.specs.Sizes.{PACKETS, SLOTS, CELLS, MAX_RECV_BUFFER}
 use Rattle.engine.specs.Fields.{withRow, withTime}
 use Rattle.laws.specs.RowsKept.{dead-elsewhere, sum-elsewhere, rows-of, rows-set, apart-set, here-added, links-sound, row-shaped, row-kept}
 use Rattle.laws.specs.RowAcks.{SameAcks, confirm-acks, block-acks, mark-acks, ping-acks, pong-acks, empty-full, fresh-full, same-full}
-use Rattle.laws.specs.Passed.{changed-keeps, slot-passed, timed-passed}
+use Rattle.laws.specs.Good.{Good}
 
 -- ---- plain changes of a row
 
@@ -68,142 +65,69 @@ mark-fine : (r : LinkRow) (m : Limit) (sum time : ℕ) → RowFine r sum time �
 unfolding markedRow
 mark-fine r m sum time f = record { sums = f .sums; trip = f .trip; limit = f .limit; pinged = f .pinged; acks = f .acks }
 
-module _ (s : State) (slot : ℕ) (shaped : Shaped s) where
-  -- a change of the slot's row that keeps who lives there, in a call that passed
-  plain-sound : (f : LinkRow → LinkRow) → Sound s → ((r : LinkRow) → (f r .live ≡ r .live) × (f r .«link_id» ≡ r .«link_id»))
-      → ((r : LinkRow) (sum time : ℕ) → RowFine r sum time → RowFine (f r) sum time)
-      → Sound (changedBy (slotVerdict s slot) s (withRow s slot (f (rowOf s slot))) .state)
-  plain-sound f sound who fine =
-      changed-keeps Sound (slotVerdict s slot) s (withRow s slot (f (rowOf s slot))) sound
-      (λ e. row-kept s slot f (s .time) shaped sound (slot-passed s slot e .0) (slot-passed s slot e .1) (omega arith) (sound .time-within) who (λ r sum. fine r sum (s .time)))
+-- a change of the slot's row that keeps who lives there and the places of its acks, at a time
+module _ (s : State) (good : Good s) (slot : ℕ) where
+  row-good : (f : LinkRow → LinkRow) (time : ℕ) → AtTime s slot time → ((r : LinkRow) → (f r .live ≡ r .live) × (f r .«link_id» ≡ r .«link_id»))
+      → ((r : LinkRow) (sum : ℕ) → RowFine r sum time → RowFine (f r) sum time) → SameAcks (f (rowOf s slot)) (rowOf s slot) → Good (withTime (withRow s slot (f (rowOf s slot))) time)
+  row-good f time ok who fine same = record {
+    shaped = row-shaped s slot (f (rowOf s slot)) time (good .shaped) (same-full s slot (good .shaped) _ same) (omega (arith, ok .top));
+    sound = row-kept s slot f time (good .shaped) (good .sound) (ok .at .small) (ok .at .live) (ok .later) (ok .top) who fine;
+  }
 
-  plain-shaped : (row : LinkRow) → SameAcks row (rowOf s slot) → Shaped (changedBy (slotVerdict s slot) s (withRow s slot row) .state)
-  plain-shaped row same =
-      changed-keeps Shaped (slotVerdict s slot) s (withRow s slot row) shaped
-      (λ e. row-shaped s slot row (s .time) shaped (same-full s slot shaped row same) (shaped .time-u64))
+  -- the last accepted time
+  now : AtSlot s slot → AtTime s slot (s .time)
+  now at = record { at = at; later = omega arith; top = at .fine .time-within }
 
-  -- .. at a time
-  timed-sound : (f : LinkRow → LinkRow) (time : ℕ) → Sound s → ((r : LinkRow) → (f r .live ≡ r .live) × (f r .«link_id» ≡ r .«link_id»))
-      → ((r : LinkRow) (sum : ℕ) → time ≤ MAX_TIME → RowFine r sum time → RowFine (f r) sum time)
-      → Sound (changedBy (timedVerdict s slot time Pass) s (withTime (withRow s slot (f (rowOf s slot))) time) .state)
-  timed-sound f time sound who fine =
-      changed-keeps Sound (timedVerdict s slot time Pass) s (withTime (withRow s slot (f (rowOf s slot))) time) sound
-      (λ e.
-      let passed = timed-passed s slot time Pass e in
-      row-kept s slot f time shaped sound (passed .2) (passed .3) (passed .0) (passed .1) who (λ r sum. fine r sum (passed .1)))
+  pub confirmed-good : AtSlot s slot → Good (withRow s slot (confirmed (rowOf s slot)))
+  unfolding confirmed
+  confirmed-good at = row-good confirmed (s .time) (now at) (λ r. (refl, refl)) (λ r sum. flags-fine r (r .blocked) false sum (s .time)) (confirm-acks (rowOf s slot))
 
-  timed-shaped : (row : LinkRow) (time : ℕ) → SameAcks row (rowOf s slot)
-      → Shaped (changedBy (timedVerdict s slot time Pass) s (withTime (withRow s slot row) time) .state)
-  timed-shaped row time same =
-      changed-keeps Shaped (timedVerdict s slot time Pass) s (withTime (withRow s slot row) time) shaped
-      (λ e. row-shaped s slot row time shaped (same-full s slot shaped row same) (omega (arith, timed-passed s slot time Pass e .1)))
+  pub blocked-good : (blocked : Bool) → AtSlot s slot → Good (withRow s slot (blockedRow (rowOf s slot) blocked))
+  unfolding blockedRow
+  blocked-good blocked at =
+      row-good (λ r. blockedRow r blocked) (s .time) (now at) (λ r. (refl, refl)) (λ r sum. flags-fine r blocked (r .unconfirmed) sum (s .time)) (block-acks (rowOf s slot) blocked)
 
-  pub confirm-sound : Sound s → Sound (confirmOf s slot .state)
-  unfolding confirmOf confirmed
-  confirm-sound sound = plain-sound confirmed sound (λ r. (refl, refl)) (λ r. flags-fine r (r .blocked) false)
+  pub marked-good : (m : Limit) → AtSlot s slot → Good (withRow s slot (markedRow (rowOf s slot) m))
+  unfolding markedRow
+  marked-good m at = row-good (λ r. markedRow r m) (s .time) (now at) (λ r. (refl, refl)) (λ r sum. mark-fine r m sum (s .time)) (mark-acks (rowOf s slot) m)
 
-  pub confirm-shaped : Shaped (confirmOf s slot .state)
-  unfolding confirmOf
-  confirm-shaped = plain-shaped (confirmed (rowOf s slot)) (confirm-acks (rowOf s slot))
+  pub pinged-good : (time : ℕ) → AtTime s slot time → Good (withTime (withRow s slot (pinged (rowOf s slot) time)) time)
+  unfolding pinged
+  pinged-good time ok =
+      row-good (λ r. pinged r time) time ok (λ r. (refl, refl))
+      (λ r sum f. record { sums = f .sums; trip = f .trip; limit = f .limit; pinged = le-leb time time (omega arith); acks = f .acks }) (ping-acks (rowOf s slot) time)
 
-  pub block-sound : (blocked : Bool) → Sound s → Sound (blockOf s slot blocked .state)
-  unfolding blockOf blockedRow
-  block-sound blocked sound = plain-sound (λ r. blockedRow r blocked) sound (λ r. (refl, refl)) (λ r. flags-fine r blocked (r .unconfirmed))
-
-  pub block-shaped : (blocked : Bool) → Shaped (blockOf s slot blocked .state)
-  unfolding blockOf
-  block-shaped blocked = plain-shaped (blockedRow (rowOf s slot) blocked) (block-acks (rowOf s slot) blocked)
-
-  pub mark-sound : (seq : Seq) → Sound s → Sound (markOf s slot seq .state)
-  unfolding markOf markedRow
-  mark-sound seq sound = plain-sound (λ r. markedRow r (At seq)) sound (λ r. (refl, refl)) (λ r. mark-fine r (At seq))
-
-  pub mark-shaped : (seq : Seq) → Shaped (markOf s slot seq .state)
-  unfolding markOf
-  mark-shaped seq = plain-shaped (markedRow (rowOf s slot) (At seq)) (mark-acks (rowOf s slot) (At seq))
-
-  pub ping-sound : (time : ℕ) → Sound s → Sound (pingOf s slot time .state)
-  unfolding pingOf pinged
-  ping-sound time sound =
-      timed-sound (λ r. pinged r time) time sound (λ r. (refl, refl))
-      (λ r sum top f. record { sums = f .sums; trip = f .trip; limit = f .limit; pinged = le-leb time time (omega arith); acks = f .acks })
-
-  pub ping-shaped : (time : ℕ) → Shaped (pingOf s slot time .state)
-  unfolding pingOf
-  ping-shaped time = timed-shaped (pinged (rowOf s slot) time) time (ping-acks (rowOf s slot) time)
-
-  pub pong-sound : (time : ℕ) → Sound s → Sound (pongOf s slot time .state)
-  unfolding pongOf
-  pong-sound time sound =
-      timed-sound (λ r. ponged r time) time sound (λ r. ponged-who (r .«current_ping_sent») r time)
-      (λ r sum. ponged-fine (r .«current_ping_sent») r sum time)
-
-  pub pong-shaped : (time : ℕ) → Shaped (pongOf s slot time .state)
-  unfolding pongOf
-  pong-shaped time = timed-shaped (ponged (rowOf s slot) time) time (pong-acks (rowOf s slot) (rowOf s slot .«current_ping_sent») time)
+  pub ponged-good : (time : ℕ) → AtTime s slot time → Good (withTime (withRow s slot (ponged (rowOf s slot) time)) time)
+  ponged-good time ok =
+      row-good (λ r. ponged r time) time ok (λ r. ponged-who (r .«current_ping_sent») r time) (λ r sum. ponged-fine (r .«current_ping_sent») r sum time (ok .top))
+      (pong-acks (rowOf s slot) (rowOf s slot .«current_ping_sent») time)
 
 -- ---- add
 
-module _ (s : State) (id roundtrip : ℕ) (max : MaxPing) (blocked unconfirmed : Bool) (shaped : Shaped s) where
-  new : LinkRow
-  new = freshRow id roundtrip max blocked unconfirmed
-
-  -- what adding has passed
-  record Added : Type 0 where
-    trip : roundtrip ≤ MAX_TIME
-    limit : maxPingWithin max ≡ true
-    small : lowestIn s < SLOTS
-    nowhere : isTaken (s .links) id ≡ false
-
-  passed : addVerdict s id roundtrip max ≡ Pass → Added
-  unfolding addVerdict
-  passed e =
-      let alone = not (isTaken (s .links) id) in
-      let one = gate-pass (soundb s) (refuse 1 tt) _ e in
-      let three = gate-pass (leb roundtrip MAX_TIME && maxPingWithin max) (refuse 3 tt) (gate (ltb (lowestIn s) SLOTS) 5 (gate alone 6 Pass)) (one .1) in
-      let five = gate-pass (ltb (lowestIn s) SLOTS) (refuse 5 tt) (gate alone 6 Pass) (three .1) in
-      let six = gate-pass alone (refuse 6 tt) Pass (five .1) in
-      let sizes = split (leb roundtrip MAX_TIME) (maxPingWithin max) (three .0) in
-      record {
-        trip = leb-true roundtrip MAX_TIME (sizes .0);
-        limit = sizes .1;
-        small = ltb-true (lowestIn s) 8 (five .0);
-        nowhere = not-true (isTaken (s .links) id) (six .0);
-      }
-
-  added-sound : Sound s → Added → Sound (withRow s (lowestIn s) new)
-  unfolding new freshRow
-  added-sound sound p =
-      let slot = lowestIn s in
-      let small = p .small in
-      let inside : slot < length (s .links) = omega (arith, shaped .links-full, small) in
-      let sums : ℕ → ℕ = λ j. sumOf (SentOn j) (packets (s .tx)) in
-      let whole : slot - 0 ≡ slot = omega arith in
-      let dead : rowAt s slot .live ≡ false = ap (λ j. rowAt s j .live) (sym whole) ∙ lowest-empty (s .links) 0 (omega (arith, inside)) in
-      let few = window-length PACKETS noPacket (s .tx .«txed_packets») (firstOf (s .tx) % PACKETS) (s .tx .«txed_count») in
-      let none : sums slot ≡ 0 =
-      sum-elsewhere slot (packets (s .tx)) (λ i h. dead-elsewhere s slot dead (packetAt s i .status) (sound .sent i (omega (arith, few)))) in
-      let fits : RowFine new (sums slot) (s .time) =
-      record { sums = sym none; trip = p .trip; limit = p .limit; pinged = refl; acks = omega arith } in
-      links-sound s (set (s .links) slot new) (s .time) sound (omega arith) (sound .time-within)
-      (rows-set (s .links) slot new sums sums (s .time) (s .time) inside (omega arith) (rows-of s sound) (λ l. fits) (λ j l ne. refl))
-      (apart-set (s .links) slot new inside (sound .identities)
-      (λ j l ne live lj same. taken-nowhere (s .links) id j (p .nowhere) (omega (arith, shaped .links-full)) lj same))
-      (here-added s (withRow s slot new) slot new refl inside dead)
-
-  added-keeps : (P : State → Type 0) (v : Verdict) (slot : ℕ) (next : State) → P s → (v ≡ Pass → P next) → P (addedBy v slot s next .state)
-  added-keeps P Pass slot next old after = after refl
-  added-keeps P (No e) slot next old after = old
-
-  pub add-sound : Sound s → Sound (addOf s id roundtrip max blocked unconfirmed .state)
-  unfolding addOf new
-  add-sound sound = added-keeps Sound (addVerdict s id roundtrip max) (lowestIn s) (withRow s (lowestIn s) new) sound (λ e. added-sound sound (passed e))
-
-  pub add-shaped : Shaped (addOf s id roundtrip max blocked unconfirmed .state)
-  unfolding addOf new
-  add-shaped =
-      added-keeps Shaped (addVerdict s id roundtrip max) (lowestIn s) (withRow s (lowestIn s) new) shaped
-      (λ e. row-shaped s (lowestIn s) new (s .time) shaped (fresh-full id roundtrip max blocked unconfirmed) (shaped .time-u64))
+pub added-good : (s : State) → Good s → (id roundtrip : ℕ) (max : MaxPing) (blocked unconfirmed : Bool) → AddPassed s id roundtrip max
+    → Good (withRow s (lowestIn s) (freshRow id roundtrip max blocked unconfirmed))
+unfolding freshRow
+added-good s good id roundtrip max blocked unconfirmed p =
+    let new = freshRow id roundtrip max blocked unconfirmed in
+    let shaped = good .shaped in
+    let sound = good .sound in
+    let slot = lowestIn s in
+    let inside : slot < length (s .links) = omega (arith, shaped .links-full, p .small) in
+    let sums : ℕ → ℕ = λ j. sumOf (SentOn j) (packets (s .tx)) in
+    let whole : slot - 0 ≡ slot = omega arith in
+    let dead : rowAt s slot .live ≡ false = ap (λ j. rowAt s j .live) (sym whole) ∙ lowest-empty (s .links) 0 (omega (arith, inside)) in
+    let few = window-length PACKETS noPacket (s .tx .«txed_packets») (firstOf (s .tx) % PACKETS) (s .tx .«txed_count») in
+    let none : sums slot ≡ 0 =
+    sum-elsewhere slot (packets (s .tx)) (λ i h. dead-elsewhere s slot dead (packetAt s i .status) (sound .sent i (omega (arith, few)))) in
+    let fits : RowFine new (sums slot) (s .time) = record { sums = sym none; trip = p .trip; limit = p .limit; pinged = refl; acks = omega arith } in
+    record {
+      shaped = row-shaped s slot new (s .time) shaped (fresh-full id roundtrip max blocked unconfirmed) (shaped .time-u64);
+      sound = links-sound s (set (s .links) slot new) (s .time) sound (omega arith) (sound .time-within)
+          (rows-set (s .links) slot new sums sums (s .time) (s .time) inside (omega arith) (rows-of s sound) (λ l. fits) (λ j l ne. refl))
+          (apart-set (s .links) slot new inside (sound .identities)
+          (λ j l ne live lj same. taken-nowhere (s .links) id j (p .nowhere) (omega (arith, shaped .links-full)) lj same))
+          (here-added s (withRow s slot new) slot new refl inside dead);
+    }
 
 -- ---- the fresh state
 
@@ -307,14 +231,7 @@ module _ (start buffer : ℕ) (number : start < 2 ^ 32) where
         let sizes = split (leb 1 buffer) (leb buffer MAX_RECV_BUFFER) (passed .0) in
         (leb-true 1 buffer (sizes .0), leb-true buffer MAX_RECV_BUFFER (sizes .1))
 
-    pub fresh-sound : Sound (freshOf start buffer .state)
+    pub fresh-good : Good (freshOf start buffer .state)
     unfolding freshOf
-    fresh-sound =
-        let sound = fresh-state-sound (buffer-fits .0) (buffer-fits .1) in
-        changed-keeps Sound (freshVerdict buffer) (freshState start buffer) (freshState start buffer) sound (λ v. sound)
-
-    pub fresh-shaped : Shaped (freshOf start buffer .state)
-    unfolding freshOf
-    fresh-shaped =
-        let shaped = fresh-state-shaped (buffer-fits .1) in
-        changed-keeps Shaped (freshVerdict buffer) (freshState start buffer) (freshState start buffer) shaped (λ v. shaped)
+    fresh-good = subst (λ (v : Verdict). Good (changedBy v (freshState start buffer) (freshState start buffer) .state)) (sym e)
+        (record { shaped = fresh-state-shaped (buffer-fits .1); sound = fresh-state-sound (buffer-fits .0) (buffer-fits .1) })

@@ -24,7 +24,7 @@ use Rattle.engine.specs.declared.state.State.{State}
 use Rattle.engine.specs.Answer.{changedBy}
 use Rattle.engine.specs.Decide.{soundb}
 use Rattle.engine.specs.Fields.{withEnds, withParts}
-use Rattle.engine.specs.Gates.{timedVerdict, timed-sound}
+use Rattle.engine.specs.Gates.{timedVerdict, timed-passed}
 use Rattle.engine.specs.Packets.{noPacket, packets, isReceived}
 use Rattle.engine.specs.Rows.{rowOf}
 use Rattle.engine.specs.Sizes.{PACKETS}
@@ -94,7 +94,7 @@ swept-whole tx fits some first =
 
 module _ (s : State) (slot time a : ℕ) (five : NextIsFive s slot time) where
   is-sound : Sound s
-  is-sound = timed-sound s slot time Pass (five .passed)
+  is-sound = timed-passed s slot time Pass (five .passed) .0 .at .fine
 
   back : minus (s .tx .«tx_seq» .0) a ≡ minus 5 a
   back = ap (λ seq. minus (seq .0) a) (five .next)

@@ -1,52 +1,184 @@
--- What an accepted call has passed: refusals 1, 3 and 4. Assumes nothing.
-use mathlib.Core.Path.{_≡_, refl}
-use mathlib.Core.Bool.{true}
-use Prim.Native.Nat.{ℕ, _≤_, _<_}
-use lib.Dec.{leb, ltb}
-use borrow.Author.Tests.{leb-true, ltb-true}
+-- What holds of every call by its verdict: a refused one leaves all as it came; one that passes tells 0, leaves `done`, says of its arguments what `Passed`
+-- says, and keeps a good state so. Assumes nothing.
+use mathlib.Core.Path.{_≡_, refl, sym, ap, subst}
+use Prim.Native.Nat.{ℕ}
+use lib.ListN.{length}
+use Rattle.refusal.specs.declared.Refusal.{Refusal}
 use Rattle.refusal.specs.declared.verdict.Verdict.{Verdict}
-use Rattle.refusal.specs.declared.verdict.Verdict.the-variants.{Pass, No}
-use Rattle.refusal.specs.Refusals.{refuse}
-use Rattle.refusal.specs.Verdicts.{gate, gate-pass}
-use Rattle.refusal.specs.Tests.{split}
+use Rattle.refusal.specs.Refusals.{numberOf}
+use Rattle.link.specs.declared.row.Limit.the-variants.{At}
+use Rattle.link.specs.Row.{freshRow, confirmed, blockedRow}
+use Rattle.link.specs.Limit.{markedRow}
+use Rattle.link.specs.Roundtrip.{pinged, ponged}
+use Rattle.link.specs.Acks.{oldestAck}
+use Rattle.link.specs.declared.timeout.AckTimeout.{AckTimeout}
 use Rattle.engine.specs.declared.state.State.{State}
-use Rattle.engine.specs.Answer.{changedBy}
-use Rattle.engine.specs.Decide.{soundb}
-use Rattle.engine.specs.Gates.{slotVerdict, timedVerdict}
-use Rattle.engine.specs.Rows.{slotOk, timeOk}
-use Rattle.engine.specs.Sound.{rowAt}
-use Rattle.engine.specs.Sizes.{SLOTS}
-use Rattle.link.specs.Sizes.{MAX_TIME}
+use Rattle.engine.specs.declared.deadlines.FirstSent.{FirstSent}
+use Rattle.engine.specs.Answer.{outcomeTold, changedBy}
+use Rattle.engine.specs.Gates.{slotVerdict, timedVerdict, slot-passed, timed-passed}
+use Rattle.engine.specs.Rows.{rowOf}
+use Rattle.engine.specs.Stores.{cellStart, copied, storeBy}
+use Rattle.engine.specs.Packets.{packets}
+use Rattle.engine.specs.Links.{addOf, addTold, addedBy, addVerdict, lowestIn, confirmOf, blockOf, markOf, pingOf, pongOf, add-passed}
+use Rattle.engine.specs.Unconfirming.{unconfirmedState, removedState, unconfirmOf, removeOf}
+use Rattle.engine.specs.Sending.{sendOf, sendStore, sendTold, sentBy, sendVerdict, sentState, send-passed}
+use Rattle.engine.specs.Flushing.{flushOf, flushedState}
+use Rattle.engine.specs.Resending.{resendOf, resendTold, resentBy, resendVerdict, resentState, resend-passed}
+use Rattle.engine.specs.Acking.{ackOf, ackedState}
+use Rattle.engine.specs.Cells.{isRepeat}
+use Rattle.engine.specs.Receiving.{receiveOf, receiveStore, receiveVerdict, receive-passed}
+use Rattle.engine.specs.HandingOut.{handOutTold, handOutBy, showVerdict, showingOf, takeVerdict, takenBy, takeOf, taking, takeAckVerdict, takeAckTold, ackAs, ackAnswer, takenAckBy, takeAckOf, take-ack-passed, dueVerdict, dueBy, dueTold, dueOf}
+use Rattle.engine.specs.Deadlines.{firstSent, namedBy, confirmTimeoutVerdict, confirmTimeoutBy, confirmTimeoutTold, earliestConfirmTimeoutOf}
+use Rattle.engine.specs.Sizes.{CELLS, PACKETS}
+use Rattle.engine.specs.Fields.{withRow, withTime}
+use Rattle.laws.specs.Good.{Good}
+use Rattle.laws.specs.Calls.{Call, Add, Remove, Confirm, Unconfirm, Block, Mark, Ping, Pong, Flush, Send, Resend, Ack, Receive, Show, Take, Due, TakeAck, EarliestConfirmTimeout, Holding, withState, number, next, Typed, verdict, done, Passed}
+use borrow.Table.Steps.{cases}
+use Rattle.refusal.specs.declared.verdict.Verdict.the-variants.{Pass}
+use Rattle.laws.specs.LinksKept.{confirmed-good, blocked-good, marked-good, pinged-good, ponged-good, added-good}
+use Rattle.laws.specs.UnconfirmKept.{unconfirmed-good, removed-good}
+use Rattle.laws.specs.FlushKept.{flushed-good}
+use Rattle.laws.specs.SendKept.{sent-good}
+use Rattle.laws.specs.ResendKept.{resent-good}
+use Rattle.laws.specs.AckKept.{acked-good}
+use Rattle.laws.specs.ReceiveKept.{received-good, repeated-good}
+use Rattle.laws.specs.TakeKept.{taken-good, take-ack-good}
+use Rattle.refusal.specs.declared.verdict.Verdict.the-variants as verdicts
+use Rattle.engine.specs.declared.deadlines.FirstSent.the-variants as firsts
 
--- a refused call leaves the state as it came, so only an accepted one has something to keep
-pub changed-keeps : (P : State → Type 0) (v : Verdict) (s next : State) → P s → (v ≡ Pass → P next) → P (changedBy v s next .state)
-changed-keeps P Pass s next old new = new refl
-changed-keeps P (No e) s next old new = old
+-- ---- a call does what it says
 
-module _ (s : State) (slot : ℕ) where
-  -- not "slot above 7, or empty"
-  pub slot-ok : slotOk s slot ≡ true → (slot < SLOTS) × (rowAt s slot .live ≡ true)
-  unfolding slotOk
-  slot-ok e = let b = split (ltb slot SLOTS) (rowAt s slot .live) e in (ltb-true slot SLOTS (b .0), b .1)
+-- of a verdict: the number that is told and what is left of h, where d is left by a call that passes
+abbrev Judges : Verdict → ℕ → Holding → Holding → Holding → Type 0
+Judges verdicts.Pass n left d h = (n ≡ 0) × (left ≡ d)
+Judges (verdicts.No e) n left d h = (n ≡ numberOf e) × (left ≡ h)
 
-  pub slot-passed : slotVerdict s slot ≡ Pass → (slot < SLOTS) × (rowAt s slot .live ≡ true)
-  unfolding slotVerdict
-  slot-passed e =
-      let one = gate-pass (soundb s) (refuse 1 tt) (gate (slotOk s slot) 4 Pass) e in
-      slot-ok (gate-pass (slotOk s slot) (refuse 4 tt) Pass (one .1) .0)
+by : (v : Verdict) (told : Verdict → ℕ) (left : Verdict → Holding) {d h : Holding} → told verdicts.Pass ≡ 0 → ((e : Refusal) → told (verdicts.No e) ≡ numberOf e)
+    → left verdicts.Pass ≡ d → ((e : Refusal) → left (verdicts.No e) ≡ h) → Judges v (told v) (left v) d h
+by verdicts.Pass told left none some kept same = (none, kept)
+by (verdicts.No e) told left none some kept same = (some e, same e)
 
-  -- not "time before the last accepted one, or any time above 2^56"
-  pub time-ok : (time : ℕ) → timeOk s time ≡ true → (s .time ≤ time) × (time ≤ MAX_TIME)
-  unfolding timeOk
-  time-ok time e = let b = split (leb (s .time) time) (leb time MAX_TIME) e in (leb-true (s .time) time (b .0), leb-true time MAX_TIME (b .1))
+by-changed : (h : Holding) (v : Verdict) (after : State)
+    → Judges v (outcomeTold (changedBy v (h .state) after .outcome) .number) (withState h (changedBy v (h .state) after .state)) (withState h after) h
+by-changed h v after =
+    by v (λ x. outcomeTold (changedBy x (h .state) after .outcome) .number) (λ x. withState h (changedBy x (h .state) after .state)) refl (λ e. refl) refl (λ e. refl)
 
-  pub timed-passed : (time : ℕ) (rest : Verdict) → timedVerdict s slot time rest ≡ Pass
-      → (s .time ≤ time) × (time ≤ MAX_TIME) × (slot < SLOTS) × (rowAt s slot .live ≡ true) × (rest ≡ Pass)
-  unfolding timedVerdict
-  timed-passed time rest e =
-      let one = gate-pass (soundb s) (refuse 1 tt) (gate (timeOk s time) 3 (gate (slotOk s slot) 4 rest)) e in
-      let three = gate-pass (timeOk s time) (refuse 3 tt) (gate (slotOk s slot) 4 rest) (one .1) in
-      let four = gate-pass (slotOk s slot) (refuse 4 tt) rest (three .1) in
-      let timed = time-ok time (three .0) in
-      let here = slot-ok (four .0) in
-      (timed .0, timed .1, here .0, here .1, four .1)
+-- a packet that is named, or that none is, is told with 0
+named-told : (found : FirstSent) (s : State) (timeout : AckTimeout) (unreliable : _) → confirmTimeoutTold (namedBy found s timeout unreliable) .number ≡ 0
+named-told firsts.Nothing s timeout unreliable = refl
+named-told (firsts.Is flight) s timeout unreliable = refl
+
+judged : (c : Call) (h : Holding) → Judges (verdict c h) (number c h) (next c h) (done c h) h
+unfolding addOf removeOf confirmOf unconfirmOf blockOf markOf pingOf pongOf flushOf sendOf sendStore resendOf ackOf receiveOf receiveStore showingOf handOutBy takeOf ackAnswer takeAckOf dueOf earliestConfirmTimeoutOf
+judged (Add id roundtrip max blocked unconfirmed) h =
+    let s = h .state in
+    let after = withRow s (lowestIn s) (freshRow id roundtrip max blocked unconfirmed) in
+    by (addVerdict s id roundtrip max) (λ v. addTold (addedBy v (lowestIn s) s after .answer) .number) (λ v. withState h (addedBy v (lowestIn s) s after .state)) refl (λ e. refl) refl (λ e. refl)
+judged (Remove slot) h = by-changed h (slotVerdict (h .state) slot) (removedState (h .state) slot)
+judged (Confirm slot) h = by-changed h (slotVerdict (h .state) slot) (withRow (h .state) slot (confirmed (rowOf (h .state) slot)))
+judged (Unconfirm slot) h = by-changed h (slotVerdict (h .state) slot) (unconfirmedState (h .state) slot)
+judged (Block slot blocked) h = by-changed h (slotVerdict (h .state) slot) (withRow (h .state) slot (blockedRow (rowOf (h .state) slot) blocked))
+judged (Mark slot seq) h = by-changed h (slotVerdict (h .state) slot) (withRow (h .state) slot (markedRow (rowOf (h .state) slot) (At seq)))
+judged (Ping slot time) h = by-changed h (timedVerdict (h .state) slot time verdicts.Pass) (withTime (withRow (h .state) slot (pinged (rowOf (h .state) slot) time)) time)
+judged (Pong slot time) h = by-changed h (timedVerdict (h .state) slot time verdicts.Pass) (withTime (withRow (h .state) slot (ponged (rowOf (h .state) slot) time)) time)
+judged (Flush slot time) h = by-changed h (timedVerdict (h .state) slot time verdicts.Pass) (flushedState (h .state) slot time)
+judged (Send slot time msg bytes) h =
+    let s = h .state in
+    let after = sentState s slot time msg (length bytes) in
+    by (sendVerdict s (length (h .sent)) slot time msg (length bytes)) (λ v. sendTold (sentBy v s after .answer) .number)
+    (λ v. record { state = sentBy v s after .state; sent = storeBy v (h .sent) (copied (h .sent) (cellStart PACKETS (s .tx .«tx_seq» .0)) bytes); received = h .received })
+    refl (λ e. refl) refl (λ e. refl)
+judged (Resend slot time n) h =
+    let s = h .state in
+    let after = resentState s slot time n in
+    by (resendVerdict s slot time n) (λ v. resendTold (resentBy v s n after .answer) .number) (λ v. withState h (resentBy v s n after .state)) refl (λ e. refl) refl (λ e. refl)
+judged (Ack slot time n) h = by-changed h (timedVerdict (h .state) slot time verdicts.Pass) (ackedState (h .state) slot time n)
+judged (Receive slot msg n bytes) h =
+    let s = h .state in
+    let after = done (Receive slot msg n bytes) h in
+    by (receiveVerdict s (length (h .received)) slot msg n (length bytes)) (λ v. outcomeTold (changedBy v s (after .state) .outcome) .number)
+    (λ v. record { state = changedBy v s (after .state) .state; sent = h .sent; received = storeBy v (h .received) (after .received) }) refl (λ e. refl) refl (λ e. refl)
+judged Show h = by (showVerdict (h .state) (length (h .received))) (λ v. handOutTold (handOutBy v (h .state .rx)) .number) (λ v. h) refl (λ e. refl) refl (λ e. refl)
+judged Take h =
+    by (takeVerdict (h .state)) (λ v. handOutTold (handOutBy v (h .state .rx)) .number) (λ v. withState h (takenBy (handOutBy v (h .state .rx)) (h .state))) refl (λ e. refl) refl (λ e. refl)
+judged Due h = by (dueVerdict (h .state)) (λ v. dueTold (dueBy v (h .state)) .number) (λ v. h) refl (λ e. refl) refl (λ e. refl)
+judged (TakeAck slot) h =
+    let ack = oldestAck (rowOf (h .state) slot) in
+    by (takeAckVerdict (h .state) slot) (λ v. takeAckTold (ackAs v ack) .number) (λ v. withState h (takenAckBy (ackAs v ack) (h .state) slot)) refl (λ e. refl) refl (λ e. refl)
+judged (EarliestConfirmTimeout timeout unreliable) h =
+    let found = firstSent (packets (h .state .tx)) in
+    by (confirmTimeoutVerdict (h .state) timeout) (λ v. confirmTimeoutTold (confirmTimeoutBy v (namedBy found (h .state) timeout unreliable)) .number) (λ v. h)
+    (named-told found (h .state) timeout unreliable) (λ e. refl) refl (λ e. refl)
+
+module _ (c : Call) (h : Holding) where
+  pub left-passed : verdict c h ≡ verdicts.Pass → next c h ≡ done c h
+  left-passed e = subst (λ (v : Verdict). Judges v (number c h) (next c h) (done c h) h) e (judged c h) .1
+
+  pub left-refused : (e : Refusal) → verdict c h ≡ verdicts.No e → next c h ≡ h
+  left-refused r e = subst (λ (v : Verdict). Judges v (number c h) (next c h) (done c h) h) e (judged c h) .1
+
+  pub number-passed : verdict c h ≡ verdicts.Pass → number c h ≡ 0
+  number-passed e = subst (λ (v : Verdict). Judges v (number c h) (next c h) (done c h) h) e (judged c h) .0
+
+  -- what holds before a call and after an accepted one, holds after it
+  pub next-keeps : (P : Holding → Type 0) → P h → (verdict c h ≡ verdicts.Pass → P (done c h)) → P (next c h)
+  next-keeps P old new = go (verdict c h) refl
+    where
+      go : (v : Verdict) → verdict c h ≡ v → P (next c h)
+      go verdicts.Pass e = subst P (sym (left-passed e)) (new e)
+      go (verdicts.No r) e = subst P (sym (left-refused r e)) old
+
+  -- .. with the answer that the verdict makes
+  pub answer-keeps : {A : Type 0} (answer : Verdict → A) (P : A → Holding → Type 0) → (verdict c h ≡ verdicts.Pass → P (answer verdicts.Pass) (done c h))
+      → ((e : Refusal) → P (answer (verdicts.No e)) h) → P (answer (verdict c h)) (next c h)
+  answer-keeps answer P took left = go (verdict c h) refl
+    where
+      go : (v : Verdict) → verdict c h ≡ v → P (answer (verdict c h)) (next c h)
+      go verdicts.Pass e = subst (P (answer (verdict c h))) (sym (left-passed e)) (subst (λ (v : Verdict). P (answer v) (done c h)) (sym e) (took e))
+      go (verdicts.No r) e = subst (P (answer (verdict c h))) (sym (left-refused r e)) (subst (λ (v : Verdict). P (answer v) h) (sym e) (left r))
+
+pub passed : (c : Call) (h : Holding) → Typed c → Good (h .state) → verdict c h ≡ verdicts.Pass → Passed c h
+unfolding handOutBy
+passed (Add id roundtrip max blocked unconfirmed) h t g e = add-passed (h .state) id roundtrip max e
+passed (Remove slot) h t g e = slot-passed (h .state) slot e
+passed (Confirm slot) h t g e = slot-passed (h .state) slot e
+passed (Unconfirm slot) h t g e = slot-passed (h .state) slot e
+passed (Block slot blocked) h t g e = slot-passed (h .state) slot e
+passed (Mark slot seq) h t g e = slot-passed (h .state) slot e
+passed (Ping slot time) h t g e = timed-passed (h .state) slot time verdicts.Pass e .0
+passed (Pong slot time) h t g e = timed-passed (h .state) slot time verdicts.Pass e .0
+passed (Flush slot time) h t g e = timed-passed (h .state) slot time verdicts.Pass e .0
+passed (Send slot time msg bytes) h t g e = send-passed (h .state) (length (h .sent)) slot time msg (length bytes) e
+passed (Resend slot time n) h t g e = resend-passed (h .state) slot time n (g .shaped) t e
+passed (Ack slot time n) h t g e = timed-passed (h .state) slot time verdicts.Pass e .0
+passed (Receive slot msg n bytes) h t g e = receive-passed (h .state) (length (h .received)) slot msg n (length bytes) e
+passed Show h t g e = tt
+passed Take h t g e = taking (h .state) _ _ _ (ap (λ (v : Verdict). handOutBy v (h .state .rx)) e)
+passed Due h t g e = tt
+passed (TakeAck slot) h t g e = take-ack-passed (h .state) slot e
+passed (EarliestConfirmTimeout timeout unreliable) h t g e = tt
+
+-- ---- an accepted call keeps a good state so: those of the single calls are in the files *Kept
+
+pub done-good : (c : Call) (h : Holding) → Typed c → Good (h .state) → Passed c h → Good (done c h .state)
+done-good (Add id roundtrip max blocked unconfirmed) h t g p = added-good (h .state) g id roundtrip max blocked unconfirmed p
+done-good (Remove slot) h t g p = removed-good (h .state) g slot p
+done-good (Confirm slot) h t g p = confirmed-good (h .state) g slot p
+done-good (Unconfirm slot) h t g p = unconfirmed-good (h .state) g slot p
+done-good (Block slot blocked) h t g p = blocked-good (h .state) g slot blocked p
+done-good (Mark slot seq) h t g p = marked-good (h .state) g slot (At seq) p
+done-good (Ping slot time) h t g p = pinged-good (h .state) g slot time p
+done-good (Pong slot time) h t g p = ponged-good (h .state) g slot time p
+done-good (Flush slot time) h t g p = flushed-good (h .state) g slot time p
+done-good (Send slot time msg bytes) h t g p = sent-good (h .state) g (length (h .sent)) slot time msg (length bytes) p
+done-good (Resend slot time n) h t g p = resent-good (h .state) g slot time n t p
+done-good (Ack slot time n) h t g p = acked-good (h .state) g slot time n t p
+done-good (Receive slot msg n bytes) h t g p =
+    cases (isRepeat CELLS (h .state .rx) n)
+    (λ again. simp again (repeated-good (h .state) g slot n (p .at)))
+    (λ new. simp new (received-good (h .state) g (length (h .received)) slot msg n (length bytes) p new))
+done-good Show h t g p = g
+done-good Take h t g p = taken-good (h .state) g _ _ _ p
+done-good Due h t g p = g
+done-good (TakeAck slot) h t g p = take-ack-good (h .state) g slot (p .at)
+done-good (EarliestConfirmTimeout timeout unreliable) h t g p = g

@@ -4,10 +4,10 @@
 use mathlib.Core.Path.{_≡_, refl, sym, ap, _∙_}
 use mathlib.Core.Bool.{Bool, true, false, cond}
 use mathlib.Core.List.{List, [], _∷_}
-use Prim.Native.Nat.{ℕ, zero, suc}
+use Prim.Native.Nat.{ℕ}
 use native.Mathlib.Omega.{arith}
 use lib.Dec.{eqb}
-use lib.ListN.{getD, set}
+use lib.ListN.{getD, set, replicate, length-replicate}
 use lib.Seq.{getD-set-same}
 use borrow.Table.Steps.{cases}
 use Rattle.refusal.specs.declared.Refusal.the-variants as refusals
@@ -32,6 +32,7 @@ use Rattle.engine.specs.Sizes.{CELLS, MAX_RECV_BUFFER}
 use Rattle.engine.specs.Decide.{soundb, sound-true}
 use Rattle.engine.specs.Sound.{rowAt}
 use Rattle.engine.specs.Rows.{rowOf, row-of, slotOk}
+use Rattle.engine.specs.Turns.{turns-keep}
 use Rattle.engine.specs.Cells.{isRepeat}
 use Rattle.engine.specs.Fields.{withRow}
 use Rattle.engine.specs.Totals.{fits, MAX_TOTAL}
@@ -39,17 +40,17 @@ use Rattle.engine.specs.Starting.{freshOf, freshVerdict}
 use Rattle.engine.specs.Links.{addOf, lowestEmpty, isTaken}
 use Rattle.engine.specs.Receiving.{receiveOf, receiveVerdict, repeatedState, receivedState}
 use Rattle.engine.specs.HandingOut.{takeAckOf, ackAs, ackAnswer, takenAckBy, isWaiting, takeOf, takeVerdict, takenBy, takenState, handOutBy, isReady, readyOf, readyBytes}
+use Rattle.engine.specs.Answer.{changed-keeps}
 use Rattle.laws.specs.Calls as calls
-use Rattle.laws.specs.Passed.{changed-keeps}
+use Rattle.laws.specs.Good.{Good}
 use Rattle.laws.specs.AcksKept.{queued-who, taken-who}
-use Rattle.laws.specs.ReceiveKept.{receive-sound, receive-shaped}
-use Rattle.laws.specs.SoundKept.{Good, kept, fresh-good}
+use Rattle.laws.specs.SoundKept.{kept, fresh-good}
 use Rattle.replaying.specs.declared.session.Waiting.{Waiting}
 use Rattle.replaying.specs.declared.session.Waiting.the-variants.{Frame, Payload}
 use Rattle.replaying.specs.declared.session.Replay.{Replay}
 use Rattle.replaying.specs.declared.session.Answered.{Answered}
 use Rattle.replaying.specs.Session.{begun}
-use Rattle.replaying.specs.Taking.{isAck, isMessage, withoutAcks, withoutReady, withoutAll, ended}
+use Rattle.replaying.specs.Taking.{isAck, isMessage, hasAck, afterAck, withoutAcks, hasMessage, afterMessage, withoutReady, withoutAll, ended}
 use Rattle.replaying.specs.Taken.{no-ack-left, no-message, no-message-left}
 use Rattle.replaying.specs.Line.{received}
 use Rattle.replaying.specs.Feeding.{Carrying, carrying, lineAnswer, byteFed, fedBy, absentAs, lastLine, closed, every-line}
@@ -108,12 +109,10 @@ pub receive-lives : (s : State) (store : ℕ) (msg : ReliableMsg) (n len : ℕ) 
 unfolding receiveOf
 receive-lives s store msg n len h =
     let lives = row-lives s (ackQueued (rowOf s 0) (seqOf n)) h (queued-who (rowOf s 0) (seqOf n) .0) in
-    let g = h .good in
+    let lent : calls.Holding = record { state = s; sent = []; received = replicate store 0 } in
+    let good = kept (calls.Receive 0 msg n (replicate len 0)) lent tt (h .good) in
     record {
-      good = record {
-        shaped = receive-shaped s store 0 msg n len (g .shaped) (g .sound);
-        sound = receive-sound s store 0 msg n len (g .shaped) (g .sound);
-      };
+      good = rw (length-replicate {A = ℕ} store 0, length-replicate {A = ℕ} len 0) at good;
       live =
           changed-keeps (λ x. rowAt x 0 .live ≡ true) (receiveVerdict s store 0 msg n len) s
           (cond (isRepeat CELLS (s .rx) n) (repeatedState s 0 n) (receivedState s 0 msg n len)) (h .live)
@@ -130,7 +129,7 @@ pub record Quiet (s : State) : Type 0 where
 -- and taking a message is refused: what the end of a frame leaves
 pub record Settled (s : State) : Type 0 where
   pub quiet : Quiet s
-  pub taken : isMessage (takeOf s .answer) ≡ false
+  pub taken : hasMessage s ≡ false
 
 -- where 1 and 4 don't refuse it and no ack is taken, none waits
 unwaiting : (sound slot waiting : Bool) (ack : OldestAck) → sound ≡ true → slot ≡ true
@@ -145,10 +144,7 @@ slot-here s h = h .live
 
 -- taking acks keeps link 0, and ACKS turns take them all
 pub acks-live : (n : ℕ) (s : State) → Living s → Living (withoutAcks n s)
-unfolding withoutAcks
-acks-live zero s h = h
-acks-live (suc n) s h =
-    cases (isAck (takeAckOf s 0 .answer)) (λ t. simp t (acks-live n (takeAckOf s 0 .state) (ack-lives s h))) (λ f. simp f h)
+acks-live = turns-keep hasAck afterAck (λ k s. Living s) Living (λ k s h t. ack-lives s h) (λ k s h f. h) (λ s h. h)
 
 acks-quiet : (s : State) → Living s → Quiet (withoutAcks ACKS s)
 unfolding takeAckOf
@@ -166,15 +162,11 @@ acks-quiet s h =
 
 -- taking messages keeps both
 ready-quiet : (n : ℕ) (s : State) → Quiet s → Quiet (withoutReady n s)
-unfolding withoutReady rowOf
-ready-quiet zero s h = h
-ready-quiet (suc n) s h =
-    let then : Quiet (takeOf s .state) =
-    record {
-      living = take-lives s (h .living);
-      none = ap (λ l. isWaiting (oldestAck (getD l 0 noRow))) (take-links s) ∙ h .none;
-    } in
-    cases (isMessage (takeOf s .answer)) (λ t. simp t (ready-quiet n (takeOf s .state) then)) (λ f. simp f h)
+unfolding rowOf
+ready-quiet =
+    turns-keep hasMessage afterMessage (λ k s. Quiet s) Quiet
+    (λ k s h t. record { living = take-lives s (h .living); none = ap (λ l. isWaiting (oldestAck (getD l 0 noRow))) (take-links s) ∙ h .none })
+    (λ k s h f. h) (λ s h. h)
 
 -- CELLS turns take all messages
 all-settled : (s : State) → Living s → Settled (withoutAll s)
@@ -276,7 +268,7 @@ begun-fine = record {
     };
     none = ap (λ s. isWaiting (oldestAck (rowOf s 0))) added;
   };
-  taken = ap (λ s. isMessage (takeOf s .answer)) added ∙ no-message (withRow fresh 0 (freshRow 0 0 Unlimited false false)) refl;
+  taken = ap hasMessage added ∙ no-message (withRow fresh 0 (freshRow 0 0 Unlimited false false)) refl;
 }
 
 -- whatever was fed from the beginning, cut anywhere

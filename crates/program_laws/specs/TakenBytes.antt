@@ -1,9 +1,9 @@
 -- Document 01, "The replay program": "acks and ready messages are taken after each frame". Every byte that is taken was two digits of the
 -- input, so that below 2^32 bytes of input 9 is never given, and nothing waits (NothingWaits). Assumes nothing.
-use mathlib.Core.Path.{_≡_, refl, ap, _∙_}
+use mathlib.Core.Path.{_≡_, refl, ap}
 use mathlib.Core.Bool.{Bool, true, false, cond}
 use mathlib.Core.List.{List, [], _∷_}
-use Prim.Native.Nat.{ℕ, zero, suc, _+_, _-_, _^_, _%_, _≤_, _<_}
+use Prim.Native.Nat.{ℕ, _+_, _-_, _^_, _%_, _≤_, _<_}
 use native.Mathlib.Omega.{arith}
 use lib.Dec.{eqb, ltb}
 use lib.ListN.{length}
@@ -26,18 +26,19 @@ use Rattle.engine.specs.Packets.{isData}
 use Rattle.engine.specs.Ring.{window-step}
 use Rattle.engine.specs.Received.{noCell, heldBytes, bytesIn}
 use Rattle.engine.specs.Sound.{Sound}
-use Rattle.engine.specs.Cells.{cellOf, isRepeat, canAdvance, passedOver, advanced}
+use Rattle.engine.specs.Turns.{turns-keep, turns-same}
+use Rattle.engine.specs.Cells.{cellOf, isRepeat, canAdvance, passedOver}
 use Rattle.engine.specs.Totals.{MAX_TOTAL}
 use Rattle.engine.specs.Starting.{freshOf}
 use Rattle.engine.specs.Receiving.{receiveOf, receiveVerdict, storedRx, repeatedState, receivedState}
-use Rattle.engine.specs.HandingOut.{takeAckOf, ackAnswer, takenAckBy, takeOf, takeVerdict, takenBy, takenRx, canSkip, passedBy, skipped, handOutBy, readyOf, readyBytes, dataLength, taking}
-use Rattle.laws.specs.Passed.{changed-keeps}
+use Rattle.engine.specs.HandingOut.{takeAckOf, ackAnswer, takenAckBy, takeOf, takeVerdict, takenBy, takenRx, canSkip, passedBy, handOutBy, readyOf, readyBytes, dataLength, taking}
+use Rattle.engine.specs.Answer.{changed-keeps}
 use Rattle.replaying.specs.declared.session.Waiting.{Waiting}
 use Rattle.replaying.specs.declared.session.Waiting.the-variants.{Frame, Payload}
 use Rattle.replaying.specs.declared.session.Replay.{Replay}
 use Rattle.replaying.specs.declared.session.Answered.{Answered}
 use Rattle.replaying.specs.Session.{begun}
-use Rattle.replaying.specs.Taking.{isAck, isMessage, withoutAcks, withoutReady, withoutAll, ended}
+use Rattle.replaying.specs.Taking.{hasAck, afterAck, hasMessage, afterMessage, withoutAll, ended}
 use Rattle.recording.specs.Frames.{MAX_LINE}
 use Rattle.replaying.specs.Line.{received}
 use Rattle.replaying.specs.Feeding.{Carrying, carrying, countWith, lineAnswer, byteFed, fedBy, absentAs, lastLine, closed, every-line}
@@ -52,17 +53,12 @@ bytes s = bytesOf (s .rx)
 
 -- ---- taking
 
--- to pass a number by takes nothing
-skipped-bytes : (N k : ℕ) (rx : Receiving) → bytesOf (skipped N k rx) ≡ bytesOf rx
-unfolding skipped
-skipped-bytes N zero rx = refl
-skipped-bytes N (suc k) rx = cases (canSkip N rx) (λ t. simp t (skipped-bytes N k (passedBy rx))) (λ f. simp f)
-
--- what is taken was still to take
+-- what is taken was still to take, and to pass a number by takes nothing
 taken-bytes : (rx : Receiving) (len : ℕ) → len ≤ rx .«rxed_reliable_size» → bytesOf (takenRx CELLS rx len) ≤ bytesOf rx
-unfolding takenRx
+unfolding takenRx passedBy
 taken-bytes rx len h =
-    let moved : bytesOf (takenRx CELLS rx len) ≡ rx .«rxed_reliable_consumed» + len + (rx .«rxed_reliable_size» - len) = skipped-bytes CELLS CELLS _ in
+    let moved : bytesOf (takenRx CELLS rx len) ≡ rx .«rxed_reliable_consumed» + len + (rx .«rxed_reliable_size» - len) =
+    turns-same (canSkip CELLS) passedBy bytesOf (λ r. refl) CELLS _ in
     omega (arith, moved)
 
 -- the oldest ready message is one of those that the untaken bytes are the sum of
@@ -100,35 +96,19 @@ ack-bytes s = by-answer (ackAnswer s 0)
     by-answer (acks.No e) = refl
 
 -- taking all
-acks-bytes : (n : ℕ) (s : State) → bytes (withoutAcks n s) ≡ bytes s
-unfolding withoutAcks
-acks-bytes zero s = refl
-acks-bytes (suc n) s =
-    cases (isAck (takeAckOf s 0 .answer)) (λ t. simp t (acks-bytes n (takeAckOf s 0 .state) ∙ ack-bytes s)) (λ f. simp f)
-
-messages-bytes : (n : ℕ) (s : State) → Living s → bytes (withoutReady n s) ≤ bytes s
-unfolding withoutReady
-messages-bytes zero s h = omega arith
-messages-bytes (suc n) s h =
-    cases (isMessage (takeOf s .answer))
-    (λ t. simp t (omega (arith, messages-bytes n (takeOf s .state) (take-lives s h), take-bytes s (h .good .sound))))
-    (λ f. simp f (omega arith))
-
 all-bytes : (s : State) → Living s → bytes (withoutAll s) ≤ bytes s
 unfolding withoutAll
-all-bytes s h = omega (arith, messages-bytes CELLS (withoutAcks ACKS s) (acks-live ACKS s h), acks-bytes ACKS s)
+all-bytes s h =
+    turns-keep hasMessage afterMessage (λ k x. Living x × (bytes x ≤ bytes s)) (λ x. bytes x ≤ bytes s)
+    (λ k x g t. (take-lives x (g .0), omega (arith, take-bytes x (g .0 .good .sound)))) (λ k x g f. g .1) (λ x g. g .1)
+    CELLS _ (acks-live ACKS s h, omega (arith, turns-same hasAck afterAck bytes ack-bytes ACKS s))
 
 -- ---- receiving
 
-advanced-bytes : (N k : ℕ) (rx : Receiving) → bytesOf (advanced N k rx) ≡ bytesOf rx
-unfolding advanced
-advanced-bytes N zero rx = refl
-advanced-bytes N (suc k) rx = cases (canAdvance N rx) (λ t. simp t (advanced-bytes N k (passedOver N rx))) (λ f. simp f)
-
 stored-bytes : (rx : Receiving) (msg : ReliableMsg) (n len : ℕ) → bytesOf (storedRx rx msg n len)
     ≡ rx .«rxed_reliable_consumed» + (rx .«rxed_reliable_size» + len)
-unfolding storedRx
-stored-bytes rx msg n len = advanced-bytes CELLS CELLS _
+unfolding storedRx passedOver
+stored-bytes rx msg n len = turns-same (canAdvance CELLS) (passedOver CELLS) bytesOf (λ r. refl) CELLS _
 
 -- a message adds no more than its own
 receive-bytes : (s : State) (store : ℕ) (msg : ReliableMsg) (n len : ℕ) → bytes (receiveOf s store 0 msg n len .state) ≤ bytes s + len

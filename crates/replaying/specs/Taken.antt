@@ -3,13 +3,12 @@
 use Rattle.link.specs.declared.acks.OldestAck.{OldestAck}
 use mathlib.Core.Path.{_≡_, refl, sym, _∙_, ap}
 use mathlib.Core.Bool.{true, false, Bool}
-use Prim.Native.Nat.{ℕ, zero, suc, _+_, _-_, _^_, _≤_, _<_}
+use Prim.Native.Nat.{ℕ, _+_, _-_, _^_, _≤_, _<_}
 use native.Mathlib.Omega.{arith}
 use lib.Dec.{eqb}
 use lib.ListN.{length, length-set}
 use lib.Seq.{getD-set-same}
 use borrow.Author.Tests.{eq-eqb, ne-eqb, eqb-false, not-true}
-use borrow.Table.Steps.{cases}
 use Rattle.refusal.specs.Tests.{false-true, split}
 use Rattle.refusal.specs.declared.verdict.Verdict.the-variants as verdicts
 use Rattle.seq.specs.Numbers.{plus, minus}
@@ -32,7 +31,8 @@ use Rattle.engine.specs.declared.handing_out.HandOut.{HandOut}
 use Rattle.engine.specs.declared.handing_out.HandOut.the-variants as ready
 use Rattle.engine.specs.HandingOut.{takeAckOf, ackAs, ackAnswer, takenAckBy, takenAckState, readyOf, readyBytes, isReady, takeAckVerdict, handOutBy, dataLength, takeOf, takeVerdict, takenBy, takenState, takenRx, skipped, canSkip, passedBy}
 use Rattle.engine.specs.Fields.{withRow}
-use Rattle.replaying.specs.Taking.{isAck, isMessage, withoutAcks, withoutReady}
+use Rattle.engine.specs.Turns.{turns-keep}
+use Rattle.replaying.specs.Taking.{isAck, isMessage, hasAck, afterAck, withoutAcks, hasMessage, afterMessage, withoutReady}
 
 -- ---- acks
 
@@ -42,7 +42,7 @@ none-waiting true true ack = refl
 none-waiting true false ack = refl
 none-waiting false slot ack = refl
 
-pub no-ack : (s : State) → rowOf s 0 .«ack_count» ≡ 0 → isAck (takeAckOf s 0 .answer) ≡ false
+pub no-ack : (s : State) → rowOf s 0 .«ack_count» ≡ 0 → hasAck s ≡ false
 unfolding takeAckOf ackAnswer takeAckVerdict oldestAck
 no-ack s e = simp (eq-eqb (rowOf s 0 .«ack_count») 0 e) (none-waiting (soundb s) (slotOk s 0) oldest.Nothing)
 
@@ -54,18 +54,18 @@ one-less : (r : LinkRow) → (r .«ack_count» ≡ 0 → ⊥) → ackTaken r .«
 unfolding ackTaken
 one-less r h = simp (ne-eqb (r .«ack_count») 0 h)
 
-module _ (s : State) (eight : length (s .links) ≡ SLOTS) (t : isAck (takeAckOf s 0 .answer) ≡ true) where
+module _ (s : State) (eight : length (s .links) ≡ SLOTS) (t : hasAck s ≡ true) where
   some-waiting : rowOf s 0 .«ack_count» ≡ 0 → ⊥
   some-waiting e = false-true (sym (no-ack s e) ∙ t)
 
-  ack-state : takeAckOf s 0 .state ≡ withRow s 0 (ackTaken (rowOf s 0))
+  ack-state : afterAck s ≡ withRow s 0 (ackTaken (rowOf s 0))
   unfolding takeAckOf takenAckState
   ack-state = taken-by (ackAnswer s 0) s t
 
-  ack-links : length (takeAckOf s 0 .state .links) ≡ SLOTS
+  ack-links : length (afterAck s .links) ≡ SLOTS
   ack-links = ap (λ x. length (x .links)) ack-state ∙ length-set (s .links) 0 (ackTaken (rowOf s 0)) ∙ eight
 
-  ack-count : rowOf (takeAckOf s 0 .state) 0 .«ack_count» ≡ rowOf s 0 .«ack_count» - 1
+  ack-count : rowOf (afterAck s) 0 .«ack_count» ≡ rowOf s 0 .«ack_count» - 1
   ack-count =
       ap (λ x. rowOf x 0 .«ack_count») ack-state
       ∙ ap (λ r. r .«ack_count») (row-of (withRow s 0 (ackTaken (rowOf s 0))) 0 (omega arith))
@@ -73,13 +73,11 @@ module _ (s : State) (eight : length (s .links) ≡ SLOTS) (t : isAck (takeAckOf
       ∙ one-less (rowOf s 0) some-waiting
 
 -- as many turns as acks wait leave none to take
-pub no-ack-left : (n : ℕ) (s : State) → length (s .links) ≡ SLOTS → rowOf s 0 .«ack_count» ≤ n → isAck (takeAckOf (withoutAcks n s) 0 .answer) ≡ false
-unfolding withoutAcks
-no-ack-left zero s eight h = no-ack s (omega arith)
-no-ack-left (suc n) s eight h =
-    cases (isAck (takeAckOf s 0 .answer))
-    (λ t. simp t (no-ack-left n (takeAckOf s 0 .state) (ack-links s eight t) (omega (arith, ack-count s eight t, some-waiting s eight t))))
-    (λ f. simp f)
+pub no-ack-left : (n : ℕ) (s : State) → length (s .links) ≡ SLOTS → rowOf s 0 .«ack_count» ≤ n → hasAck (withoutAcks n s) ≡ false
+no-ack-left n s eight h =
+    turns-keep hasAck afterAck (λ k s. (length (s .links) ≡ SLOTS) × (rowOf s 0 .«ack_count» ≤ k)) (λ s. hasAck s ≡ false)
+    (λ k s h t. (ack-links s (h .0) t, omega (arith, ack-count s (h .0) t, some-waiting s (h .0) t)))
+    (λ k s h f. f) (λ s h. no-ack s (omega arith)) n s (eight, h)
 
 -- ---- ready messages
 
@@ -94,13 +92,15 @@ pub record Wide (rx : Receiving) : Type 0 where
   pub expected : rx .«rx_seq» .0 < 2 ^ 32
   pub oldest : rx .«rx_oldest» .0 < 2 ^ 32
 
-gap-none : (a b : ℕ) → a < 2 ^ 32 → b < 2 ^ 32 → minus a b ≡ 0 → b ≡ a
-unfolding minus
-gap-none a b p q e = omega arith
+-- the two are the same where no number is between them, and one less is between them when the oldest is passed by
+module _ (rx : Receiving) (w : Wide rx) where
+  gap-none : expectedAt rx ≤ 0 → rx .«rx_oldest» .0 ≡ rx .«rx_seq» .0
+  unfolding minus
+  gap-none e = omega arith
 
-gap-less : (a b : ℕ) → a < 2 ^ 32 → b < 2 ^ 32 → (b ≡ a → ⊥) → minus a (plus b 1) + 1 ≡ minus a b
-unfolding minus plus
-gap-less a b p q e = omega arith
+  gap-less : (rx .«rx_oldest» .0 ≡ rx .«rx_seq» .0 → ⊥) → minus (rx .«rx_seq» .0) (plus (rx .«rx_oldest» .0) 1) + 1 ≡ expectedAt rx
+  unfolding minus plus
+  gap-less e = omega arith
 
 plus-wide : (b : ℕ) → plus b 1 < 2 ^ 32
 unfolding plus
@@ -110,7 +110,7 @@ nothing-ready : (rx : Receiving) → rx .«rx_oldest» .0 ≡ rx .«rx_seq» .0 
 unfolding readyOf
 nothing-ready rx e = simp (eq-eqb (rx .«rx_oldest» .0) (rx .«rx_seq» .0) e)
 
-pub no-message : (s : State) → s .rx .«rx_oldest» .0 ≡ s .rx .«rx_seq» .0 → isMessage (takeOf s .answer) ≡ false
+pub no-message : (s : State) → s .rx .«rx_oldest» .0 ≡ s .rx .«rx_seq» .0 → hasMessage s ≡ false
 unfolding takeOf takeVerdict
 no-message s e =
     let ready : isReady (s .rx) ≡ false = ap isFull (nothing-ready (s .rx) e) in
@@ -122,43 +122,36 @@ passing rx t = eqb-false (rx .«rx_oldest» .0) (rx .«rx_seq» .0) (not-true (e
 
 -- skipping goes on towards the next expected number, and not past it
 skip-near : (k : ℕ) (rx : Receiving) → Wide rx → Wide (skipped CELLS k rx) × (expectedAt (skipped CELLS k rx) ≤ expectedAt rx)
-unfolding skipped passedBy
-skip-near zero rx w = (w, omega arith)
-skip-near (suc k) rx w =
-    cases (canSkip CELLS rx)
-    (λ t.
-    let moved : Wide (passedBy rx) = record { expected = w .expected; oldest = plus-wide (rx .«rx_oldest» .0) } in
-    let less = gap-less (rx .«rx_seq» .0) (rx .«rx_oldest» .0) (w .expected) (w .oldest) (passing rx t) in
-    let rest = skip-near k (passedBy rx) moved in
-    simp t (rest .0, omega (arith, rest .1, less)))
-    (λ f. simp f (w, omega arith))
+unfolding passedBy
+skip-near k rx w =
+    let Near : Receiving → Type 0 = λ r. Wide r × (expectedAt r ≤ expectedAt rx) in
+    turns-keep (canSkip CELLS) passedBy (λ k r. Near r) Near
+    (λ k r h t. (record { expected = h .0 .expected; oldest = plus-wide (r .«rx_oldest» .0) }, omega (arith, gap-less r (h .0) (passing r t))))
+    (λ k r h f. h) (λ r h. h) k rx (w, omega arith)
 
 taken-as : (a : HandOut) (s : State) → isMessage a ≡ true → (bytes : ℕ) × (takenBy a s ≡ takenState s bytes)
 taken-as (ready.Message msg seq len) s e = (dataLength msg len, refl)
 taken-as (ready.No r) s e = false-true e
 
-module _ (s : State) (w : Wide (s .rx)) (t : isMessage (takeOf s .answer) ≡ true) where
+module _ (s : State) (w : Wide (s .rx)) (t : hasMessage s ≡ true) where
   some-ready : s .rx .«rx_oldest» .0 ≡ s .rx .«rx_seq» .0 → ⊥
   some-ready e = false-true (sym (no-message s e) ∙ t)
 
   take-near : (bytes : ℕ) → Wide (takenRx CELLS (s .rx) bytes) × (expectedAt (takenRx CELLS (s .rx) bytes) + 1 ≤ expectedAt (s .rx))
   unfolding takenRx
   take-near bytes =
-      let less = gap-less (s .rx .«rx_seq» .0) (s .rx .«rx_oldest» .0) (w .expected) (w .oldest) some-ready in
       let rest = skip-near CELLS _ (record { expected = w .expected; oldest = plus-wide (s .rx .«rx_oldest» .0) }) in
-      (rest .0, omega (arith, rest .1, less))
+      (rest .0, omega (arith, rest .1, gap-less (s .rx) w some-ready))
 
-  taken-near : Wide (takeOf s .state .rx) × (expectedAt (takeOf s .state .rx) + 1 ≤ expectedAt (s .rx))
+  taken-near : Wide (afterMessage s .rx) × (expectedAt (afterMessage s .rx) + 1 ≤ expectedAt (s .rx))
   unfolding takeOf takenState
   taken-near =
       let a = taken-as (handOutBy (takeVerdict s) (s .rx)) s t in
       rw (a .1) (take-near (a .0))
 
 -- as many turns as numbers are ready leave nothing to take
-pub no-message-left : (n : ℕ) (s : State) → Wide (s .rx) → expectedAt (s .rx) ≤ n → isMessage (takeOf (withoutReady n s) .answer) ≡ false
-unfolding withoutReady
-no-message-left zero s w h = no-message s (gap-none (s .rx .«rx_seq» .0) (s .rx .«rx_oldest» .0) (w .expected) (w .oldest) (omega arith))
-no-message-left (suc n) s w h =
-    cases (isMessage (takeOf s .answer))
-    (λ t. let near = taken-near s w t in simp t (no-message-left n (takeOf s .state) (near .0) (omega (arith, near .1))))
-    (λ f. simp f)
+pub no-message-left : (n : ℕ) (s : State) → Wide (s .rx) → expectedAt (s .rx) ≤ n → hasMessage (withoutReady n s) ≡ false
+no-message-left n s w h =
+    turns-keep hasMessage afterMessage (λ k s. Wide (s .rx) × (expectedAt (s .rx) ≤ k)) (λ s. hasMessage s ≡ false)
+    (λ k s h t. let near = taken-near s (h .0) t in (near .0, omega (arith, near .1)))
+    (λ k s h f. f) (λ s h. no-message s (gap-none (s .rx) (h .0) (h .1))) n s (w, h)

@@ -1,7 +1,7 @@
 -- By the verdict: the row, the table and the sweep, each by its own promise.
 use mathlib.Core.Path.{sym, _∙_, _≡_, ap}
 use Rattle.engine.specs.Acking.{ackedState, ackOf, acked-count}
-use Rattle.engine.specs.Gates.{timed-sound}
+use Rattle.engine.specs.Gates.{timed-passed}
 use borrow.Author.Needs.{needs}
 use Rattle.engine.proofs.acking.ack.Statement.{statement}
 use Rattle.engine.proofs.acking.ack.Tie as tie
@@ -16,10 +16,10 @@ enum-told : tie.Need-enum-told
 enum-told c = search needs
 
 acked-row-requires : tie.Need-acked-row-requires
-acked-row-requires c κs = timed-sound _ _ _ _ (sym (c .before .before .timed-verdict .ensures) ∙ c .enum-told .given .1)
+acked-row-requires c κs = timed-passed _ _ _ _ (sym (c .before .before .timed-verdict .ensures) ∙ c .enum-told .given .1) .0 .at .fine
 
 acked-tx-requires : tie.Need-acked-tx-requires
-acked-tx-requires c κs = timed-sound _ _ _ _ (sym (c .before .before .before .timed-verdict .ensures) ∙ c .before .enum-told .given .1)
+acked-tx-requires c κs = timed-passed _ _ _ _ (sym (c .before .before .before .timed-verdict .ensures) ∙ c .before .enum-told .given .1) .0 .at .fine
 
 with-row-requires : tie.Need-with-row-requires
 with-row-requires c κs = search needs
@@ -29,7 +29,7 @@ sweep-requires c κs =
     let a = c .before .before .before .before .before .before .args in
     let passed = sym (c .before .before .before .before .before .timed-verdict .ensures) ∙ c .before .before .before .enum-told .given .1 in
     let count : c .before .acked-tx .result .«txed_count» ≡ a .s .tx .«txed_count» = ap (λ tx. tx .«txed_count») (c .before .acked-tx .ensures) ∙ acked-count (a .s) (a .slot) (a .seq .0) in
-    rw count (timed-sound _ _ _ _ passed .packet-count)
+    rw count (timed-passed _ _ _ _ passed .0 .at .fine .packet-count)
 
 returns : tie.Need-returns
 unfolding ackOf

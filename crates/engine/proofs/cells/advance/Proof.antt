@@ -2,7 +2,8 @@
 use mathlib.Core.Path.{_≡_, refl, sym, _∙_}
 use native.Mathlib.Omega.{arith}
 use borrow.Author.Tests.{not-true, not-false}
-use Rattle.engine.specs.Cells.{advanced, advance-step, advance-end}
+use Rattle.engine.specs.Cells.{canAdvance, passedOver, advanced}
+use Rattle.engine.specs.Turns.{turn-on, turn-off, turn-out}
 use Rattle.engine.proofs.cells.advance.Statement.{statement}
 use Rattle.engine.proofs.cells.advance.Tie as tie
 
@@ -21,7 +22,7 @@ can-advance-requires c κs = tt
 returns : tie.Need-returns Inv-loop μ-loop
 returns c =
     let l = c .before .before .before .loop in
-    sym (advance-step 64 (l .left) (l .out) (c .before .before .loop-test .taken) ∙ simp (sym (c .before .can-advance .ensures), not-true (c .before .can-advance .result) (c .if1 .taken))) ∙ l .inv
+    turn-off (canAdvance 64) (passedOver 64) (l .left) (l .out) _ (l .inv) (sym (c .before .can-advance .ensures) ∙ not-true (c .before .can-advance .result) (c .if1 .taken))
 
 pass-requires : tie.Need-pass-requires Inv-loop μ-loop
 pass-requires c κs = tt
@@ -36,10 +37,11 @@ loop-again : tie.Need-loop-again Inv-loop μ-loop
 loop-again c =
     let l = c .before .before .before .before .loop in
     simp (c .pass .ensures)
-    (sym (advance-step 64 (l .left) (l .out) (c .before .before .before .loop-test .taken) ∙ simp (sym (c .before .before .can-advance .ensures), not-false (c .before .before .can-advance .result) (c .before .if1 .left))) ∙ l .inv)
+    (turn-on (canAdvance 64) (passedOver 64) (l .left) (l .out) _ (l .inv) (c .before .before .before .loop-test .taken)
+    (sym (c .before .before .can-advance .ensures) ∙ not-false (c .before .before .can-advance .result) (c .before .if1 .left)))
 
 returns-2 : tie.Need-returns-2 Inv-loop μ-loop
-returns-2 c = sym (advance-end 64 (c .before .loop .left) (c .before .loop .out) (c .loop-test .left)) ∙ c .before .loop .inv
+returns-2 c = let l = c .before .loop in turn-out (canAdvance 64) (passedOver 64) (l .left) (l .out) _ (l .inv) (c .loop-test .left)
 
 pub advance-spec : {M : Type 1} → statement M
 advance-spec =

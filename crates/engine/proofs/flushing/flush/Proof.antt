@@ -2,7 +2,7 @@
 use borrow.Author.Needs.{needs}
 use mathlib.Core.Path.{sym, _∙_}
 use Rattle.engine.specs.Flushing.{flushOf}
-use Rattle.engine.specs.Gates.{timed-sound}
+use Rattle.engine.specs.Gates.{timed-passed}
 use Rattle.refusal.specs.declared.verdict.Verdict.the-variants.{Pass}
 use Rattle.engine.proofs.flushing.flush.Statement.{statement}
 use Rattle.engine.proofs.flushing.flush.Tie as tie
@@ -17,7 +17,7 @@ enum-told : tie.Need-enum-told
 enum-told c = search needs
 
 flushed-state-requires : tie.Need-flushed-state-requires
-flushed-state-requires c κs = timed-sound (c .before .before .before .args .s) (c .before .before .before .args .slot) (c .before .before .before .args .time) Pass (sym (c .before .before .timed-verdict .ensures) ∙ c .enum-told .given .1) .packet-count
+flushed-state-requires c κs = timed-passed (c .before .before .before .args .s) (c .before .before .before .args .slot) (c .before .before .before .args .time) Pass (sym (c .before .before .timed-verdict .ensures) ∙ c .enum-told .given .1) .0 .at .fine .packet-count
 
 returns : tie.Need-returns
 unfolding flushOf

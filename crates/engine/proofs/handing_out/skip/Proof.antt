@@ -2,7 +2,8 @@
 use mathlib.Core.Path.{_≡_, refl, sym, _∙_}
 use native.Mathlib.Omega.{arith}
 use borrow.Author.Tests.{not-true, not-false}
-use Rattle.engine.specs.HandingOut.{skipped, skip-step, skip-end}
+use Rattle.engine.specs.HandingOut.{canSkip, passedBy, skipped}
+use Rattle.engine.specs.Turns.{turn-on, turn-off, turn-out}
 use Rattle.engine.proofs.handing_out.skip.Statement.{statement}
 use Rattle.engine.proofs.handing_out.skip.Tie as tie
 
@@ -21,7 +22,7 @@ can-skip-requires c κs = tt
 returns : tie.Need-returns Inv-loop μ-loop
 returns c =
     let l = c .before .before .before .loop in
-    sym (skip-step 64 (l .left) (l .out) (c .before .before .loop-test .taken) ∙ simp (sym (c .before .can-skip .ensures), not-true (c .before .can-skip .result) (c .if1 .taken))) ∙ l .inv
+    turn-off (canSkip 64) passedBy (l .left) (l .out) _ (l .inv) (sym (c .before .can-skip .ensures) ∙ not-true (c .before .can-skip .result) (c .if1 .taken))
 
 pass-by-requires : tie.Need-pass-by-requires Inv-loop μ-loop
 pass-by-requires c κs = tt
@@ -36,10 +37,11 @@ loop-again : tie.Need-loop-again Inv-loop μ-loop
 loop-again c =
     let l = c .before .before .before .before .loop in
     simp (c .pass-by .ensures)
-    (sym (skip-step 64 (l .left) (l .out) (c .before .before .before .loop-test .taken) ∙ simp (sym (c .before .before .can-skip .ensures), not-false (c .before .before .can-skip .result) (c .before .if1 .left))) ∙ l .inv)
+    (turn-on (canSkip 64) passedBy (l .left) (l .out) _ (l .inv) (c .before .before .before .loop-test .taken)
+    (sym (c .before .before .can-skip .ensures) ∙ not-false (c .before .before .can-skip .result) (c .before .if1 .left)))
 
 returns-2 : tie.Need-returns-2 Inv-loop μ-loop
-returns-2 c = sym (skip-end 64 (c .before .loop .left) (c .before .loop .out) (c .loop-test .left)) ∙ c .before .loop .inv
+returns-2 c = let l = c .before .loop in turn-out (canSkip 64) passedBy (l .left) (l .out) _ (l .inv) (c .loop-test .left)
 
 pub skip-spec : {M : Type 1} → statement M
 skip-spec =

@@ -3,7 +3,7 @@ use mathlib.Core.Path.{sym, _∙_}
 use native.Mathlib.Omega.{arith}
 use denote.Ref.{now}
 use Rattle.engine.specs.Stores.{cellStart, mid-copied}
-use Rattle.engine.specs.Receiving.{accepted, receiveOf, receiveStore}
+use Rattle.engine.specs.Receiving.{receive-passed, receiveOf, receiveStore}
 use Rattle.engine.specs.Sizes.{CELLS}
 use borrow.Author.Needs.{needs}
 use Rattle.engine.proofs.receiving.receive.Statement.{statement}
@@ -49,7 +49,7 @@ part-copy-start c = search needs
 part-copy-end : tie.Need-part-copy-end
 part-copy-end c =
     let a = c .before .before .before .before .before .before .before .before .before .args in
-    let p = accepted (a .s) _ (a .slot) (a .msg) (a .seq .0) _ (sym (c .before .before .before .before .receive-verdict .ensures) ∙ c .before .before .enum-told .given .1) (sym (c .before .before .before .before .before .is-repeat .ensures) ∙ c .before .if1 .left) in
+    let p = receive-passed (a .s) _ (a .slot) (a .msg) (a .seq .0) _ (sym (c .before .before .before .before .receive-verdict .ensures) ∙ c .before .before .enum-told .given .1) in
     omega (arith, p .stored, p .short)
 
 copy-requires : tie.Need-copy-requires
@@ -58,14 +58,15 @@ copy-requires c κs = search needs
 cast-received-state : tie.Need-cast-received-state
 cast-received-state c =
     let a = c .before .before .before .before .before .before .before .before .before .before .before .before .before .args in
-    let p = accepted (a .s) _ (a .slot) (a .msg) (a .seq .0) _ (sym (c .before .before .before .before .before .before .before .before .receive-verdict .ensures) ∙ c .before .before .before .before .before .before .enum-told .given .1) (sym (c .before .before .before .before .before .before .before .before .before .is-repeat .ensures) ∙ c .before .before .before .before .before .if1 .left) in
+    let p = receive-passed (a .s) _ (a .slot) (a .msg) (a .seq .0) _ (sym (c .before .before .before .before .before .before .before .before .receive-verdict .ensures) ∙ c .before .before .before .before .before .before .enum-told .given .1) in
     omega (arith, p .short)
 
 received-state-requires : tie.Need-received-state-requires
 received-state-requires c κs =
     let a = c .before .before .before .before .before .before .before .before .before .before .before .before .before .args in
-    let p = accepted (a .s) _ (a .slot) (a .msg) (a .seq .0) _ (sym (c .before .before .before .before .before .before .before .before .receive-verdict .ensures) ∙ c .before .before .before .before .before .before .enum-told .given .1) (sym (c .before .before .before .before .before .before .before .before .before .is-repeat .ensures) ∙ c .before .before .before .before .before .if1 .left) in
-    (omega (arith, p .within, c .before .before .before .before .before .before .before .before .before .before .before .before .before .good .0 .1 .1 .1 .1 .0 .1 .1 .1 .1 .1 .1 .1 .0 .1), p .told)
+    let p = receive-passed (a .s) _ (a .slot) (a .msg) (a .seq .0) _ (sym (c .before .before .before .before .before .before .before .before .receive-verdict .ensures) ∙ c .before .before .before .before .before .before .enum-told .given .1) in
+    let n = p .new (sym (c .before .before .before .before .before .before .before .before .before .is-repeat .ensures) ∙ c .before .before .before .before .before .if1 .left) in
+    (omega (arith, n .within, c .before .before .before .before .before .before .before .before .before .before .before .before .before .good .0 .1 .1 .1 .1 .0 .1 .1 .1 .1 .1 .1 .1 .0 .1), n .told)
 
 returns-2 : tie.Need-returns-2
 unfolding receiveOf receiveStore

@@ -39,7 +39,7 @@ with-packet-requires c κs = search needs
 
 requeue-requires : tie.Need-requeue-requires
 unfolding withPacket
-requeue-requires c κs = rw (c .with-packet .ensures) (resend-passed (c .before .before .before .before .before .before .before .before .before .before .args .s) (c .before .before .before .before .before .before .before .before .before .before .args .slot) (c .before .before .before .before .before .before .before .before .before .before .args .time) (c .before .before .before .before .before .before .before .before .before .before .args .seq .0) (shaped (c .before .before .before .before .before .before .before .before .before .before .args .s) (c .before .before .before .before .before .before .before .before .before .before .good .0)) (c .before .before .before .before .before .before .before .before .before .before .good .1 .1 .1 .0 .1 .1 .0 .1) (c .before .before .before .before .before .before .before .before .before .before .pre) .fine .packet-count)
+requeue-requires c κs = rw (c .with-packet .ensures) (resend-passed (c .before .before .before .before .before .before .before .before .before .before .args .s) (c .before .before .before .before .before .before .before .before .before .before .args .slot) (c .before .before .before .before .before .before .before .before .before .before .args .time) (c .before .before .before .before .before .before .before .before .before .before .args .seq .0) (shaped (c .before .before .before .before .before .before .before .before .before .before .args .s) (c .before .before .before .before .before .before .before .before .before .before .good .0)) (c .before .before .before .before .before .before .before .before .before .before .good .1 .1 .1 .0 .1 .1 .0 .1) (c .before .before .before .before .before .before .before .before .before .before .pre) .timed .at .fine .packet-count)
 
 returns : tie.Need-returns
 unfolding resentState

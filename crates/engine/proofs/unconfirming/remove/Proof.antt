@@ -2,7 +2,7 @@
 use borrow.Author.Needs.{needs}
 use mathlib.Core.Path.{sym, _∙_}
 use Rattle.engine.specs.Unconfirming.{removeOf}
-use Rattle.engine.specs.Gates.{slot-sound}
+use Rattle.engine.specs.Gates.{slot-passed}
 use Rattle.engine.proofs.unconfirming.remove.Statement.{statement}
 use Rattle.engine.proofs.unconfirming.remove.Tie as tie
 
@@ -16,7 +16,7 @@ enum-told : tie.Need-enum-told
 enum-told c = search needs
 
 removed-state-requires : tie.Need-removed-state-requires
-removed-state-requires c κs = slot-sound (c .before .before .before .args .s) (c .before .before .before .args .slot) (sym (c .before .before .slot-verdict .ensures) ∙ c .enum-told .given .1) .packet-count
+removed-state-requires c κs = slot-passed (c .before .before .before .args .s) (c .before .before .before .args .slot) (sym (c .before .before .slot-verdict .ensures) ∙ c .enum-told .given .1) .fine .packet-count
 
 returns : tie.Need-returns
 unfolding removeOf

@@ -2,7 +2,7 @@
 use borrow.Author.Needs.{needs}
 use mathlib.Core.Path.{sym, _∙_}
 use Rattle.engine.specs.Unconfirming.{unconfirmOf}
-use Rattle.engine.specs.Gates.{slot-sound}
+use Rattle.engine.specs.Gates.{slot-passed}
 use borrow.Author.Needs.{needs}
 use Rattle.engine.proofs.unconfirming.unconfirm.Statement.{statement}
 use Rattle.engine.proofs.unconfirming.unconfirm.Tie as tie
@@ -17,7 +17,7 @@ enum-told : tie.Need-enum-told
 enum-told c = search needs
 
 unconfirmed-state-requires : tie.Need-unconfirmed-state-requires
-unconfirmed-state-requires c κs = slot-sound (c .before .before .before .args .s) (c .before .before .before .args .slot) (sym (c .before .before .slot-verdict .ensures) ∙ c .enum-told .given .1) .packet-count
+unconfirmed-state-requires c κs = slot-passed (c .before .before .before .args .s) (c .before .before .before .args .slot) (sym (c .before .before .slot-verdict .ensures) ∙ c .enum-told .given .1) .fine .packet-count
 
 returns : tie.Need-returns
 unfolding unconfirmOf

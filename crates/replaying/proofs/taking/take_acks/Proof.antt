@@ -1,12 +1,11 @@
 -- As many turns as are left take from there to the same state.
 use mathlib.Core.Path.{_≡_, refl, sym, _∙_, ap}
-use mathlib.Core.Bool.{true, false}
 use native.Mathlib.Omega.{arith}
 use borrow.Author.Tests.{not-true, not-false}
 use Rattle.link.specs.Sizes.{ACKS}
-use Rattle.engine.specs.HandingOut.{takeAckOf}
+use Rattle.engine.specs.Turns.{turn-on, turn-off, turn-out}
 use Rattle.replaying.specs.Taken.{no-ack}
-use Rattle.replaying.specs.Taking.{isAck, withoutAcks, acks-step, acks-end}
+use Rattle.replaying.specs.Taking.{isAck, hasAck, afterAck, withoutAcks}
 use Rattle.replaying.proofs.taking.take_acks.Statement.{statement}
 use Rattle.replaying.proofs.taking.take_acks.Tie as tie
 
@@ -25,8 +24,7 @@ row-of-requires c κs = tt
 returns : tie.Need-returns Inv-loop μ-loop
 returns c =
     let l = c .before .before .before .before .loop in
-    let none = no-ack (l .out) (ap (λ r. r .«ack_count») (sym (c .before .before .row-of .ensures)) ∙ c .if1 .taken) in
-    sym (acks-step (l .out) (l .left) (c .before .before .before .loop-test .taken) ∙ simp none) ∙ l .inv
+    turn-off hasAck afterAck (l .left) (l .out) _ (l .inv) (no-ack (l .out) (ap (λ r. r .«ack_count») (sym (c .before .before .row-of .ensures)) ∙ c .if1 .taken))
 
 take-ack-requires : tie.Need-take-ack-requires Inv-loop μ-loop
 take-ack-requires c κs = tt
@@ -37,10 +35,8 @@ is-ack-requires c κs = tt
 returns-2 : tie.Need-returns-2 Inv-loop μ-loop
 returns-2 c =
     let l = c .before .before .before .before .before .before .before .loop in
-    let refused : isAck (takeAckOf (l .out) 0 .answer) ≡ false =
-    sym (ap (λ r. isAck (r .answer)) (c .before .before .take-ack .ensures .0)) ∙ sym (c .before .is-ack .ensures) ∙ not-true (c .before .is-ack .result) (c .if2 .taken)
-    in
-    sym (acks-step (l .out) (l .left) (c .before .before .before .before .before .before .loop-test .taken) ∙ simp refused) ∙ l .inv
+    turn-off hasAck afterAck (l .left) (l .out) _ (l .inv)
+    (sym (ap (λ r. isAck (r .answer)) (c .before .before .take-ack .ensures .0)) ∙ sym (c .before .is-ack .ensures) ∙ not-true (c .before .is-ack .result) (c .if2 .taken))
 
 sub-left : tie.Need-sub-left Inv-loop μ-loop
 sub-left c = omega arith
@@ -51,13 +47,13 @@ loop-less c = omega arith
 loop-again : tie.Need-loop-again Inv-loop μ-loop
 loop-again c =
     let l = c .before .before .before .before .before .before .before .before .loop in
-    let taken : isAck (takeAckOf (l .out) 0 .answer) ≡ true =
-    sym (ap (λ r. isAck (r .answer)) (c .before .before .before .take-ack .ensures .0)) ∙ sym (c .before .before .is-ack .ensures) ∙ not-false (c .before .before .is-ack .result) (c .before .if2 .left)
-    in
-    simp (c .before .before .before .take-ack .ensures .0) (sym (acks-step (l .out) (l .left) (c .before .before .before .before .before .before .before .loop-test .taken) ∙ simp taken) ∙ l .inv)
+    let took = c .before .before .before .take-ack .ensures .0 in
+    simp took
+    (turn-on hasAck afterAck (l .left) (l .out) _ (l .inv) (c .before .before .before .before .before .before .before .loop-test .taken)
+    (sym (ap (λ r. isAck (r .answer)) took) ∙ sym (c .before .before .is-ack .ensures) ∙ not-false (c .before .before .is-ack .result) (c .before .if2 .left)))
 
 returns-3 : tie.Need-returns-3 Inv-loop μ-loop
-returns-3 c = sym (acks-end (c .before .loop .out) (c .before .loop .left) (c .loop-test .left)) ∙ c .before .loop .inv
+returns-3 c = let l = c .before .loop in turn-out hasAck afterAck (l .left) (l .out) _ (l .inv) (c .loop-test .left)
 
 pub take-acks-spec : {M : Type 1} → statement M
 take-acks-spec =

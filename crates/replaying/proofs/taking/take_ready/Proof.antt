@@ -1,12 +1,11 @@
 -- As many turns as are left take from there to the same state.
 use mathlib.Core.Path.{_≡_, refl, sym, _∙_, ap}
-use mathlib.Core.Bool.{true, false}
 use native.Mathlib.Omega.{arith}
 use borrow.Author.Tests.{not-true, not-false}
 use Rattle.engine.specs.Sizes.{CELLS}
-use Rattle.engine.specs.HandingOut.{takeOf}
+use Rattle.engine.specs.Turns.{turn-on, turn-off, turn-out}
 use Rattle.replaying.specs.Taken.{no-message}
-use Rattle.replaying.specs.Taking.{isMessage, withoutReady, ready-step, ready-end}
+use Rattle.replaying.specs.Taking.{isMessage, hasMessage, afterMessage, withoutReady}
 use Rattle.replaying.proofs.taking.take_ready.Statement.{statement}
 use Rattle.replaying.proofs.taking.take_ready.Tie as tie
 
@@ -22,8 +21,7 @@ loop-holds c = refl
 returns : tie.Need-returns Inv-loop μ-loop
 returns c =
     let l = c .before .before .before .before .loop in
-    let none = no-message (l .out) (c .if1 .taken) in
-    sym (ready-step (l .out) (l .left) (c .before .before .before .loop-test .taken) ∙ simp none) ∙ l .inv
+    turn-off hasMessage afterMessage (l .left) (l .out) _ (l .inv) (no-message (l .out) (c .if1 .taken))
 
 take-requires : tie.Need-take-requires Inv-loop μ-loop
 take-requires c κs = tt
@@ -34,10 +32,8 @@ is-message-requires c κs = tt
 returns-2 : tie.Need-returns-2 Inv-loop μ-loop
 returns-2 c =
     let l = c .before .before .before .before .before .before .before .loop in
-    let refused : isMessage (takeOf (l .out) .answer) ≡ false =
-    sym (ap (λ r. isMessage (r .answer)) (c .before .before .take .ensures .0)) ∙ sym (c .before .is-message .ensures) ∙ not-true (c .before .is-message .result) (c .if2 .taken)
-    in
-    sym (ready-step (l .out) (l .left) (c .before .before .before .before .before .before .loop-test .taken) ∙ simp refused) ∙ l .inv
+    turn-off hasMessage afterMessage (l .left) (l .out) _ (l .inv)
+    (sym (ap (λ r. isMessage (r .answer)) (c .before .before .take .ensures .0)) ∙ sym (c .before .is-message .ensures) ∙ not-true (c .before .is-message .result) (c .if2 .taken))
 
 sub-left : tie.Need-sub-left Inv-loop μ-loop
 sub-left c = omega arith
@@ -48,13 +44,13 @@ loop-less c = omega arith
 loop-again : tie.Need-loop-again Inv-loop μ-loop
 loop-again c =
     let l = c .before .before .before .before .before .before .before .before .loop in
-    let taken : isMessage (takeOf (l .out) .answer) ≡ true =
-    sym (ap (λ r. isMessage (r .answer)) (c .before .before .before .take .ensures .0)) ∙ sym (c .before .before .is-message .ensures) ∙ not-false (c .before .before .is-message .result) (c .before .if2 .left)
-    in
-    simp (c .before .before .before .take .ensures .0) (sym (ready-step (l .out) (l .left) (c .before .before .before .before .before .before .before .loop-test .taken) ∙ simp taken) ∙ l .inv)
+    let took = c .before .before .before .take .ensures .0 in
+    simp took
+    (turn-on hasMessage afterMessage (l .left) (l .out) _ (l .inv) (c .before .before .before .before .before .before .before .loop-test .taken)
+    (sym (ap (λ r. isMessage (r .answer)) took) ∙ sym (c .before .before .is-message .ensures) ∙ not-false (c .before .before .is-message .result) (c .before .if2 .left)))
 
 returns-3 : tie.Need-returns-3 Inv-loop μ-loop
-returns-3 c = sym (ready-end (c .before .loop .out) (c .before .loop .left) (c .loop-test .left)) ∙ c .before .loop .inv
+returns-3 c = let l = c .before .loop in turn-out hasMessage afterMessage (l .left) (l .out) _ (l .inv) (c .loop-test .left)
 
 pub take-ready-spec : {M : Type 1} → statement M
 take-ready-spec =

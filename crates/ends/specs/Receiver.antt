@@ -1,0 +1,487 @@
+-- Whatever a call at a does, the invariant of what b sends to a is kept. Assumes nothing.
+use mathlib.Core.Path.{_≡_, refl, sym, ap, ap₂, subst, _∙_}
+use mathlib.Core.Bool.{true, false}
+use mathlib.Core.Logic.{_⊎_, inl, inr}
+use mathlib.Core.List.{List, [], _∷_, _++_, List·Memᴰ, List·Memᴰ·head, List·Memᴰ·tail, List·Memᴰ·cases-cons, List·Memᴰ·append-cases, List·Memᴰ·eq-of-singleton}
+use Prim.Native.Nat.{ℕ, _+_, _-_, _*_, _%_, _≤_, _<_}
+use native.Mathlib.Decide.{ℕ-discrete, decLt}
+use native.Mathlib.Omega.{arith}
+use lib.ListN.{length, getD, set, take, drop}
+use borrow.Author.Tests.{eq-eqb, ne-eqb, ltb-true}
+use borrow.Table.Steps.{cases}
+use Rattle.seq.specs.declared.Seq.{Seq}
+use Rattle.seq.specs.Numbers.{seqOf, plus, minus, before}
+use Rattle.seq.specs.Laws.{minus-ahead, before-counted, not-before-counted, cell-counted}
+use Rattle.msg.specs.declared.reliable.ReliableMsg.{ReliableMsg}
+use Rattle.refusal.specs.declared.verdict.Verdict.{Verdict}
+use Rattle.refusal.specs.declared.verdict.Verdict.the-variants as verdicts
+use Rattle.refusal.specs.Tests.{false-true, split}
+use Rattle.link.specs.Acks.{waiting, oldestAck, ackQueued, ackTaken}
+use Rattle.link.specs.Sizes.{ACKS}
+use Rattle.engine.specs.declared.state.Held.{Held}
+use Rattle.engine.specs.declared.state.Held.the-variants as helds
+use Rattle.engine.specs.declared.state.Receiving.{Receiving}
+use Rattle.engine.specs.declared.state.State.{State}
+use Rattle.engine.specs.declared.answer.Outcome.{Outcome}
+use Rattle.engine.specs.declared.answer.Outcome.the-variants as outcomes
+use Rattle.engine.specs.declared.handing_out.HandOut.{HandOut}
+use Rattle.engine.specs.declared.handing_out.HandOut.the-variants as handouts
+use Rattle.engine.specs.declared.handing_out.TakeAck.{TakeAck as AckAnswer}
+use Rattle.engine.specs.declared.handing_out.TakeAck.the-variants as acks
+use Rattle.engine.specs.Answer.{changedBy}
+use Rattle.engine.specs.Packets.{packets}
+use Rattle.engine.specs.Received.{noCell, isFull, isReadyKind, heldBytes}
+use Rattle.engine.specs.Decide.{sound-true}
+use Rattle.engine.specs.Sound.{cellAt, LengthWithin}
+use Rattle.engine.specs.Cells.{cellOf, nearOldest, isRepeat}
+use Rattle.engine.specs.Ring.{cells-apart, window-step}
+use Rattle.engine.specs.Gates.{timed-passed}
+use Rattle.engine.specs.Rows.{rowOf, row-of}
+use Rattle.engine.specs.Stores.{cellStart, copied}
+use Rattle.engine.specs.Receiving.{repeatedState, receivedState, receiveOf, ReceivePassed}
+use Rattle.engine.specs.HandingOut.{msgIn, dataLength, ready-cell, data-all, showVerdict, showingOf, partAs, shownOf, handOutBy, takenState, takeOf, Taking, ackIn, ackAs, ackAnswer, takeAckOf, TakeAckPassed}
+use Rattle.engine.specs.Sizes.{CELLS, SLOTS, DATA_BYTES, RECEIVED_BYTES}
+use Rattle.laws.specs.Good.{Good}
+use Rattle.laws.specs.Calls as calls
+use Rattle.laws.specs.Calls.{Holding, next, done}
+use Rattle.laws.specs.Passed.{next-keeps, answer-keeps, passed}
+use Rattle.laws.specs.CellEffects.{Passes, heldPast, heldBut, cell-count}
+use Rattle.laws.specs.RowAcks.{row-full}
+use Rattle.laws.specs.ReceiveKept.{received-passes}
+use Rattle.laws.specs.TakeKept.{taken-table-passes, ready-past}
+use Rattle.ends.specs.World.{Msg, Packet, World, swap, holds, written, AckFor, Brought, Timely, sendAt, resendAt, acceptedBy, receiveAt, outBy, takeAt, putAckBy, takeAckAt, Call, Other, Send, Resend, Receive, Acked, Take, TakeAck}
+use Rattle.ends.specs.Demand.{handed, IsAccepted, Labelled}
+use Rattle.ends.specs.Store.{cellBytes, copied-here, copied-there, copied-long}
+use Rattle.ends.specs.Inv.{at, TxI, Holds, RxI, Has, HasAt, LinkI, way, Inv}
+use Rattle.ends.specs.TxSteps.{tx-had}
+use Rattle.ends.specs.RxSteps.{handed-more, rx-ahead, rx-number, passes-rx, has-full, has-then, had-before, gone-unready}
+use Rattle.ends.specs.Left.{RxLeft, rx-kept, AcksLeft, other-left, resent-left, sent-rx, sent-acks, acked-rx, acked-acks-left, row-new, row-old, took-ack-left}
+use Rattle.ends.specs.Queued.{queued-waiting, taken-waiting}
+
+-- one more was accepted
+more : {n : ℕ} {ps : List Packet} (p : Packet) → AckFor n ps → AckFor n (p ∷ ps)
+more p x = record { message = x .message; member = List·Memᴰ·tail (x .member); numbered = x .numbered }
+
+module _ (W : World) (i : Inv (way (swap W))) (good : Good (W .a .state)) where
+  abbrev h : Holding
+  h = holds (W .a)
+
+  abbrev s : ℕ
+  s = W .start
+
+  abbrev G : List Msg
+  G = W .b .given
+
+  abbrev S : State
+  S = W .a .state
+
+  abbrev rx : Receiving
+  rx = W .a .state .rx
+
+  abbrev e : ℕ
+  e = i .e
+
+  abbrev o : ℕ
+  o = i .o
+
+  -- the world with what a call left of a
+  abbrev then : Holding → World
+  then k = written W k (W .a .given) (W .a .out) (W .a .accepted) (W .ab .msgs) (W .ab .acks)
+
+  -- the receiving half is left alone
+  pub still : (k : Holding) → RxLeft h k → AcksLeft h k → Inv (way (swap (then k)))
+  still k same fewer =
+      let three = rx-kept h k same
+      (λ x y c store. RxI CELLS s G x y c store e o × TxI s G (W .b .state .tx .«tx_seq» .0) (packets (W .b .state .tx)) (W .b .sent) e (Has CELLS s c e o) × LinkI s G (Has CELLS s c e o) (W .ba .msgs) (W .a .accepted))
+      (i .rxi, i .txi, i .links) in
+      record { e = e; o = o; small = i .small; txi = three .1; rxi = three .0; links = three .2; out-is = i .out-is; acked = i .acked; waits = λ slot seq m. i .waits slot seq (fewer slot seq m) }
+
+  -- ---- Receive
+
+  abbrev received-world : Outcome → Packet → Holding → World
+  received-world outcome p k = written W k (W .a .given) (W .a .out) (acceptedBy outcome (W .a .accepted) p) (W .ab .msgs) (W .ab .acks)
+
+  module _ (slot : ℕ) (p : Packet) (brought : Brought p (W .ba)) (timely : Timely (p .index) (W .b)) where
+    abbrev n : ℕ
+    n = p .number
+
+    abbrev x : ℕ
+    x = p .index
+
+    label : Labelled s G p
+    label = i .links .put p brought
+
+    -- the sending end is at most 64 ahead of the next expected number
+    few : length G ≤ e + CELLS
+    few = omega (arith, i .txi .tight, i .txi .room)
+
+    -- "A number before the next expected": the comparison of wrapped numbers tells old from new
+    old-is : before n (rx .«rx_seq» .0) ≡ true → x < e
+    old-is b = go (decLt x e)
+      where
+        go : Dec (x < e) → x < e
+        go (yes y) = y
+        go (no y) = false-true (sym (not-before-counted s x e (omega arith) (omega (arith, label .inside, few))) ∙ (rw (label .number-is, i .rxi .exp-is) at b))
+
+    new-is : before n (rx .«rx_seq» .0) ≡ false → e ≤ x
+    new-is b = go (decLt x e)
+      where
+        go : Dec (x < e) → e ≤ x
+        go (yes y) = false-true (sym b ∙ rw (label .number-is, i .rxi .exp-is) (before-counted s x e y (omega (arith, timely, i .rxi .en))))
+        go (no y) = omega arith
+
+    past : e ≤ x → minus n (rx .«rx_oldest» .0) ≡ x - o
+    past l = ap₂ (λ a b. minus a b) (label .number-is) (i .rxi .old-is) ∙ minus-ahead s x o (omega (arith, i .rxi .oe)) (omega (arith, label .inside, few, i .rxi .eo))
+
+    near-is : e ≤ x → nearOldest CELLS rx n ≡ true → x < o + CELLS
+    unfolding nearOldest
+    near-is l t = omega (arith, ltb-true (minus n (rx .«rx_oldest» .0)) CELLS t, past l, i .rxi .oe)
+
+    has-it : isRepeat CELLS rx n ≡ true → HasAt (way (swap W)) e o x
+    unfolding isRepeat
+    has-it t =
+        cases (before n (rx .«rx_seq» .0)) (λ b. inl (old-is b))
+        (λ b.
+        let both = split (nearOldest CELLS rx n) (isFull (cellOf CELLS rx n)) (simp b at t) in
+        let l = new-is b in
+        inr (l, near-is l (both .0), ap (λ m. isFull (cellOf CELLS rx m)) (sym (label .number-is)) ∙ both .1))
+
+    -- the ack that it queues is for itself
+    acks-then : (t : State) → slot < SLOTS → rowOf S slot .«ack_count» < ACKS → t .links ≡ set (S .links) slot (ackQueued (rowOf S slot) (seqOf n))
+        → (k : ℕ) (seq : Seq) → List·Memᴰ seq (waiting (rowOf t k)) → AckFor (seq .0) (p ∷ W .a .accepted)
+    acks-then t small room at k seq m = go (ℕ-discrete k slot)
+      where
+        queued : List·Memᴰ seq (waiting (rowOf S slot)) ⊎ List·Memᴰ seq (seqOf n ∷ []) → AckFor (seq .0) (p ∷ W .a .accepted)
+        queued (inl y) = more p (i .waits slot seq y)
+        queued (inr y) = record { message = p; member = List·Memᴰ·head refl; numbered = sym (ap (λ (q : Seq). q .0) (List·Memᴰ·eq-of-singleton y)) }
+
+        go : Dec (k ≡ slot) → AckFor (seq .0) (p ∷ W .a .accepted)
+        go (yes y) =
+            queued (List·Memᴰ·append-cases (waiting (rowOf S slot))
+            (rw (ap (λ j. waiting (rowOf t j)) y ∙ ap waiting (row-new S t slot _ (good .shaped .links-full) small at) ∙ queued-waiting (rowOf S slot) (row-full S slot (good .shaped)) (seqOf n) room) at m))
+        go (no y) = more p (i .waits k seq (rw (row-old S t slot _ (good .shaped .links-full) small at k y) at m))
+
+    -- ---- a repeat: it is accepted once more
+
+    again-inv : slot < SLOTS → rowOf S slot .«ack_count» < ACKS → isRepeat CELLS rx n ≡ true
+        → Inv (way (swap (received-world outcomes.Done p (record { state = repeatedState S slot n; sent = W .a .sent; received = W .a .received }))))
+    unfolding repeatedState
+    again-inv small room again = record {
+      e = e;
+      o = o;
+      small = i .small;
+      txi = i .txi;
+      rxi = i .rxi;
+      links = record {
+        put = i .links .put;
+        taken = λ q m. up q (List·Memᴰ·cases-cons m);
+        had = λ j l m. let old = i .links .had j l m in (old .0, List·Memᴰ·tail (old .1), old .2, old .3);
+      };
+      out-is = i .out-is;
+      acked = λ m y. more p (i .acked m y);
+      waits = acks-then (repeatedState S slot n) small room refl;
+    }
+      where
+        up : (q : Packet) → (q ≡ p) ⊎ List·Memᴰ q (W .a .accepted) → Labelled s G q × HasAt (way (swap W)) e o (q .index)
+        up q (inl z) = rw z (label, has-it again)
+        up q (inr m) = i .links .taken q m
+
+    -- ---- a new one: it is stored in its cell
+
+    module _ (ok : ReceivePassed S (length (W .a .received)) slot (p .msg .kind) n (length (p .msg .bytes))) (new : isRepeat CELLS rx n ≡ false) where
+      abbrev c : ℕ → Held
+      c = heldBut CELLS rx (minus n (rx .«rx_oldest» .0)) (helds.Message (p .msg .kind) (length (p .msg .bytes)))
+
+      abbrev rx′ : Receiving
+      rx′ = receivedState S slot (p .msg .kind) n (length (p .msg .bytes)) .rx
+
+      abbrev store′ : List ℕ
+      store′ = copied (W .a .received) (cellStart CELLS n) (p .msg .bytes)
+
+      passes : Passes CELLS rx rx′ c
+      passes = received-passes S good (length (W .a .received)) slot (p .msg .kind) n (length (p .msg .bytes)) ok new
+
+      ex : e ≤ x
+      unfolding isRepeat
+      ex = new-is (cases (before n (rx .«rx_seq» .0)) (λ b. false-true (sym new ∙ simp b)) (λ b. b))
+
+      xo : x < o + CELLS
+      xo = near-is ex (ok .new new .near)
+
+      offset : minus n (rx .«rx_oldest» .0) ≡ x - o
+      offset = past ex
+
+      -- its own cell, and every other
+      here : (k : ℕ) → o + k ≡ x → c k ≡ helds.Message (p .msg .kind) (length (p .msg .bytes))
+      here k q = rw (eq-eqb k (minus n (rx .«rx_oldest» .0)) (omega (arith, offset, q))) refl
+
+      there : (k : ℕ) → (o + k ≡ x → ⊥) → c k ≡ cellOf CELLS rx (plus s (o + k))
+      there k ne =
+          let no : k ≡ minus n (rx .«rx_oldest» .0) → ⊥ = λ q. ne (omega (arith, offset, q, i .rxi .oe, ex)) in
+          rw (ne-eqb k (minus n (rx .«rx_oldest» .0)) no) (ap (cellOf CELLS rx) (rx-number (i .rxi) k))
+
+      long : length (W .a .received) ≡ CELLS * DATA_BYTES
+      long = i .rxi .store-long
+
+      apart : (k : ℕ) → k < CELLS → plus s (o + k) % CELLS ≡ n % CELLS → o + k ≡ x
+      apart k l same =
+          let a : s + o + k ≡ s + (o + k) = omega arith in
+          let b : s + x ≡ s + o + (x - o) = omega (arith, ex, i .rxi .oe) in
+          let cells : (s + o + k) % CELLS ≡ (s + o + (x - o)) % CELLS =
+          ap (λ m. m % CELLS) a ∙ sym (cell-counted CELLS s (o + k) (cell-count .round)) ∙ same ∙ ap (λ m. m % CELLS) (label .number-is)
+          ∙ cell-counted CELLS s x (cell-count .round) ∙ ap (λ m. m % CELLS) b in
+          omega (arith, cells-apart CELLS (s + o) k (x - o) l (omega (arith, xo)) cells, ex, i .rxi .oe)
+
+      right : (k : ℕ) → k < CELLS → isFull (c k) ≡ true → (o + k < length G) × Holds CELLS s store′ (o + k) (c k) (at G (o + k))
+      right k l f = go (ℕ-discrete (o + k) x)
+        where
+          go : Dec (o + k ≡ x) → (o + k < length G) × Holds CELLS s store′ (o + k) (c k) (at G (o + k))
+          go (yes q) =
+              let msg : p .msg ≡ at G (o + k) = label .msg-is ∙ ap (at G) (sym q) in
+              let n-is : plus s (o + k) ≡ n = ap (plus s) q ∙ sym (label .number-is) in (
+                omega (arith, label .inside),
+                record {
+                  cell-is = here k q ∙ ap (λ (m : Msg). helds.Message (m .kind) (length (m .bytes))) msg;
+                  bytes-is = subst (λ (m : Msg). cellBytes CELLS store′ (plus s (o + k)) (length (m .bytes)) ≡ m .bytes) msg
+                      (rw n-is (copied-here CELLS (omega arith) (W .a .received) long n (p .msg .bytes) (ok .short)));
+                },
+              )
+          go (no ne) =
+              let old = i .rxi .held (o + k) (omega arith) (omega arith) (ap isFull (sym (there k ne)) ∙ f) in (
+                old .0,
+                record {
+                  cell-is = there k ne ∙ old .1 .cell-is;
+                  bytes-is = copied-there CELLS (omega arith) (W .a .received) long n (p .msg .bytes) (ok .short) (plus s (o + k)) (length (at G (o + k) .bytes)) (i .small (o + k) (old .0))
+                      (λ same. ne (apart k l same)) ∙ old .1 .bytes-is;
+                },
+              )
+
+      lawful : (k : ℕ) → 0 ≤ k → o + k < e → isFull (c k) ≡ isReadyKind (at G (o + k) .kind)
+      lawful k z l = ap isFull (there k (λ q. omega (arith, ex))) ∙ i .rxi .ready (o + k) (omega arith) l
+
+      grows : (k : ℕ) → e ≤ o + k → k < CELLS → isFull (cellOf CELLS rx (plus s (o + k))) ≡ true → isFull (c k) ≡ true
+      grows k l u f =
+          elim (ℕ-discrete (o + k) x) [
+            | yes q ↦ ap isFull (here k q)
+            | no ne ↦ ap isFull (there k ne) ∙ f
+          ]
+
+      was : (k : ℕ) → e ≤ o + k → k < CELLS → isFull (c k) ≡ true → (isFull (cellOf CELLS rx (plus s (o + k))) ≡ true) ⊎ (o + k ≡ x)
+      was k l u f =
+          elim (ℕ-discrete (o + k) x) [
+            | yes q ↦ inr q
+            | no ne ↦ inl (ap isFull (sym (there k ne)) ∙ f)
+          ]
+
+      abbrev e′ : ℕ
+      e′ = e + passes .passed
+
+      abbrev o′ : ℕ
+      o′ = o + passes .gone
+
+      abbrev H′ : ℕ → Type 0
+      H′ = Has CELLS s (cellOf CELLS rx′) e′ o′
+
+      has-new : H′ x
+      has-new =
+          let q : o + (x - o) ≡ x = omega (arith, ex, i .rxi .oe) in
+          subst H′ q (has-full CELLS cell-count s G rx rx′ (W .a .received) store′ e o (i .rxi) c passes (copied-long CELLS (omega arith) (W .a .received) long n (p .msg .bytes) (ok .short)) 0 (omega arith) right lawful
+          (x - o) (omega (arith, ex, q)) (omega (arith, xo)) (ap isFull (here (x - o) q)))
+
+      new-inv : Inv (way (swap (received-world outcomes.Done p (record { state = receivedState S slot (p .msg .kind) n (length (p .msg .bytes)); sent = W .a .sent; received = store′ }))))
+      unfolding receivedState
+      new-inv =
+          let wide = copied-long CELLS (omega arith) (W .a .received) long n (p .msg .bytes) (ok .short) in
+          let mono = has-then CELLS cell-count s G rx rx′ (W .a .received) store′ e o (i .rxi) c passes wide 0 (omega arith) right lawful grows in
+          let back = had-before CELLS cell-count s G rx rx′ (W .a .received) store′ e o (i .rxi) c passes wide 0 (omega arith) right lawful (λ j. j ≡ x) was in
+          let unready = gone-unready CELLS cell-count s G rx rx′ (W .a .received) store′ e o (i .rxi) c passes wide 0 (omega arith) right lawful in
+          let zero : o + 0 ≡ o = omega arith in
+          record {
+            e = e′;
+            o = o′;
+            small = i .small;
+            txi = tx-had s G _ _ (W .b .sent) e _ (i .txi) e′ H′ (omega arith) mono;
+            rxi = passes-rx CELLS cell-count s G rx rx′ (W .a .received) store′ e o (i .rxi) c passes wide 0 (omega arith) right lawful;
+            links = record {
+              put = i .links .put;
+              taken = λ q m. up mono q (List·Memᴰ·cases-cons m);
+              had = λ j l m. acc j l (back j m);
+            };
+            out-is = i .out-is ∙ sym (unready ∙ ap (λ m. handed (take m G)) zero);
+            acked = λ m y. more p (i .acked m y);
+            waits = acks-then (receivedState S slot (p .msg .kind) n (length (p .msg .bytes))) (ok .at .small) (ok .room) refl;
+          }
+        where
+          up : ((j : ℕ) → HasAt (way (swap W)) e o j → H′ j) → (q : Packet) → (q ≡ p) ⊎ List·Memᴰ q (W .a .accepted) → Labelled s G q × H′ (q .index)
+          up mono q (inl z) = rw z (label, has-new)
+          up mono q (inr m) = let old = i .links .taken q m in (old .0, mono (q .index) (old .1))
+
+          acc : (j : ℕ) → j < length G → HasAt (way (swap W)) e o j ⊎ (j ≡ x) → IsAccepted (p ∷ W .a .accepted) G j
+          acc j l (inl y) = let old = i .links .had j l y in (old .0, List·Memᴰ·tail (old .1), old .2, old .3)
+          acc j l (inr y) = (p, List·Memᴰ·head refl, sym y, label .msg-is ∙ ap (at G) (sym y))
+
+  -- ---- taking a message
+
+  abbrev taken-world : HandOut → Holding → World
+  taken-world answer k = written W k (W .a .given) (outBy answer (W .a .out) (shownOf S (W .a .received))) (W .a .accepted) (W .ab .msgs) (W .ab .acks)
+
+  module _ (msg : ReliableMsg) (seq : Seq) (len : ℕ) (ok : Taking S msg seq len) where
+    abbrev c₂ : ℕ → Held
+    c₂ = heldBut CELLS rx 0 helds.Nothing
+
+    abbrev rx₂ : Receiving
+    rx₂ = takenState S (dataLength msg len) .rx
+
+    passes₂ : Passes CELLS rx rx₂ c₂
+    passes₂ = taken-table-passes S good msg seq len ok
+
+    oe : o < e
+    oe = omega (arith, rx-ahead (i .rxi) (omega arith), ready-past S good msg seq len ok)
+
+    -- the oldest message is message o
+    first : cellOf CELLS rx (plus s o) ≡ helds.Message msg len
+    first = ap (cellOf CELLS rx) (sym (i .rxi .old-is)) ∙ ready-cell CELLS rx msg len (ok .ready)
+
+    holds-o : (o < length G) × Holds CELLS s (W .a .received) o (cellOf CELLS rx (plus s o)) (at G o)
+    holds-o = i .rxi .held o (omega arith) (omega arith) (ap isFull first)
+
+    is-first : helds.Message msg len ≡ helds.Message (at G o .kind) (length (at G o .bytes))
+    is-first = sym first ∙ holds-o .1 .cell-is
+
+    kind-is : msg ≡ at G o .kind
+    kind-is = let z = is-first in cc
+
+    len-is : len ≡ length (at G o .bytes)
+    len-is = let z = is-first in cc
+
+    ready-o : isReadyKind (at G o .kind) ≡ true
+    ready-o = sym (i .rxi .ready o (omega arith) oe) ∙ ap isFull first
+
+    -- "the part of the received store that holds its bytes"
+    shown : shownOf S (W .a .received) ≡ at G o .bytes
+    unfolding shownOf showingOf showVerdict handOutBy cellOf
+    shown =
+        let oldest : cellAt S 0 ≡ cellOf CELLS rx (rx .«rx_oldest» .0) =
+        ap (λ cs. getD cs 0 noCell .held) (window-step CELLS noCell (rx .«rxed_reliable») (rx .«rx_oldest» .0 % CELLS) CELLS (omega arith)) in
+        let fits : LengthWithin (helds.Message msg len) = rw (oldest ∙ ready-cell CELLS rx msg len (ok .ready)) at (good .sound .cell-length 0 (omega arith)) in
+        let pass : showVerdict S (length (W .a .received)) ≡ verdicts.Pass =
+        simp (sound-true S (good .sound), eq-eqb (length (W .a .received)) RECEIVED_BYTES (i .rxi .store-long), ap isFull (ok .ready)) in
+        ap (λ (v : Verdict). partAs (handOutBy v rx) (W .a .received)) pass
+        ∙ ap (λ (t : Held). partAs (handouts.Message (msgIn t) (rx .«rx_oldest») (heldBytes t)) (W .a .received)) (ok .ready)
+        ∙ ap (λ (k : ℕ). take k (drop (cellStart CELLS (rx .«rx_oldest» .0)) (W .a .received))) (data-all msg len (ap isReadyKind kind-is ∙ ready-o) fits ∙ len-is)
+        ∙ ap (λ m. cellBytes CELLS (W .a .received) m (length (at G o .bytes))) (i .rxi .old-is) ∙ holds-o .1 .bytes-is
+
+    other : (k : ℕ) → 0 < k → c₂ k ≡ cellOf CELLS rx (plus s (o + k))
+    other k l = rw (ne-eqb k 0 (λ q. omega arith)) (ap (cellOf CELLS rx) (rx-number (i .rxi) k))
+
+    -- a cell that is full then isn't the emptied one
+    past-0 : (k : ℕ) → isFull (c₂ k) ≡ true → 0 < k
+    past-0 k f = go (ℕ-discrete k 0)
+      where
+        go : Dec (k ≡ 0) → 0 < k
+        go (yes q) = false-true (sym (ap (λ j. isFull (c₂ j)) q) ∙ f)
+        go (no ne) = omega arith
+
+    some-gone : 1 ≤ passes₂ .gone
+    some-gone = go (ℕ-discrete (passes₂ .gone) 0)
+      where
+        go : Dec (passes₂ .gone ≡ 0) → 1 ≤ passes₂ .gone
+        go (yes q) =
+            let past = ready-past S good msg seq len ok in
+            false-true (sym (ap isFull (passes₂ .ready-were 0 past))
+            ∙ subst (λ (k : ℕ). isFull (heldPast CELLS rx₂ (rx .«rx_oldest» .0) k) ≡ true) q (passes₂ .stands (omega (arith, past))))
+        go (no ne) = omega arith
+
+    right₂ : (k : ℕ) → k < CELLS → isFull (c₂ k) ≡ true → (o + k < length G) × Holds CELLS s (W .a .received) (o + k) (c₂ k) (at G (o + k))
+    right₂ k l f = let same = other k (past-0 k f) in rw same (i .rxi .held (o + k) (omega arith) (omega arith) (ap isFull (sym same) ∙ f))
+
+    lawful₂ : (k : ℕ) → 1 ≤ k → o + k < e → isFull (c₂ k) ≡ isReadyKind (at G (o + k) .kind)
+    lawful₂ k l u = ap isFull (other k l) ∙ i .rxi .ready (o + k) (omega arith) u
+
+    take-inv : Inv (way (swap (taken-world (handouts.Message msg seq len) (calls.withState h (takenState S (dataLength msg len))))))
+    unfolding takenState rowOf
+    take-inv =
+        let long = i .rxi .store-long in
+        let grows : (k : ℕ) → e ≤ o + k → k < CELLS → isFull (cellOf CELLS rx (plus s (o + k))) ≡ true → isFull (c₂ k) ≡ true = λ k l u f. ap isFull (other k (omega (arith, oe))) ∙ f in
+        let mono = has-then CELLS cell-count s G rx rx₂ (W .a .received) (W .a .received) e o (i .rxi) c₂ passes₂ long 1 some-gone right₂ lawful₂ grows in
+        let back = had-before CELLS cell-count s G rx rx₂ (W .a .received) (W .a .received) e o (i .rxi) c₂ passes₂ long 1 some-gone right₂ lawful₂ (λ j. ⊥)
+        (λ k l u f. inl (ap isFull (sym (other k (omega (arith, oe)))) ∙ f)) in
+        let unready = gone-unready CELLS cell-count s G rx rx₂ (W .a .received) (W .a .received) e o (i .rxi) c₂ passes₂ long 1 some-gone right₂ lawful₂ in
+        record {
+          e = e + passes₂ .passed;
+          o = o + passes₂ .gone;
+          small = i .small;
+          txi = tx-had s G _ _ (W .b .sent) e _ (i .txi) (e + passes₂ .passed) _ (omega arith) mono;
+          rxi = passes-rx CELLS cell-count s G rx rx₂ (W .a .received) (W .a .received) e o (i .rxi) c₂ passes₂ long 1 some-gone right₂ lawful₂;
+          links = record {
+            put = i .links .put;
+            taken = λ q m. let old = i .links .taken q m in (old .0, mono (q .index) (old .1));
+            had = λ j l m. acc j l (back j m);
+          };
+          out-is = (λ d. i .out-is d ++ (record { kind = kind-is d; bytes = shown d } ∷ [])) ∙ sym (unready ∙ handed-more G o (holds-o .0) ready-o);
+          acked = i .acked;
+          waits = i .waits;
+        }
+      where
+        acc : (j : ℕ) → j < length G → HasAt (way (swap W)) e o j ⊎ ⊥ → IsAccepted (W .a .accepted) G j
+        acc j l (inl y) = i .links .had j l y
+        acc j l (inr y) = absurd y
+
+  -- ---- taking an ack: it was waiting
+
+  abbrev acked-world : AckAnswer → Holding → World
+  acked-world answer k = written W k (W .a .given) (W .a .out) (W .a .accepted) (W .ab .msgs) (putAckBy answer (W .ab .acks))
+
+  take-ack-inv : (slot : ℕ) → TakeAckPassed S slot → Inv (way (swap (acked-world (acks.Number (ackIn (oldestAck (rowOf S slot)))) (done (calls.TakeAck slot) h))))
+  take-ack-inv slot ok =
+      let r = rowOf S slot in
+      let count : r .«ack_count» ≤ ACKS = rw (row-of S slot (ok .at .small)) (good .sound .ack-count slot (ok .at .small) (ok .at .live)) in
+      let queue : waiting r ≡ ackIn (oldestAck r) ∷ waiting (ackTaken r) = taken-waiting r (row-full S slot (good .shaped)) (ok .waits) count in
+      let all = took-ack-left h good slot (ok .at .small) (λ q m. rw queue (List·Memᴰ·tail m)) in
+      let base = still (done (calls.TakeAck slot) h) (all .rx) (all .acks) in
+      record {
+        e = base .e;
+        o = base .o;
+        small = base .small;
+        txi = base .txi;
+        rxi = base .rxi;
+        links = base .links;
+        out-is = base .out-is;
+        acked = λ n m. wire (i .waits slot (ackIn (oldestAck r)) (rw queue (List·Memᴰ·head refl))) n (List·Memᴰ·cases-cons m);
+        waits = base .waits;
+      }
+    where
+      wire : {first : ℕ} → AckFor first (W .a .accepted) → (n : ℕ) → (n ≡ first) ⊎ List·Memᴰ n (W .ab .acks) → AckFor n (W .a .accepted)
+      wire x n (inl z) = rw z x
+      wire x n (inr m) = i .acked n m
+
+  -- ---- every call
+
+  pub receiver : {X : World} → Call W X → Inv (way (swap X))
+  unfolding sendAt resendAt receiveAt receiveOf takeAt handOutBy takeOf takeAckAt ackAnswer takeAckOf
+  receiver (Other c u typed) = let all = other-left h good c u typed in still (next c h) (all .rx) (all .acks)
+  receiver (Send slot time m) =
+      let c = calls.Send slot time (m .kind) (m .bytes) in
+      next-keeps c h (λ k. Inv (way (swap (then k)))) i
+      (λ q. still (done c h) (sent-rx h good slot time (m .kind) (m .bytes)) (sent-acks h good slot time (m .kind) (m .bytes) (passed c h tt good q .timed .at .small)))
+  receiver (Resend slot time n number) =
+      let c = calls.Resend slot time n in
+      next-keeps c h (λ k. Inv (way (swap (then k)))) i
+      (λ q. let all = resent-left h good slot time n number (passed c h number good q) in still (done c h) (all .rx) (all .acks))
+  receiver (Receive slot p brought timely) =
+      let c = calls.Receive slot (p .msg .kind) (p .number) (p .msg .bytes) in
+      answer-keeps c h (λ v. changedBy v S (done c h .state) .outcome) (λ a k. Inv (way (swap (received-world a p k))))
+      (λ q.
+      let ok = passed c h tt good q in
+      cases (isRepeat CELLS rx (p .number))
+      (λ t. simp t (again-inv slot p brought timely (ok .at .small) (ok .room) t))
+      (λ t. simp t (new-inv slot p brought timely ok t)))
+      (λ r. i)
+  receiver (Acked slot time n brought timely) =
+      let c = calls.Ack slot time n in
+      next-keeps c h (λ k. Inv (way (swap (then k)))) i
+      (λ q. still (done c h) (acked-rx h good slot time n) (acked-acks-left h good slot time n (timed-passed S slot time verdicts.Pass q .0 .at .small)))
+  receiver Take = answer-keeps calls.Take h (λ v. handOutBy v rx) (λ a k. Inv (way (swap (taken-world a k)))) (λ q. take-inv _ _ _ (passed calls.Take h tt good q)) (λ r. i)
+  receiver (TakeAck slot) =
+      let c = calls.TakeAck slot in
+      answer-keeps c h (λ v. ackAs v (oldestAck (rowOf S slot))) (λ a k. Inv (way (swap (acked-world a k)))) (λ q. take-ack-inv slot (passed c h tt good q)) (λ r. i)
