@@ -1,4 +1,5 @@
--- What a call leaves of what demand 3 speaks of. Most calls change statuses of packets and no more; none but Receive adds a waiting ack. Assumes nothing.
+-- What a call leaves of what demand 3 speaks of. Most calls change statuses of packets and no more; none but Receive adds a waiting ack. And every call of the
+-- list is one of the world's. Assumes nothing.
 use mathlib.Core.Path.{_≡_, refl, sym, ap, subst, _∙_}
 use mathlib.Core.Bool.{true, false}
 use mathlib.Core.List.{List, [], _∷_, map, List·Memᴰ, List·Memᴰ·not-nil}
@@ -49,6 +50,7 @@ use Rattle.laws.specs.Calls.{Holding, withState, next, done, verdict}
 use Rattle.laws.specs.Passed.{next-keeps, passed}
 use Rattle.laws.specs.PacketsKept.{packets-count}
 use Rattle.laws.specs.PacketEffects.{restated, changeAt, resentStatus, unconfirmed-packets, flushed-packets, resent-packets}
+use Rattle.ends.specs.World.{Msg, Packet, World, holds, called, sendAt, resendAt, receiveAt, takeAt, takeAckAt, Brought, BroughtAck, Timely, TimelyAck, Call, Other, Send, Resend, Receive, Acked, Take, TakeAck}
 use Rattle.laws.specs.RowAcks.{SameAcks, confirm-acks, block-acks, mark-acks, ping-acks, pong-acks, unconfirm-acks, unacked-acks, resent-acks, acked-acks}
 
 -- every packet stays, with another status perhaps, and no other is Received
@@ -321,3 +323,47 @@ module _ (h : Holding) (good : Good (h .state)) where
   other-left calls.Due u t = left-same h
   other-left (calls.TakeAck slot) u t = absurd u
   other-left (calls.EarliestConfirmTimeout timeout unreliable) u t = left-same h
+
+-- ---- "whatever calls are made or refused": each call of the list is one of the world's, Receive and ack where a link brings in time what they are given, and
+-- what it leaves is `next`
+
+pub record Made (W : World) (c : calls.Call) : Type 0 where
+  pub world : World
+  pub call : Call W world
+  pub leaves : holds (world .a) ≡ next c (holds (W .a))
+
+module _ (W : World) (c : calls.Call) where
+  abbrev pub Arrives : Type 0
+  Arrives = (slot : ℕ) (msg : ReliableMsg) (n : ℕ) (bytes : List ℕ) → c ≡ calls.Receive slot msg n bytes
+      → (p : Packet) × (c ≡ calls.Receive slot (p .msg .kind) (p .number) (p .msg .bytes)) × Brought p (W .ba) × Timely (p .index) (W .b)
+
+  abbrev pub ArrivesAck : Type 0
+  ArrivesAck = (slot time n : ℕ) → c ≡ calls.Ack slot time n → BroughtAck n (W .ba) × TimelyAck n (W .a) (W .b)
+
+  other-made : calls.Unnoted c → calls.Typed c → Made W c
+  other-made u t = record { world = called W c; call = Other c u t; leaves = refl }
+
+pub every-call : (W : World) (c : calls.Call) → calls.Typed c → Arrives W c → ArrivesAck W c → Made W c
+unfolding sendAt resendAt receiveAt takeAt takeAckAt
+every-call W (calls.Add id roundtrip max blocked unconfirmed) t m a = other-made W _ tt t
+every-call W (calls.Remove slot) t m a = other-made W _ tt t
+every-call W (calls.Confirm slot) t m a = other-made W _ tt t
+every-call W (calls.Unconfirm slot) t m a = other-made W _ tt t
+every-call W (calls.Block slot blocked) t m a = other-made W _ tt t
+every-call W (calls.Mark slot seq) t m a = other-made W _ tt t
+every-call W (calls.Ping slot time) t m a = other-made W _ tt t
+every-call W (calls.Pong slot time) t m a = other-made W _ tt t
+every-call W (calls.Flush slot time) t m a = other-made W _ tt t
+every-call W (calls.Send slot time msg bytes) t m a = let p : Msg = record { kind = msg; bytes = bytes } in record { world = sendAt W slot time p; call = Send slot time p; leaves = refl }
+every-call W (calls.Resend slot time n) t m a = record { world = resendAt W slot time n; call = Resend slot time n t; leaves = refl }
+every-call W (calls.Ack slot time n) t m a =
+    let b = a slot time n refl in
+    record { world = called W (calls.Ack slot time n); call = Acked slot time n (b .0) (b .1); leaves = refl }
+every-call W (calls.Receive slot msg n bytes) t m a =
+    let b = m slot msg n bytes refl in
+    record { world = receiveAt W slot (b .0); call = Receive slot (b .0) (b .2) (b .3); leaves = ap (λ c. next c (holds (W .a))) (sym (b .1)) }
+every-call W calls.Show t m a = other-made W _ tt t
+every-call W calls.Take t m a = record { world = takeAt W; call = Take; leaves = refl }
+every-call W calls.Due t m a = other-made W _ tt t
+every-call W (calls.TakeAck slot) t m a = record { world = takeAckAt W slot; call = TakeAck slot; leaves = refl }
+every-call W (calls.EarliestConfirmTimeout timeout unreliable) t m a = other-made W _ tt t

@@ -24,7 +24,7 @@ use Rattle.engine.specs.declared.state.State.{State}
 use Rattle.engine.specs.Ring.{cells-apart, window, window-at, window-length, nextCell, next-cell-lt, past-next}
 use Rattle.engine.specs.Turns.{turns-keep}
 use Rattle.engine.specs.Received.{noCell, expectedAt, isFull, isReadyKind, cellView, heldBytes, bytesIn}
-use Rattle.engine.specs.Cells.{cellOf, nearOldest, isRepeat, keptOf, advanced, withCell, canAdvance, passedOver}
+use Rattle.engine.specs.Cells.{cellOf, nearOldest, keptOf, advanced, withCell, canAdvance, passedOver}
 use Rattle.engine.specs.DecidedTables.{plus-zero, length-none}
 use Rattle.engine.specs.Fields.{withBytes, withCells, withParts, withEnds, withTotals}
 use Rattle.engine.specs.HandingOut.{takenRx, canSkip, passedBy, skipped}
@@ -370,10 +370,10 @@ module _ (N : ℕ) (count : CellCount N) (old : Receiving) (table : Table N old)
   -- ---- the calls
 
   -- "is stored .. Then consecutive messages advance the next expected number"; and the oldest ready message is taken
-  pub stored-passes : (msg : ReliableMsg) (n len : ℕ) → isRepeat N old n ≡ false → nearOldest N old n ≡ true
+  pub stored-passes : (msg : ReliableMsg) (n len : ℕ) → nearOldest N old n ≡ true
       → Passes N old (storedIn N old msg n len) (heldBut N old (minus n (old .«rx_oldest» .0)) (Message msg len))
   unfolding nearOldest cellOf
-  stored-passes msg n len new close =
+  stored-passes msg n len close =
       let c = heldBut N old (minus n o) (Message msg len) in
       let start = changed n (minus n o) (Message msg len) (old .«rxed_reliable_size» + len) (old .«rxed_reliable_consumed»)
       (number-cell N count n o (table .oldest-u32)) (ltb-true (minus n o) N close) in

@@ -7,30 +7,28 @@ use Rattle.refusal.specs.declared.Refusal.{Refusal}
 use Rattle.refusal.specs.declared.verdict.Verdict.{Verdict}
 use Rattle.refusal.specs.Refusals.{numberOf}
 use Rattle.link.specs.declared.row.Limit.the-variants.{At}
-use Rattle.link.specs.Row.{freshRow, confirmed, blockedRow}
-use Rattle.link.specs.Limit.{markedRow}
-use Rattle.link.specs.Roundtrip.{pinged, ponged}
+use Rattle.link.specs.Row.{freshRow}
 use Rattle.link.specs.Acks.{oldestAck}
 use Rattle.link.specs.declared.timeout.AckTimeout.{AckTimeout}
 use Rattle.engine.specs.declared.state.State.{State}
 use Rattle.engine.specs.declared.deadlines.FirstSent.{FirstSent}
 use Rattle.engine.specs.Answer.{outcomeTold, changedBy}
-use Rattle.engine.specs.Gates.{slotVerdict, timedVerdict, slot-passed, timed-passed}
+use Rattle.engine.specs.Gates.{slot-passed, timed-passed}
 use Rattle.engine.specs.Rows.{rowOf}
 use Rattle.engine.specs.Stores.{cellStart, copied, storeBy}
 use Rattle.engine.specs.Packets.{packets}
 use Rattle.engine.specs.Links.{addOf, addTold, addedBy, addVerdict, lowestIn, confirmOf, blockOf, markOf, pingOf, pongOf, add-passed}
-use Rattle.engine.specs.Unconfirming.{unconfirmedState, removedState, unconfirmOf, removeOf}
+use Rattle.engine.specs.Unconfirming.{unconfirmOf, removeOf}
 use Rattle.engine.specs.Sending.{sendOf, sendStore, sendTold, sentBy, sendVerdict, sentState, send-passed}
-use Rattle.engine.specs.Flushing.{flushOf, flushedState}
+use Rattle.engine.specs.Flushing.{flushOf}
 use Rattle.engine.specs.Resending.{resendOf, resendTold, resentBy, resendVerdict, resentState, resend-passed}
-use Rattle.engine.specs.Acking.{ackOf, ackedState}
+use Rattle.engine.specs.Acking.{ackOf}
 use Rattle.engine.specs.Cells.{isRepeat}
 use Rattle.engine.specs.Receiving.{receiveOf, receiveStore, receiveVerdict, receive-passed}
 use Rattle.engine.specs.HandingOut.{handOutTold, handOutBy, showVerdict, showingOf, takeVerdict, takenBy, takeOf, taking, takeAckVerdict, takeAckTold, ackAs, ackAnswer, takenAckBy, takeAckOf, take-ack-passed, dueVerdict, dueBy, dueTold, dueOf}
 use Rattle.engine.specs.Deadlines.{firstSent, namedBy, confirmTimeoutVerdict, confirmTimeoutBy, confirmTimeoutTold, earliestConfirmTimeoutOf}
 use Rattle.engine.specs.Sizes.{CELLS, PACKETS}
-use Rattle.engine.specs.Fields.{withRow, withTime}
+use Rattle.engine.specs.Fields.{withRow}
 use Rattle.laws.specs.Good.{Good}
 use Rattle.laws.specs.Calls.{Call, Add, Remove, Confirm, Unconfirm, Block, Mark, Ping, Pong, Flush, Send, Resend, Ack, Receive, Show, Take, Due, TakeAck, EarliestConfirmTimeout, Holding, withState, number, next, Typed, verdict, done, Passed}
 use borrow.Table.Steps.{cases}
@@ -74,14 +72,14 @@ judged (Add id roundtrip max blocked unconfirmed) h =
     let s = h .state in
     let after = withRow s (lowestIn s) (freshRow id roundtrip max blocked unconfirmed) in
     by (addVerdict s id roundtrip max) (λ v. addTold (addedBy v (lowestIn s) s after .answer) .number) (λ v. withState h (addedBy v (lowestIn s) s after .state)) refl (λ e. refl) refl (λ e. refl)
-judged (Remove slot) h = by-changed h (slotVerdict (h .state) slot) (removedState (h .state) slot)
-judged (Confirm slot) h = by-changed h (slotVerdict (h .state) slot) (withRow (h .state) slot (confirmed (rowOf (h .state) slot)))
-judged (Unconfirm slot) h = by-changed h (slotVerdict (h .state) slot) (unconfirmedState (h .state) slot)
-judged (Block slot blocked) h = by-changed h (slotVerdict (h .state) slot) (withRow (h .state) slot (blockedRow (rowOf (h .state) slot) blocked))
-judged (Mark slot seq) h = by-changed h (slotVerdict (h .state) slot) (withRow (h .state) slot (markedRow (rowOf (h .state) slot) (At seq)))
-judged (Ping slot time) h = by-changed h (timedVerdict (h .state) slot time verdicts.Pass) (withTime (withRow (h .state) slot (pinged (rowOf (h .state) slot) time)) time)
-judged (Pong slot time) h = by-changed h (timedVerdict (h .state) slot time verdicts.Pass) (withTime (withRow (h .state) slot (ponged (rowOf (h .state) slot) time)) time)
-judged (Flush slot time) h = by-changed h (timedVerdict (h .state) slot time verdicts.Pass) (flushedState (h .state) slot time)
+judged (Remove slot) h = let c = Remove slot in by-changed h (verdict c h) (done c h .state)
+judged (Confirm slot) h = let c = Confirm slot in by-changed h (verdict c h) (done c h .state)
+judged (Unconfirm slot) h = let c = Unconfirm slot in by-changed h (verdict c h) (done c h .state)
+judged (Block slot blocked) h = let c = Block slot blocked in by-changed h (verdict c h) (done c h .state)
+judged (Mark slot seq) h = let c = Mark slot seq in by-changed h (verdict c h) (done c h .state)
+judged (Ping slot time) h = let c = Ping slot time in by-changed h (verdict c h) (done c h .state)
+judged (Pong slot time) h = let c = Pong slot time in by-changed h (verdict c h) (done c h .state)
+judged (Flush slot time) h = let c = Flush slot time in by-changed h (verdict c h) (done c h .state)
 judged (Send slot time msg bytes) h =
     let s = h .state in
     let after = sentState s slot time msg (length bytes) in
@@ -92,7 +90,7 @@ judged (Resend slot time n) h =
     let s = h .state in
     let after = resentState s slot time n in
     by (resendVerdict s slot time n) (λ v. resendTold (resentBy v s n after .answer) .number) (λ v. withState h (resentBy v s n after .state)) refl (λ e. refl) refl (λ e. refl)
-judged (Ack slot time n) h = by-changed h (timedVerdict (h .state) slot time verdicts.Pass) (ackedState (h .state) slot time n)
+judged (Ack slot time n) h = let c = Ack slot time n in by-changed h (verdict c h) (done c h .state)
 judged (Receive slot msg n bytes) h =
     let s = h .state in
     let after = done (Receive slot msg n bytes) h in

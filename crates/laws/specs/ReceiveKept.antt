@@ -38,7 +38,7 @@ module _ (s : State) (good : Good s) (store slot : ℕ) (msg : ReliableMsg) (n l
   -- what the advance does
   pub received-passes : Passes CELLS (s .rx) (receivedState s slot msg n len .rx) (heldBut CELLS (s .rx) (minus n (s .rx .«rx_oldest» .0)) (Message msg len))
   unfolding receivedState storedRx
-  received-passes = stored-passes CELLS cell-count (s .rx) (table-of s good) msg n len new (passed .new new .near)
+  received-passes = stored-passes CELLS cell-count (s .rx) (table-of s good) msg n len (passed .new new .near)
 
   -- its cell was empty, and no ready message's
   was-empty : (heldBytes (heldPast CELLS (s .rx) (s .rx .«rx_oldest» .0) (minus n (s .rx .«rx_oldest» .0))) ≡ 0)
