@@ -91,13 +91,14 @@ class Difference:
 
 
 class Tally:
-    """What was run: calls by name, accepted ones, refusals by number, and what the accepted deadlines met, as the model saw it."""
+    """What was run: calls by name, accepted ones, refusals by number, and what the accepted deadlines and questions for a Consumed met, as the model saw it."""
 
     def __init__(self):
         self.calls = collections.Counter()
         self.accepted = collections.Counter()
         self.refusals = collections.Counter()
         self.deadlines = collections.Counter()
+        self.dues = collections.Counter()
 
     def add(self, lines, answers):
         for line, answer in zip(lines, answers):
@@ -116,17 +117,19 @@ class Tally:
         self.accepted.update(other.accepted)
         self.refusals.update(other.refusals)
         self.deadlines.update(other.deadlines)
+        self.dues.update(other.dues)
 
     def __str__(self):
         accepted = sum(self.accepted.values())
         numbers = sorted(self.refusals, key=lambda word: (not word.isdigit(), int(word) if word.isdigit() else 0))
-        return "%d calls, %d accepted, %d of these dumps\naccepted: %s\nrefused: %s\ndeadlines: %s" % (
+        return "%d calls, %d accepted, %d of these dumps\naccepted: %s\nrefused: %s\ndeadlines: %s\ndues: %s" % (
             sum(self.calls.values()),
             accepted,
             self.accepted["dump"],
             ", ".join("%s %d" % item for item in sorted(self.accepted.items())),
             ", ".join("%s: %d" % (word, self.refusals[word]) for word in numbers),
             ", ".join("%s: %d" % item for item in self.deadlines.items()) or "none",
+            ", ".join("%s: %d" % item for item in self.dues.items()) or "none",
         )
 
 
@@ -139,6 +142,7 @@ def compare(sides, seeds, calls, mode="near"):
     tally.add(lines, port)
     for one in scripts:
         tally.deadlines.update(one.deadlines)
+        tally.dues.update(one.dues)
     differences = []
     at = 0
     for seed, one in zip(seeds, scripts):

@@ -54,7 +54,7 @@ MOODS = {
     "both": {"send": 20, "ack": 20, "receive": 20, "take": 10, "takeack": 10, "flush": 4, "deadline": 16},
     "arrive": {"receive": 60, "show": 2, "take": 4, "takeack": 2, "pile": 1.3},
     "window": {"receive_edge": 40, "receive": 20, "take": 8, "takeack": 6},
-    "hand out": {"take": 40, "takeack": 40, "receive": 10, "due": 6, "send_consumed": 8, "tenth": 2},
+    "hand out": {"take": 40, "takeack": 40, "receive": 10, "due": 6, "close": 4, "send_consumed": 8, "tenth": 2},
     "repeat": {"receive_again": 40, "takeack": 20, "receive": 10, "pile": 1.3},
     "links": {"add": 14, "remove": 10, "unconfirm": 12, "confirm": 8, "block": 6, "resend": 28, "send": 25, "ack": 10, "deadline": 16},
     "lost": {"unconfirm": 14, "resend": 60, "ack": 24, "add": 6, "flush": 6, "mark": 8, "send": 12, "deadline": 22},
@@ -66,7 +66,7 @@ MOODS = {
 }
 SELDOM = {"junk": 0.3, "lend": 0.3, "wrong_slot": 0.6, "wrong_time": 0.6, "mark": 0.3, "add": 0.4, "due": 0.4, "slow": 0.4}
 SELDOM.update({"ping": 0.4, "pong": 0.4, "read": 0.4, "write": 0.4, "confirm": 0.3, "send_consumed": 0.4, "show": 0.4})
-SELDOM["deadline"] = 3
+SELDOM.update({"deadline": 3, "close": 0.4})
 
 
 def weights(mood):
@@ -113,8 +113,16 @@ def met(end, roundtrip_factor, resent_factor, unreliable_factor, least, most, un
     }
 
 
+def reader(end):
+    """What the question whether a Consumed is due met, for the tally."""
+    due, tenth = end.due(), end.buffer // 10
+    if end.open:
+        return {"open, due": due, "open, not due": not due}
+    return {"closed, none untold": not due, "closed, due": due, "closed, due at a tenth or less": due and end.untold <= tenth}
+
+
 class Script:
-    """A script in the making: its lines, the model's answers, and what its deadlines met."""
+    """A script in the making: its lines, the model's answers, and what its deadlines and its questions for a Consumed met."""
 
     def __init__(self, seed, calls, far=False):
         self.random = random.Random("farthingkeg %d %d" % (seed, far))
@@ -123,6 +131,7 @@ class Script:
         self.lines = []
         self.answers = []
         self.deadlines = collections.Counter()
+        self.dues = collections.Counter()
         self.since_dump = 0
         self.model = Model()
         self.begin()
@@ -149,6 +158,8 @@ class Script:
         self.answers.append(self.model.answer(line))
         if line.startswith("deadline ") and self.answers[-1].startswith("0"):
             self.deadlines.update(met(self.end, *map(int, line.split(" ")[1:])))
+        if line == "due" and self.answers[-1].startswith("0"):
+            self.dues.update(reader(self.end))
 
     # Choices.
 
@@ -211,8 +222,9 @@ class Script:
         )
         buffer = self.pick(MOST_BUFFER, MOST_BUFFER, self.random.choice(BUFFERS), 1 + self.below(MOST_BUFFER))
         self.style = self.random.choices(("small", "mixed", "large"), (70, 28, 2))[0]
-        # The ends of sending are final, so that most scripts meet them late or never.
+        # The ends of sending and of reading are final, so that most scripts meet them late or never.
         self.finish_from = self.below(2 * self.calls)
+        self.close_from = self.below(2 * self.calls)
         self.call("fresh", self.start, buffer)
         for _ in range(self.pick(1, 2, 2, 3, 8)):
             self.step_add()
@@ -420,16 +432,21 @@ class Script:
     def step_due(self):
         self.call("due")
 
+    def step_close(self):
+        if len(self.lines) >= self.close_from:
+            self.call("close")
+            self.call("due")
+
     def step_tenth(self):
-        """Takes exactly a tenth of the receive buffer, when a Consumed is just not due, and then a byte more."""
+        """Takes exactly a tenth of the receive buffer, or nothing of a closed reader's, when a Consumed is just not due, and then a byte more."""
         slot = self.slot()
         for _ in range(len(self.end.ready)):
             self.call("take")
         if self.end.untold:
             self.call("send", slot, self.time(), CONSUMED, self.end.untold, "-")
-        tenth = self.end.buffer // 10
-        for _ in range(tenth // MOST_DATA + 1):
-            self.receive(self.end.rx, DATA, slot, max(0, min(tenth - self.end.untold, MOST_DATA)))
+        most = self.end.due_above()
+        for _ in range(most // MOST_DATA + 1):
+            self.receive(self.end.rx, DATA, slot, max(0, min(most - self.end.untold, MOST_DATA)))
             self.call("take")
         self.call("due")
         self.receive(self.end.rx, DATA, slot, 1)
@@ -556,6 +573,7 @@ class Trips:
     def __init__(self, seed, calls):
         self.random = random.Random("farthingkeg trips %d" % seed)
         self.deadlines = collections.Counter()
+        self.dues = collections.Counter()
         self.lines = []
         while len(self.lines) + 5 <= calls:
             trip, elapsed = self.time(), self.time()
@@ -638,6 +656,8 @@ JUNK = (
     "write 10 14 2",
     "write 10 7 4294967296",
     "due 1",
+    "close 0",
+    "closed",
     "deadline",
     "deadline 1 1 1 0 0",
     "deadline 1 1 1 0 0 0 0",

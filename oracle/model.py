@@ -1,5 +1,5 @@
 #!/usr/bin/env python3
-"""Document 01 and requests [1], [9] and [11] of 02 as a model: answers the scripted calls of CALLS.md. Written from these papers alone.
+"""Document 01 and requests [1], [4], [9] and [11] of 02 as a model: answers the scripted calls of CALLS.md. Written from these papers alone.
 
     python3 oracle/model.py < SCRIPT
     python3 oracle/model.py --sound < SCRIPT     also asks after every call that the state is sound
@@ -109,6 +109,7 @@ class End:
         self.last = (start - 1) % WRAP
         self.finished = False
         self.closed = False
+        self.open = True
         self.rx = start
         self.ready = []
         self.held = {}
@@ -389,8 +390,14 @@ class End:
             raise Refused(19)
         return link.acks.pop(0)
 
+    def close(self):
+        self.open = False
+
+    def due_above(self):
+        return self.buffer // 10 if self.open else 0
+
     def due(self):
-        return self.untold > self.buffer // 10
+        return self.untold > self.due_above()
 
     # What is shown.
 
@@ -407,7 +414,7 @@ class End:
 
     def dump(self):
         out = [
-            "end %d %d %d %d %d %d %d %d %d %d %d %d"
+            "end %d %d %d %d %d %d %d %d %d %d %d %d %d"
             % (
                 self.tx,
                 self.unacked,
@@ -421,6 +428,7 @@ class End:
                 self.untold,
                 self.buffer,
                 self.time,
+                self.open,
             )
         ]
         for slot, link in enumerate(self.links):
@@ -627,6 +635,7 @@ CALLS = {
     "take": [],
     "takeack": [u8],
     "due": [],
+    "close": [],
     "deadline": [u64, u64, u64, u64, u64, flag],
     "slow": [number_below(SLOTS + 2)],
     "dump": [],

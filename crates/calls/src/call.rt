@@ -36,6 +36,7 @@ pub enum Plain {
     Take,
     TakeAck(u8),
     Due,
+    Close,
     Deadline(AckTimeout, bool),
     // with how many rows are lent
     Slow(usize),
@@ -84,6 +85,9 @@ fn alone(name: &[u8]) -> Call {
     }
     if check::same(name, b"due") {
         return Call::OnState(Plain::Due);
+    }
+    if check::same(name, b"close") {
+        return Call::OnState(Plain::Close);
     }
     if check::same(name, b"slow") {
         return Call::OnState(Plain::Slow(SLOTS));

@@ -67,7 +67,8 @@ fn first_line(out: &mut Buffer, at: usize, s: State) -> usize {
     let b = sending(out, a, tx);
     let c = receiving(out, b, rx);
     let d = out::next(out, c, s.time);
-    out::end(out, d)
+    let e = flag(out, d, s.read_open);
+    out::end(out, e)
 }
 
 fn max_ping(out: &mut Buffer, at: usize, max: MaxPing) -> usize {

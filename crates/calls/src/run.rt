@@ -214,6 +214,11 @@ fn due(s: Session, out: &mut Buffer) -> Session {
     s.to(at)
 }
 
+fn close(s: Session, out: &mut Buffer) -> Session {
+    let state = s.state;
+    changed(s, engine::close_reader(state), out)
+}
+
 fn deadline(s: Session, timeout: AckTimeout, unreliable: bool, out: &mut Buffer) -> Session {
     let state = s.state;
     let answer = engine::earliest_confirm_timeout(state, timeout, unreliable);
@@ -322,6 +327,7 @@ fn on_state(s: Session, call: Plain, out: &mut Buffer) -> Session {
         Plain::Take => take(s, out),
         Plain::TakeAck(slot) => take_ack(s, slot, out),
         Plain::Due => due(s, out),
+        Plain::Close => close(s, out),
         Plain::Deadline(timeout, unreliable) => deadline(s, timeout, unreliable, out),
         Plain::Slow(n) => slow(s, n, out),
         Plain::LendSent(n) => lend_sent(s, n, out),

@@ -1,7 +1,7 @@
 -- What a call leaves of what demand 3 speaks of. Most calls change statuses of packets and no more; none but Receive adds a waiting ack. And every call of the
 -- list is one of the world's. Assumes nothing.
 use mathlib.Core.Path.{_≡_, refl, sym, ap, subst, _∙_}
-use mathlib.Core.Bool.{true, false}
+use mathlib.Core.Bool.{Bool, true, false}
 use mathlib.Core.List.{List, [], _∷_, map, List·Memᴰ, List·Memᴰ·not-nil}
 use Prim.Native.Nat.{ℕ, _+_, _%_, _^_, _<_}
 use native.Mathlib.Decide.{ℕ-discrete}
@@ -42,7 +42,7 @@ use Rattle.engine.specs.Resending.{number-back, resentState, ResendPassed}
 use Rattle.engine.specs.Acking.{ackedRow, ackedState}
 use Rattle.engine.specs.Receiving.{effectTx, repeatedState, receivedState}
 use Rattle.engine.specs.HandingOut.{takenState, takenAckState}
-use Rattle.engine.specs.Fields.{withRow, withTime}
+use Rattle.engine.specs.Fields.{withRow, withTime, withReader}
 use Rattle.engine.specs.Sizes.{SLOTS, CELLS}
 use Rattle.laws.specs.Good.{Good}
 use Rattle.laws.specs.Calls as calls
@@ -102,8 +102,17 @@ unchanged ps = record { change = λ p. p .status; is = sym (map-same ps); same =
 pub tx-same : (h : Holding) → TxLeft h h
 tx-same h = record { next-same = refl; sent-same = refl; restates = unchanged (packets (h .state .tx)) }
 
+-- .. but for whether the reader is open
+pub read-left : (h : Holding) (reads : Bool) → Left h (withState h (withReader (h .state) reads))
+unfolding rowOf
+read-left h reads = record {
+  tx = record { next-same = refl; sent-same = refl; restates = unchanged (packets (h .state .tx)) };
+  rx = record { seq-same = refl; oldest-same = refl; cells-same = refl; received-same = refl };
+  acks = λ slot seq m. m;
+}
+
 pub left-same : (h : Holding) → Left h h
-left-same h = record { tx = tx-same h; rx = record { seq-same = refl; oldest-same = refl; cells-same = refl; received-same = refl }; acks = λ slot seq m. m }
+left-same h = read-left h (h .state .«read_open»)
 
 -- ---- one row is replaced by one for which no ack waits that didn't
 
@@ -321,6 +330,7 @@ module _ (h : Holding) (good : Good (h .state)) where
   other-left calls.Show u t = left-same h
   other-left calls.Take u t = absurd u
   other-left calls.Due u t = left-same h
+  other-left calls.Close u t = if-passed calls.Close (λ e. read-left h false)
   other-left (calls.TakeAck slot) u t = absurd u
   other-left (calls.EarliestConfirmTimeout timeout unreliable) u t = left-same h
 
@@ -365,5 +375,6 @@ every-call W (calls.Receive slot msg n bytes) t m a =
 every-call W calls.Show t m a = other-made W _ tt t
 every-call W calls.Take t m a = record { world = takeAt W; call = Take; leaves = refl }
 every-call W calls.Due t m a = other-made W _ tt t
+every-call W calls.Close t m a = other-made W _ tt t
 every-call W (calls.TakeAck slot) t m a = record { world = takeAckAt W slot; call = TakeAck slot; leaves = refl }
 every-call W (calls.EarliestConfirmTimeout timeout unreliable) t m a = other-made W _ tt t

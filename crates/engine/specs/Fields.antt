@@ -134,9 +134,9 @@ withBytes rx a b = record {
 
 -- ---- the state
 
--- all of its parts; `s` is for a field that no call changes together with these
+-- all of its parts but for the reader, which no call changes together with these
 abbrev pub withParts : State → List LinkRow → Sending → Receiving → ℕ → State
-withParts s links tx rx time = record { links = links; tx = tx; rx = rx; time = time }
+withParts s links tx rx time = record { links = links; tx = tx; rx = rx; time = time; «read_open» = s .«read_open» }
 
 abbrev pub withRow : State → ℕ → LinkRow → State
 withRow s slot row = withParts s (set (s .links) slot row) (s .tx) (s .rx) (s .time)
@@ -149,3 +149,7 @@ withRx s rx = withParts s (s .links) (s .tx) rx (s .time)
 
 abbrev pub withTime : State → ℕ → State
 withTime s time = withParts s (s .links) (s .tx) (s .rx) time
+
+-- whether the reader is open
+abbrev pub withReader : State → Bool → State
+withReader s reads = record { links = s .links; tx = s .tx; rx = s .rx; time = s .time; «read_open» = reads }

@@ -16,6 +16,10 @@ use Rattle.engine.specs.Sound.{Sound, rowAt}
 use Rattle.engine.specs.Rows.{slotOk, timeOk}
 use Rattle.engine.specs.Sizes.{SLOTS}
 
+-- a call given a state alone
+abbrev pub stateVerdict : State → Verdict
+stateVerdict s = gate (soundb s) 1 Pass
+
 -- a call given a state and a slot
 unfoldable pub slotVerdict : State → ℕ → Verdict
 slotVerdict s slot = gate (soundb s) 1 (gate (slotOk s slot) 4 Pass)

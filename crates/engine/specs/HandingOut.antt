@@ -1,8 +1,8 @@
 -- Document 01, "Hand out (P). One call takes the oldest ready message, answering kind, number and length. Another, called before it
 -- and changing nothing, for Data gives the part of the received store that holds its bytes; for SendFinish, or under 1, 2 or 19, an
 -- empty part. Taking Data lowers the untaken bytes and raises the taken-and-untold count; taking SendFinish moves neither. Taking an
--- ack removes the link's oldest. A Consumed is due when the taken-and-untold count is above `recv_buffer` / 10, rounded down." Ready
--- is what lies before the next expected number; N is the cell count. Assumes nothing.
+-- ack removes the link's oldest. A Consumed is due when the taken-and-untold count is above `recv_buffer` / 10, rounded down." Request
+-- [4] has 0 for that once the reader has closed. Ready is what lies before the next expected number; N is the cell count. Assumes nothing.
 use mathlib.Core.Path.{_≡_, refl, sym, ap, ap₂, _∙_}
 use mathlib.Core.Bool.{Bool, true, false, cond, not, _&&_}
 use Prim.Native.Nat.{ℕ, _%_, _≤_, _+_, _-_, _^_, _<_, _/_}
@@ -35,7 +35,7 @@ use Rattle.engine.specs.Stores.{cellStart}
 use borrow.Table.Steps.{cases}
 use Rattle.seq.specs.Numbers.{seqOf, plus}
 use Rattle.engine.specs.Rows.{rowOf, slotOk}
-use Rattle.engine.specs.Gates.{AtSlot, slot-ok}
+use Rattle.engine.specs.Gates.{AtSlot, slot-ok, stateVerdict}
 use Rattle.engine.specs.declared.handing_out.TakeResult.{TakeResult}
 use Rattle.link.specs.declared.acks.OldestAck.{OldestAck}
 use Rattle.link.specs.declared.acks.OldestAck.the-variants as oldest
@@ -206,18 +206,19 @@ abbrev pub dueTold : Due → Told
 dueTold (dues.Is due) = success (flag due ∷ [])
 dueTold (dues.No e) = refused e
 
-abbrev pub dueVerdict : State → Verdict
-dueVerdict s = gate (soundb s) 1 verdicts.Pass
+-- "`recv_buffer` / 10, rounded down", and once the reader has closed "0: one taken byte is enough, zero is not" ([4])
+abbrev pub dueAbove : State → ℕ
+dueAbove s = cond (s .«read_open») (s .rx .«recv_buffer» / 10) 0
 
 abbrev pub isDue : State → Bool
-isDue s = ltb (s .rx .«recv_buffer» / 10) (s .rx .«rxed_reliable_consumed»)
+isDue s = ltb (dueAbove s) (s .rx .«rxed_reliable_consumed»)
 
 abbrev pub dueBy : Verdict → State → Due
 dueBy verdicts.Pass s = dues.Is (isDue s)
 dueBy (verdicts.No e) s = dues.No e
 
 unfoldable pub dueOf : State → Due
-dueOf s = dueBy (dueVerdict s) s
+dueOf s = dueBy (stateVerdict s) s
 
 -- ---- laws
 

@@ -31,5 +31,6 @@ pub mod Acking
 pub mod Cells
 pub mod Receiving
 pub mod HandingOut
+pub mod Closing
 pub mod Slowness
 pub mod Deadlines

@@ -1,5 +1,6 @@
 -- Document 01: "A fresh state takes a starting number, the same for sending and receiving; `txed_last_consumed` is that less one
--- (P), all else empty, zero or false." Refusal 21: "receive buffer 0 or above 65,536". Assumes nothing.
+-- (P), all else empty, zero or false." Refusal 21: "receive buffer 0 or above 65,536". Request [4]: "the fact that the reader is open, true
+-- at the start". Assumes nothing.
 use mathlib.Core.Path.{_≡_, refl}
 use mathlib.Core.Bool.{true, false, _&&_}
 use Prim.Native.Nat.{ℕ}
@@ -53,7 +54,7 @@ freshRx start buffer = record {
 
 unfoldable pub freshState : ℕ → ℕ → State
 unfolding freshTx freshRx
-freshState start buffer = record { links = replicate SLOTS emptyRow; tx = freshTx start; rx = freshRx start buffer; time = 0 }
+freshState start buffer = record { links = replicate SLOTS emptyRow; tx = freshTx start; rx = freshRx start buffer; time = 0; «read_open» = true }
 
 unfoldable pub freshVerdict : ℕ → Verdict
 freshVerdict buffer = gate (leb 1 buffer && leb buffer MAX_RECV_BUFFER) 21 Pass

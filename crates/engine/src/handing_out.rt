@@ -26,7 +26,8 @@ use refusal::Verdict;
 use refusal::gate;
 use seq::Seq;
 ghost use mathlib.Core.Path.{_≡_};
-ghost use Rattle.engine.specs.HandingOut.{readyOf, msgIn, readyValues, handOutTold, handOutBy, dataLength, readyBytes, showVerdict, showingOf, shownAt, shownOf, takeVerdict, canSkip, passedBy, skipped, takenRx, takenState, takeOf, isWaiting, ackIn, takeAckVerdict, takeAckTold, ackAnswer, takenAckState, takeAckOf, isDue, dueVerdict, dueTold, dueOf};
+ghost use Rattle.engine.specs.Gates.{stateVerdict};
+ghost use Rattle.engine.specs.HandingOut.{readyOf, msgIn, readyValues, handOutTold, handOutBy, dataLength, readyBytes, showVerdict, showingOf, shownAt, shownOf, takeVerdict, canSkip, passedBy, skipped, takenRx, takenState, takeOf, isWaiting, ackIn, takeAckVerdict, takeAckTold, ackAnswer, takenAckState, takeAckOf, dueAbove, isDue, dueTold, dueOf};
 ghost use mathlib.Core.List.{[], _∷_};
 ghost use Rattle.refusal.specs.Answers.{toldBy, flag};
 ghost use Rattle.link.specs.Acks.{oldestAck};
@@ -298,14 +299,25 @@ pub enum Due {
     No(Refusal),
 }
 
+// A Consumed is due above this count: with nobody reading, none need be saved up.
+fn due_above(s: State) -> u32
+    ensures { λ r. ⌜ r ≡ dueAbove s ⌝ }
+{
+    if s.read_open {
+        s.rx.recv_buffer / 10
+    } else {
+        0
+    }
+}
+
 // Whether the other end is to be told what was taken.
 pub fn is_consume_ack_required(s: State) -> Due
     ensures { λ r. ⌜ r ≡ dueOf s ⌝ }
-    ensures { λ r. ⌜ dueTold r ≡ toldBy (dueVerdict s) (flag (isDue s) ∷ []) ⌝ }
+    ensures { λ r. ⌜ dueTold r ≡ toldBy (stateVerdict s) (flag (isDue s) ∷ []) ⌝ }
 {
     if !is_sound(s) {
         return Due::No(Refusal::Unsound);
     }
     let untold = s.rx.rxed_reliable_consumed;
-    Due::Is(s.rx.recv_buffer / 10 < untold)
+    Due::Is(due_above(s) < untold)
 }

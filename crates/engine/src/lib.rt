@@ -3,6 +3,7 @@
 pub mod acking;
 pub mod answer;
 mod cells;
+pub mod closing;
 pub mod deadlines;
 pub mod flushing;
 mod gates;
@@ -30,6 +31,7 @@ pub mod unconfirming;
 pub use acking::ack;
 pub use answer::Changed;
 pub use answer::Outcome;
+pub use closing::close_reader;
 pub use deadlines::ConfirmTimeout;
 pub use deadlines::earliest_confirm_timeout;
 pub use flushing::flush;

@@ -71,6 +71,7 @@ fn fresh_state(start: Seq, recv_buffer: u32) -> State
         tx: fresh_tx(start),
         rx: fresh_rx(start, recv_buffer),
         time: 0,
+        read_open: true,
     }
 }
 

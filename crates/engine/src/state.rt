@@ -92,4 +92,6 @@ pub struct State {
     pub rx: Receiving,
     // the last accepted time
     pub time: u64,
+    // the reader has not closed
+    pub read_open: bool,
 }

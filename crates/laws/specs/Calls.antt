@@ -1,7 +1,7 @@
 -- Every call that is given a state, by its name and with what it is given, and what it makes of a state and the two lent stores:
 -- the definitions that the calls' promises cite. A call that gives no state leaves all as it came. Assumes nothing.
 use mathlib.Core.Bool.{Bool, cond}
-use mathlib.Core.List.{List}
+use mathlib.Core.List.{List, [], _∷_}
 use Prim.Native.Nat.{ℕ, _^_, _<_}
 use lib.ListN.{length}
 use Rattle.seq.specs.declared.Seq.{Seq}
@@ -9,22 +9,27 @@ use Rattle.msg.specs.declared.reliable.ReliableMsg.{ReliableMsg}
 use Rattle.link.specs.declared.row.MaxPing.{MaxPing}
 use Rattle.link.specs.declared.timeout.AckTimeout.{AckTimeout}
 use Rattle.engine.specs.declared.state.State.{State}
-use Rattle.engine.specs.Answer.{outcomeTold}
-use Rattle.engine.specs.Links.{addOf, addTold, confirmOf, blockOf, markOf, pingOf, pongOf, addVerdict, lowestIn, AddPassed}
+use Rattle.engine.specs.Links.{addOf, confirmOf, blockOf, markOf, pingOf, pongOf, addVerdict, lowestIn, AddPassed}
 use Rattle.engine.specs.Unconfirming.{unconfirmOf, removeOf, unconfirmedState, removedState}
-use Rattle.engine.specs.Sending.{sendOf, sendStore, sendTold, sendVerdict, sentState, SendPassed}
+use Rattle.engine.specs.Sending.{sendOf, sendStore, sendVerdict, sentState, SendPassed}
 use Rattle.engine.specs.Flushing.{flushOf, flushedState}
-use Rattle.engine.specs.Resending.{resendOf, resendTold, resendVerdict, resentState, ResendPassed}
+use Rattle.engine.specs.Resending.{resendOf, resendVerdict, resentState, ResendPassed}
 use Rattle.engine.specs.Acking.{ackOf, ackedState}
 use Rattle.engine.specs.Receiving.{receiveOf, receiveStore, receiveVerdict, repeatedState, receivedState, ReceivePassed}
-use Rattle.engine.specs.HandingOut.{handOutTold, showingOf, takeOf, takeAckOf, takeAckTold, dueOf, dueTold, readyOf, msgIn, dataLength, showVerdict, takeVerdict, takenState, Taking, takeAckVerdict, takenAckState, TakeAckPassed, dueVerdict}
-use Rattle.engine.specs.Deadlines.{earliestConfirmTimeoutOf, confirmTimeoutTold, confirmTimeoutVerdict}
+use Rattle.engine.specs.Closing.{closeOf, closedState}
+use Rattle.engine.specs.Table.{lookedAt}
+use Rattle.engine.specs.Packets.{packets}
+use Rattle.msg.specs.Reliable.{kindOf, countOf}
+use Rattle.link.specs.Acks.{oldestAck}
+use Rattle.refusal.specs.Answers.{Told, toldBy, flag}
+use Rattle.engine.specs.HandingOut.{readyValues, ackIn, isDue, takeOf, takeAckOf, readyOf, msgIn, dataLength, showVerdict, takeVerdict, takenState, Taking, takeAckVerdict, takenAckState, TakeAckPassed}
+use Rattle.engine.specs.Deadlines.{firstSent, namedValues, confirmTimeoutVerdict}
 use Rattle.refusal.specs.declared.verdict.Verdict.{Verdict}
 use Rattle.link.specs.declared.row.Limit.the-variants.{At}
 use Rattle.link.specs.Row.{freshRow, confirmed, blockedRow}
 use Rattle.link.specs.Limit.{markedRow}
 use Rattle.link.specs.Roundtrip.{pinged, ponged}
-use Rattle.engine.specs.Gates.{slotVerdict, timedVerdict, AtSlot, AtTime}
+use Rattle.engine.specs.Gates.{stateVerdict, slotVerdict, timedVerdict, AtSlot, AtTime}
 use Rattle.engine.specs.Rows.{rowOf}
 use Rattle.engine.specs.Stores.{cellStart, copied}
 use Rattle.engine.specs.Received.{heldBytes}
@@ -42,7 +47,7 @@ pub data Call : Type 0 where
   Send : (slot time : ℕ) (msg : ReliableMsg) (bytes : List ℕ) → Call
   Resend Ack : (slot time n : ℕ) → Call
   Receive : (slot : ℕ) (msg : ReliableMsg) (n : ℕ) (bytes : List ℕ) → Call
-  Show Take Due : Call
+  Show Take Due Close : Call
   TakeAck : (slot : ℕ) → Call
   EarliestConfirmTimeout : (timeout : AckTimeout) (unreliable : Bool) → Call
 
@@ -55,26 +60,56 @@ pub record Holding : Type 0 where
 abbrev pub withState : Holding → State → Holding
 withState h s = record { state = s; sent = h .sent; received = h .received }
 
--- the paper's number of the call's answer
+-- the refusals of each call, in the order of their numbers
+abbrev pub verdict : Call → Holding → Verdict
+verdict (Add id roundtrip max blocked unconfirmed) h = addVerdict (h .state) id roundtrip max
+verdict (Remove slot) h = slotVerdict (h .state) slot
+verdict (Confirm slot) h = slotVerdict (h .state) slot
+verdict (Unconfirm slot) h = slotVerdict (h .state) slot
+verdict (Block slot blocked) h = slotVerdict (h .state) slot
+verdict (Mark slot seq) h = slotVerdict (h .state) slot
+verdict (Ping slot time) h = timedVerdict (h .state) slot time verdicts.Pass
+verdict (Pong slot time) h = timedVerdict (h .state) slot time verdicts.Pass
+verdict (Flush slot time) h = timedVerdict (h .state) slot time verdicts.Pass
+verdict (Send slot time msg bytes) h = sendVerdict (h .state) (length (h .sent)) slot time msg (length bytes)
+verdict (Resend slot time n) h = resendVerdict (h .state) slot time n
+verdict (Ack slot time n) h = timedVerdict (h .state) slot time verdicts.Pass
+verdict (Receive slot msg n bytes) h = receiveVerdict (h .state) (length (h .received)) slot msg n (length bytes)
+verdict Show h = showVerdict (h .state) (length (h .received))
+verdict Take h = takeVerdict (h .state)
+verdict Due h = stateVerdict (h .state)
+verdict Close h = stateVerdict (h .state)
+verdict (TakeAck slot) h = takeAckVerdict (h .state) slot
+verdict (EarliestConfirmTimeout timeout unreliable) h = confirmTimeoutVerdict (h .state) timeout
+
+-- what it tells where none applies
+abbrev pub values : Call → Holding → List ℕ
+values (Add id roundtrip max blocked unconfirmed) h = lowestIn (h .state) ∷ []
+values (Remove slot) h = []
+values (Confirm slot) h = []
+values (Unconfirm slot) h = []
+values (Block slot blocked) h = []
+values (Mark slot seq) h = []
+values (Ping slot time) h = []
+values (Pong slot time) h = []
+values (Flush slot time) h = []
+values (Send slot time msg bytes) h = h .state .tx .«tx_seq» .0 ∷ []
+values (Resend slot time n) h = let p = lookedAt (h .state .tx) n in kindOf (p .msg) ∷ countOf (p .msg) ∷ p .len ∷ []
+values (Ack slot time n) h = []
+values (Receive slot msg n bytes) h = []
+values Show h = readyValues (h .state .rx)
+values Take h = readyValues (h .state .rx)
+values Due h = flag (isDue (h .state)) ∷ []
+values Close h = []
+values (TakeAck slot) h = ackIn (oldestAck (rowOf (h .state) slot)) .0 ∷ []
+values (EarliestConfirmTimeout timeout unreliable) h = namedValues (firstSent (packets (h .state .tx))) (h .state) timeout unreliable
+
+-- the call's answer, in the paper's number and values
+abbrev pub told : Call → Holding → Told
+told c h = toldBy (verdict c h) (values c h)
+
 abbrev pub number : Call → Holding → ℕ
-number (Add id roundtrip max blocked unconfirmed) h = addTold (addOf (h .state) id roundtrip max blocked unconfirmed .answer) .number
-number (Remove slot) h = outcomeTold (removeOf (h .state) slot .outcome) .number
-number (Confirm slot) h = outcomeTold (confirmOf (h .state) slot .outcome) .number
-number (Unconfirm slot) h = outcomeTold (unconfirmOf (h .state) slot .outcome) .number
-number (Block slot blocked) h = outcomeTold (blockOf (h .state) slot blocked .outcome) .number
-number (Mark slot seq) h = outcomeTold (markOf (h .state) slot seq .outcome) .number
-number (Ping slot time) h = outcomeTold (pingOf (h .state) slot time .outcome) .number
-number (Pong slot time) h = outcomeTold (pongOf (h .state) slot time .outcome) .number
-number (Flush slot time) h = outcomeTold (flushOf (h .state) slot time .outcome) .number
-number (Send slot time msg bytes) h = sendTold (sendOf (h .state) (length (h .sent)) slot time msg (length bytes) .answer) .number
-number (Resend slot time n) h = resendTold (resendOf (h .state) slot time n .answer) .number
-number (Ack slot time n) h = outcomeTold (ackOf (h .state) slot time n .outcome) .number
-number (Receive slot msg n bytes) h = outcomeTold (receiveOf (h .state) (length (h .received)) slot msg n (length bytes) .outcome) .number
-number Show h = handOutTold (showingOf (h .state) (length (h .received))) .number
-number Take h = handOutTold (takeOf (h .state) .answer) .number
-number Due h = dueTold (dueOf (h .state)) .number
-number (TakeAck slot) h = takeAckTold (takeAckOf (h .state) slot .answer) .number
-number (EarliestConfirmTimeout timeout unreliable) h = confirmTimeoutTold (earliestConfirmTimeoutOf (h .state) timeout unreliable) .number
+number c h = told c h .number
 
 -- state and stores after the call
 abbrev pub next : Call → Holding → Holding
@@ -102,6 +137,7 @@ next (Receive slot msg n bytes) h = record {
 next Show h = h
 next Take h = withState h (takeOf (h .state) .state)
 next Due h = h
+next Close h = withState h (closeOf (h .state) .state)
 next (TakeAck slot) h = withState h (takeAckOf (h .state) slot .state)
 next (EarliestConfirmTimeout timeout unreliable) h = h
 
@@ -123,6 +159,7 @@ Typed (Receive slot msg n bytes) = Unit
 Typed Show = Unit
 Typed Take = Unit
 Typed Due = Unit
+Typed Close = Unit
 Typed (TakeAck slot) = Unit
 Typed (EarliestConfirmTimeout timeout unreliable) = Unit
 
@@ -144,31 +181,11 @@ Unnoted (Receive slot msg n bytes) = ⊥
 Unnoted Show = Unit
 Unnoted Take = ⊥
 Unnoted Due = Unit
+Unnoted Close = Unit
 Unnoted (TakeAck slot) = ⊥
 Unnoted (EarliestConfirmTimeout timeout unreliable) = Unit
 
--- ---- what decides a call, and what it leaves where it passes: Passed shows that `number` and `next` go by these
-
--- the refusals of each call, in the order of their numbers
-abbrev pub verdict : Call → Holding → Verdict
-verdict (Add id roundtrip max blocked unconfirmed) h = addVerdict (h .state) id roundtrip max
-verdict (Remove slot) h = slotVerdict (h .state) slot
-verdict (Confirm slot) h = slotVerdict (h .state) slot
-verdict (Unconfirm slot) h = slotVerdict (h .state) slot
-verdict (Block slot blocked) h = slotVerdict (h .state) slot
-verdict (Mark slot seq) h = slotVerdict (h .state) slot
-verdict (Ping slot time) h = timedVerdict (h .state) slot time verdicts.Pass
-verdict (Pong slot time) h = timedVerdict (h .state) slot time verdicts.Pass
-verdict (Flush slot time) h = timedVerdict (h .state) slot time verdicts.Pass
-verdict (Send slot time msg bytes) h = sendVerdict (h .state) (length (h .sent)) slot time msg (length bytes)
-verdict (Resend slot time n) h = resendVerdict (h .state) slot time n
-verdict (Ack slot time n) h = timedVerdict (h .state) slot time verdicts.Pass
-verdict (Receive slot msg n bytes) h = receiveVerdict (h .state) (length (h .received)) slot msg n (length bytes)
-verdict Show h = showVerdict (h .state) (length (h .received))
-verdict Take h = takeVerdict (h .state)
-verdict Due h = dueVerdict (h .state)
-verdict (TakeAck slot) h = takeAckVerdict (h .state) slot
-verdict (EarliestConfirmTimeout timeout unreliable) h = confirmTimeoutVerdict (h .state) timeout
+-- ---- what a call leaves where it passes: Passed shows that `next` goes by `verdict` and this
 
 -- the oldest ready message's data bytes
 abbrev pub readyLength : State → ℕ
@@ -200,6 +217,7 @@ done (Receive slot msg n bytes) h = record {
 done Show h = h
 done Take h = withState h (takenState (h .state) (readyLength (h .state)))
 done Due h = h
+done Close h = withState h (closedState (h .state))
 done (TakeAck slot) h = withState h (takenAckState (h .state) slot)
 done (EarliestConfirmTimeout timeout unreliable) h = h
 
@@ -221,5 +239,6 @@ Passed (Receive slot msg n bytes) h = ReceivePassed (h .state) (length (h .recei
 Passed Show h = Unit
 Passed Take h = Taking (h .state) (msgIn (readyOf CELLS (h .state .rx))) (h .state .rx .«rx_oldest») (heldBytes (readyOf CELLS (h .state .rx)))
 Passed Due h = Unit
+Passed Close h = Unit
 Passed (TakeAck slot) h = TakeAckPassed (h .state) slot
 Passed (EarliestConfirmTimeout timeout unreliable) h = Unit

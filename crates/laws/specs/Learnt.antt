@@ -1,5 +1,5 @@
--- The calls' promises are those that `number` and `next` are made of (Calls): `Reads.Learnt` of a call is its promise, which the
--- checker makes of the source, and whatever meets it has the number and leaves the state and the stores that `number` and `next` say.
+-- The calls' promises are those that `told` and `next` are made of (Calls): `Reads.Learnt` of a call is its promise, which the
+-- checker makes of the source, and whatever meets it tells what `told` says and leaves the state and the stores that `next` says.
 -- So what `refused`, `kept` and `always-good` say of them holds of the calls, and a promise that comes to cite another definition
 -- is refused here. Assumes nothing.
 use mathlib.Core.Path.{_≡_, refl, ap, sym, subst, _∙_}
@@ -32,26 +32,26 @@ use Rattle.engine.specs.Resending.{resendTold}
 use Rattle.engine.specs.Receiving.{receiveVerdict, receiveOf, receiveStore}
 use Rattle.engine.specs.HandingOut.{handOutTold, shownAt, shownOf, takeAckTold, dueTold}
 use Rattle.engine.specs.Deadlines.{confirmTimeoutTold}
-use Rattle.refusal.specs.Answers.{toldBy}
+use Rattle.refusal.specs.Answers.{Told, toldBy}
 use Rattle.engine.proofs as engine
-use Rattle.laws.specs.Calls.{Call, Add, Remove, Confirm, Unconfirm, Block, Mark, Ping, Pong, Flush, Send, Resend, Ack, Receive, Show, Take, Due, TakeAck, EarliestConfirmTimeout, Holding, withState, number, next, Typed}
+use Rattle.laws.specs.Calls.{Call, Add, Remove, Confirm, Unconfirm, Block, Mark, Ping, Pong, Flush, Send, Resend, Ack, Receive, Show, Take, Due, Close, TakeAck, EarliestConfirmTimeout, Holding, withState, told, next, Typed}
 use Rattle.laws.specs.Refused.{refused}
 use Rattle.laws.specs.Good.{Good}
 use Rattle.laws.specs.SoundKept.{kept}
 use Rattle.laws.specs.Unique.{Place, lent}
 
--- a call on what h holds answers the number n and leaves `after`, as `number` and `next` say
-abbrev pub Says : Call → Holding → ℕ → Holding → Type 0
-Says c h n after = (n ≡ number c h) × (after ≡ next c h)
+-- a call on what h holds tells t and leaves `after`, as `told` and `next` say
+abbrev pub Says : Call → Holding → Told → Holding → Type 0
+Says c h t after = (t ≡ told c h) × (after ≡ next c h)
 
 abbrev pub SaysChanged : Call → Holding → Changed → Type 0
-SaysChanged c h r = Says c h (outcomeTold (r .outcome) .number) (withState h (r .state))
+SaysChanged c h r = Says c h (outcomeTold (r .outcome)) (withState h (r .state))
 
 -- whatever meets the call's promise says so. A reference at exit stands at its parameter's place: `e .1 .0` is the second's
 abbrev pub Tied : Call → Holding → Type 0
 Tied (Add id roundtrip max blocked unconfirmed) h = (κs : _) (r : Added) (e : _)
     → engine.links.add.Reads.Learnt κs (h .state, (id, (roundtrip, (max, (blocked, (unconfirmed, tt)))))) r e
-    → Says (Add id roundtrip max blocked unconfirmed) h (addTold (r .answer) .number) (withState h (r .state))
+    → Says (Add id roundtrip max blocked unconfirmed) h (addTold (r .answer)) (withState h (r .state))
 Tied (Remove slot) h = (κs : _) (r : Changed) (e : _) → engine.unconfirming.remove.Reads.Learnt κs (h .state, (slot, tt)) r e → SaysChanged (Remove slot) h r
 Tied (Confirm slot) h = (κs : _) (r : Changed) (e : _) → engine.links.confirm.Reads.Learnt κs (h .state, (slot, tt)) r e → SaysChanged (Confirm slot) h r
 Tied (Unconfirm slot) h = (κs : _) (r : Changed) (e : _) → engine.unconfirming.unconfirm.Reads.Learnt κs (h .state, (slot, tt)) r e → SaysChanged (Unconfirm slot) h r
@@ -62,61 +62,54 @@ Tied (Pong slot time) h = (κs : _) (r : Changed) (e : _) → engine.links.pong.
 Tied (Flush slot time) h = (κs : _) (r : Changed) (e : _) → engine.flushing.flush.Reads.Learnt κs (h .state, (slot, (time, tt))) r e → SaysChanged (Flush slot time) h r
 Tied (Send slot time msg bytes) h = (κs : Lfts 2) (i j : Place) (r : SendResult) (e : _)
     → engine.sending.send.Reads.Learnt κs (h .state, (lent i (h .sent), (slot, (time, (msg, (lent j bytes, tt)))))) r e
-    → Says (Send slot time msg bytes) h (sendTold (r .answer) .number) (record { state = r .state; sent = now (e .1 .0); received = h .received })
+    → Says (Send slot time msg bytes) h (sendTold (r .answer)) (record { state = r .state; sent = now (e .1 .0); received = h .received })
 Tied (Resend slot time n) h = (κs : _) (r : ResendResult) (e : _)
     → engine.resending.resend.Reads.Learnt κs (h .state, (slot, (time, (seqOf n, tt)))) r e
-    → Says (Resend slot time n) h (resendTold (r .answer) .number) (withState h (r .state))
+    → Says (Resend slot time n) h (resendTold (r .answer)) (withState h (r .state))
 Tied (Ack slot time n) h = (κs : _) (r : Changed) (e : _) → engine.acking.ack.Reads.Learnt κs (h .state, (slot, (time, (seqOf n, tt)))) r e → SaysChanged (Ack slot time n) h r
 Tied (Receive slot msg n bytes) h = (κs : Lfts 2) (i j : Place) (r : Changed) (e : _)
     → engine.receiving.receive.Reads.Learnt κs (h .state, (lent i (h .received), (slot, (msg, (seqOf n, (lent j bytes, tt)))))) r e
-    → Says (Receive slot msg n bytes) h (outcomeTold (r .outcome) .number) (record { state = r .state; sent = h .sent; received = now (e .1 .0) })
-Tied Show h = (κs : Lfts 1) (i : Place) (r : HandOut) (e : _) → engine.handing_out.showing.Reads.Learnt κs (h .state, (lent i (h .received), tt)) r e → Says Show h (handOutTold r .number) h
-Tied Take h = (κs : _) (r : TakeResult) (e : _) → engine.handing_out.take.Reads.Learnt κs (h .state, tt) r e → Says Take h (handOutTold (r .answer) .number) (withState h (r .state))
-Tied Due h = (κs : _) (r : DueAnswer) (e : _) → engine.handing_out.is_consume_ack_required.Reads.Learnt κs (h .state, tt) r e → Says Due h (dueTold r .number) h
-Tied (TakeAck slot) h = (κs : _) (r : TakeAckResult) (e : _) → engine.handing_out.take_ack.Reads.Learnt κs (h .state, (slot, tt)) r e → Says (TakeAck slot) h (takeAckTold (r .answer) .number) (withState h (r .state))
+    → Says (Receive slot msg n bytes) h (outcomeTold (r .outcome)) (record { state = r .state; sent = h .sent; received = now (e .1 .0) })
+Tied Show h = (κs : Lfts 1) (i : Place) (r : HandOut) (e : _) → engine.handing_out.showing.Reads.Learnt κs (h .state, (lent i (h .received), tt)) r e → Says Show h (handOutTold r) h
+Tied Take h = (κs : _) (r : TakeResult) (e : _) → engine.handing_out.take.Reads.Learnt κs (h .state, tt) r e → Says Take h (handOutTold (r .answer)) (withState h (r .state))
+Tied Due h = (κs : _) (r : DueAnswer) (e : _) → engine.handing_out.is_consume_ack_required.Reads.Learnt κs (h .state, tt) r e → Says Due h (dueTold r) h
+Tied Close h = (κs : _) (r : Changed) (e : _) → engine.closing.close_reader.Reads.Learnt κs (h .state, tt) r e → SaysChanged Close h r
+Tied (TakeAck slot) h = (κs : _) (r : TakeAckResult) (e : _) → engine.handing_out.take_ack.Reads.Learnt κs (h .state, (slot, tt)) r e → Says (TakeAck slot) h (takeAckTold (r .answer)) (withState h (r .state))
 Tied (EarliestConfirmTimeout timeout unreliable) h = (κs : _) (r : ConfirmTimeout) (e : _)
     → engine.deadlines.earliest_confirm_timeout.Reads.Learnt κs (h .state, (timeout, (unreliable, tt))) r e
-    → Says (EarliestConfirmTimeout timeout unreliable) h (confirmTimeoutTold r .number) h
+    → Says (EarliestConfirmTimeout timeout unreliable) h (confirmTimeoutTold r) h
 
--- an answer that is the definition's has its number and leaves what it leaves
-same : {R : Type 0} (told : R → ℕ) (left : R → Holding) {r d : R} → r ≡ d → (told r ≡ told d) × (left r ≡ left d)
-same told left p = (ap told p, ap left p)
-
-same-changed : (h : Holding) {r d : Changed} → r ≡ d → (outcomeTold (r .outcome) .number ≡ outcomeTold (d .outcome) .number) × (withState h (r .state) ≡ withState h (d .state))
-same-changed h p = same (λ (a : Changed). outcomeTold (a .outcome) .number) (λ a. withState h (a .state)) p
+-- an answer that is the definition's leaves what it leaves
+left-changed : (h : Holding) {r d : Changed} → r ≡ d → withState h (r .state) ≡ withState h (d .state)
+left-changed h p = ap (λ (a : Changed). withState h (a .state)) p
 
 pub tied : (c : Call) (h : Holding) → Tied c h
-tied (Add id roundtrip max blocked unconfirmed) h = λ κs r e p. same (λ (a : Added). addTold (a .answer) .number) (λ a. withState h (a .state)) (p .0)
-tied (Remove slot) h = λ κs r e p. same-changed h (p .0)
-tied (Confirm slot) h = λ κs r e p. same-changed h (p .0)
-tied (Unconfirm slot) h = λ κs r e p. same-changed h (p .0)
-tied (Block slot blocked) h = λ κs r e p. same-changed h (p .0)
-tied (Mark slot seq) h = λ κs r e p. same-changed h (p .0)
-tied (Ping slot time) h = λ κs r e p. same-changed h (p .0)
-tied (Pong slot time) h = λ κs r e p. same-changed h (p .0)
-tied (Flush slot time) h = λ κs r e p. same-changed h (p .0)
-tied (Send slot time msg bytes) h = λ κs i j r e p. (
-  ap (λ (a : SendResult). sendTold (a .answer) .number) (p .0),
-  λ d. record { state = p .0 d .state; sent = p .1 .1 d; received = h .received },
-)
-tied (Resend slot time n) h = λ κs r e p. same (λ (a : ResendResult). resendTold (a .answer) .number) (λ a. withState h (a .state)) (p .0)
-tied (Ack slot time n) h = λ κs r e p. same-changed h (p .0)
-tied (Receive slot msg n bytes) h = λ κs i j r e p. (
-  ap (λ (a : Changed). outcomeTold (a .outcome) .number) (p .0),
-  λ d. record { state = p .0 d .state; sent = h .sent; received = p .1 .1 d },
-)
-tied Show h = λ κs i r e p. (ap (λ (a : HandOut). handOutTold a .number) (p .0), refl)
-tied Take h = λ κs r e p. same (λ (a : TakeResult). handOutTold (a .answer) .number) (λ a. withState h (a .state)) (p .0)
-tied Due h = λ κs r e p. (ap (λ (a : DueAnswer). dueTold a .number) (p .0), refl)
-tied (TakeAck slot) h = λ κs r e p. same (λ (a : TakeAckResult). takeAckTold (a .answer) .number) (λ a. withState h (a .state)) (p .0)
-tied (EarliestConfirmTimeout timeout unreliable) h = λ κs r e p. (ap (λ (a : ConfirmTimeout). confirmTimeoutTold a .number) (p .0), refl)
+tied (Add id roundtrip max blocked unconfirmed) h = λ κs r e p. (p .1, ap (λ (a : Added). withState h (a .state)) (p .0))
+tied (Remove slot) h = λ κs r e p. (p .1, left-changed h (p .0))
+tied (Confirm slot) h = λ κs r e p. (p .1, left-changed h (p .0))
+tied (Unconfirm slot) h = λ κs r e p. (p .1, left-changed h (p .0))
+tied (Block slot blocked) h = λ κs r e p. (p .1, left-changed h (p .0))
+tied (Mark slot seq) h = λ κs r e p. (p .1, left-changed h (p .0))
+tied (Ping slot time) h = λ κs r e p. (p .1, left-changed h (p .0))
+tied (Pong slot time) h = λ κs r e p. (p .1, left-changed h (p .0))
+tied (Flush slot time) h = λ κs r e p. (p .1, left-changed h (p .0))
+tied (Send slot time msg bytes) h = λ κs i j r e p. (p .1 .0, λ d. record { state = p .0 d .state; sent = p .1 .1 d; received = h .received })
+tied (Resend slot time n) h = λ κs r e p. (p .1, ap (λ (a : ResendResult). withState h (a .state)) (p .0))
+tied (Ack slot time n) h = λ κs r e p. (p .1, left-changed h (p .0))
+tied (Receive slot msg n bytes) h = λ κs i j r e p. (p .1 .0, λ d. record { state = p .0 d .state; sent = h .sent; received = p .1 .1 d })
+tied Show h = λ κs i r e p. (p .1, refl)
+tied Take h = λ κs r e p. (p .1, ap (λ (a : TakeResult). withState h (a .state)) (p .0))
+tied Due h = λ κs r e p. (p .1, refl)
+tied Close h = λ κs r e p. (p .1, left-changed h (p .0))
+tied (TakeAck slot) h = λ κs r e p. (p .1, ap (λ (a : TakeAckResult). withState h (a .state)) (p .0))
+tied (EarliestConfirmTimeout timeout unreliable) h = λ κs r e p. (p .1, refl)
 
 -- ---- so the laws hold of whatever meets the promises
 
-module _ (c : Call) (h : Holding) (n : ℕ) (after : Holding) (says : Says c h n after) where
+module _ (c : Call) (h : Holding) (t : Told) (after : Holding) (says : Says c h t after) where
   -- "Each returns its number alone; state and lent bytes stay as they came."
-  pub refused-by-promise : n ≢ 0 → after ≡ h
-  refused-by-promise told = says .1 ∙ refused c h (λ zero. told (says .0 ∙ zero))
+  pub refused-by-promise : t .number ≢ 0 → after ≡ h
+  refused-by-promise some = says .1 ∙ refused c h (λ zero. some (ap (λ (x : Told). x .number) (says .0) ∙ zero))
 
   -- "Calls keep a sound state sound."
   pub kept-by-promise : Typed c → Good (h .state) → Good (after .state)

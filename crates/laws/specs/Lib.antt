@@ -14,6 +14,8 @@ pub mod PaperExamples
 pub mod Deadlines
 pub mod Parts
 pub mod Passed
+pub mod Reader
+pub mod ReaderKept
 pub mod ReceiveKept
 pub mod Refused
 pub mod ResendKept

@@ -122,7 +122,7 @@ added-good s good id roundtrip max blocked unconfirmed p =
     let fits : RowFine new (sums slot) (s .time) = record { sums = sym none; trip = p .trip; limit = p .limit; pinged = refl; acks = omega arith } in
     record {
       shaped = row-shaped s slot new (s .time) shaped (fresh-full id roundtrip max blocked unconfirmed) (shaped .time-u64);
-      sound = links-sound s (set (s .links) slot new) (s .time) sound (omega arith) (sound .time-within)
+      sound = links-sound s (set (s .links) slot new) (s .time) (s .«read_open») sound (omega arith) (sound .time-within)
           (rows-set (s .links) slot new sums sums (s .time) (s .time) inside (omega arith) (rows-of s sound) (λ l. fits) (λ j l ne. refl))
           (apart-set (s .links) slot new inside (sound .identities)
           (λ j l ne live lj same. taken-nowhere (s .links) id j (p .nowhere) (omega (arith, shaped .links-full)) lj same))

@@ -1,4 +1,5 @@
--- Document 01, "Table of proved examples": "One statement covers these". Each is about the definition that a promise cites.
+-- Document 01, "Table of proved examples": "One statement covers these". Beside L2 stands what request [4] makes of it. Each is about the
+-- definition that a promise cites.
 -- Assumes nothing.
 use mathlib.Core.Path.{_≡_, refl, ap, _∙_}
 use mathlib.Core.Bool.{true, false, _&&_}
@@ -70,9 +71,12 @@ pub record PaperExamples : Type 0 where
       ≡ acked s slot time (settledRow (markAcked (rowOf s slot) 2) (packetAt s 0) slot time) (sweptTx (settledTx (s .tx) slot 2 (packetAt s 0)))
   -- "L1 one link 50 over 40, one without `max_ping`: none listed."
   pub l1 : (one other trip : ℕ) → slowSlots (rowsOfL1 one other trip) ≡ []
-  -- "L2 buffer 65,536: 6,553 taken, not due; 6,554, due."
-  pub l2 : (s : State) → soundb s ≡ true → s .rx .«recv_buffer» ≡ 65536
+  -- "L2 buffer 65,536: 6,553 taken, not due; 6,554, due", where the reader is open
+  pub l2 : (s : State) → soundb s ≡ true → s .«read_open» ≡ true → s .rx .«recv_buffer» ≡ 65536
       → (s .rx .«rxed_reliable_consumed» ≡ 6553 → dueOf s ≡ Is false) × (s .rx .«rxed_reliable_consumed» ≡ 6554 → dueOf s ≡ Is true)
+  -- where it has closed, request [4]: "one taken byte is enough, zero is not", of a buffer of any size
+  pub l2-closed : (s : State) → soundb s ≡ true → s .«read_open» ≡ false
+      → (s .rx .«rxed_reliable_consumed» ≡ 0 → dueOf s ≡ Is false) × (s .rx .«rxed_reliable_consumed» ≡ 1 → dueOf s ≡ Is true)
 
 -- ---- the sweep of a table whose first packet isn't Received
 
@@ -147,5 +151,6 @@ paper-examples = record {
   a1 = none-of;
   a2 = first-of;
   l1 = λ one other trip. refl;
-  l2 = λ s sound buffer. (λ taken. simp (sound, buffer, taken), λ taken. simp (sound, buffer, taken));
+  l2 = λ s sound reads buffer. (λ taken. simp (sound, reads, buffer, taken), λ taken. simp (sound, reads, buffer, taken));
+  l2-closed = λ s sound closed. (λ taken. simp (sound, closed, taken), λ taken. simp (sound, closed, taken));
 }

@@ -1,36 +1,34 @@
 -- What holds of every call by its verdict: a refused one leaves all as it came; one that passes tells 0, leaves `done`, says of its arguments what `Passed`
 -- says, and keeps a good state so. Assumes nothing.
 use mathlib.Core.Path.{_≡_, refl, sym, ap, subst}
-use Prim.Native.Nat.{ℕ}
 use lib.ListN.{length}
 use Rattle.refusal.specs.declared.Refusal.{Refusal}
 use Rattle.refusal.specs.declared.verdict.Verdict.{Verdict}
-use Rattle.refusal.specs.Refusals.{numberOf}
 use Rattle.link.specs.declared.row.Limit.the-variants.{At}
 use Rattle.link.specs.Row.{freshRow}
 use Rattle.link.specs.Acks.{oldestAck}
-use Rattle.link.specs.declared.timeout.AckTimeout.{AckTimeout}
 use Rattle.engine.specs.declared.state.State.{State}
-use Rattle.engine.specs.declared.deadlines.FirstSent.{FirstSent}
-use Rattle.engine.specs.Answer.{outcomeTold, changedBy}
+use Rattle.engine.specs.Answer.{changedBy}
 use Rattle.engine.specs.Gates.{slot-passed, timed-passed}
 use Rattle.engine.specs.Rows.{rowOf}
-use Rattle.engine.specs.Stores.{cellStart, copied, storeBy}
-use Rattle.engine.specs.Packets.{packets}
-use Rattle.engine.specs.Links.{addOf, addTold, addedBy, addVerdict, lowestIn, confirmOf, blockOf, markOf, pingOf, pongOf, add-passed}
+use Rattle.engine.specs.Stores.{storeBy}
+use Rattle.engine.specs.Links.{addOf, addedBy, addVerdict, lowestIn, confirmOf, blockOf, markOf, pingOf, pongOf, add-passed}
 use Rattle.engine.specs.Unconfirming.{unconfirmOf, removeOf}
-use Rattle.engine.specs.Sending.{sendOf, sendStore, sendTold, sentBy, sendVerdict, sentState, send-passed}
+use Rattle.engine.specs.Sending.{sendOf, sendStore, sentBy, sendVerdict, send-passed}
 use Rattle.engine.specs.Flushing.{flushOf}
-use Rattle.engine.specs.Resending.{resendOf, resendTold, resentBy, resendVerdict, resentState, resend-passed}
+use Rattle.engine.specs.Resending.{resendOf, resentBy, resendVerdict, resentState, resend-passed}
 use Rattle.engine.specs.Acking.{ackOf}
 use Rattle.engine.specs.Cells.{isRepeat}
 use Rattle.engine.specs.Receiving.{receiveOf, receiveStore, receiveVerdict, receive-passed}
-use Rattle.engine.specs.HandingOut.{handOutTold, handOutBy, showVerdict, showingOf, takeVerdict, takenBy, takeOf, taking, takeAckVerdict, takeAckTold, ackAs, ackAnswer, takenAckBy, takeAckOf, take-ack-passed, dueVerdict, dueBy, dueTold, dueOf}
-use Rattle.engine.specs.Deadlines.{firstSent, namedBy, confirmTimeoutVerdict, confirmTimeoutBy, confirmTimeoutTold, earliestConfirmTimeoutOf}
-use Rattle.engine.specs.Sizes.{CELLS, PACKETS}
+use Rattle.engine.specs.HandingOut.{handOutBy, takeVerdict, takenBy, takeOf, taking, takeAckVerdict, ackAs, ackAnswer, takenAckBy, takeAckOf, take-ack-passed}
+use Rattle.engine.specs.Sizes.{CELLS}
 use Rattle.engine.specs.Fields.{withRow}
 use Rattle.laws.specs.Good.{Good}
-use Rattle.laws.specs.Calls.{Call, Add, Remove, Confirm, Unconfirm, Block, Mark, Ping, Pong, Flush, Send, Resend, Ack, Receive, Show, Take, Due, TakeAck, EarliestConfirmTimeout, Holding, withState, number, next, Typed, verdict, done, Passed}
+use Rattle.laws.specs.Calls.{Call, Add, Remove, Confirm, Unconfirm, Block, Mark, Ping, Pong, Flush, Send, Resend, Ack, Receive, Show, Take, Due, Close, TakeAck, EarliestConfirmTimeout, Holding, withState, verdict, values, number, next, Typed, done, Passed}
+use mathlib.Core.Bool.{false}
+use Rattle.engine.specs.Closing.{closeOf}
+use Rattle.refusal.specs.Answers.{toldBy}
+use Rattle.laws.specs.ReaderKept.{read-good}
 use borrow.Table.Steps.{cases}
 use Rattle.refusal.specs.declared.verdict.Verdict.the-variants.{Pass}
 use Rattle.laws.specs.LinksKept.{confirmed-good, blocked-good, marked-good, pinged-good, ponged-good, added-good}
@@ -42,36 +40,27 @@ use Rattle.laws.specs.AckKept.{acked-good}
 use Rattle.laws.specs.ReceiveKept.{received-good, repeated-good}
 use Rattle.laws.specs.TakeKept.{taken-good, take-ack-good}
 use Rattle.refusal.specs.declared.verdict.Verdict.the-variants as verdicts
-use Rattle.engine.specs.declared.deadlines.FirstSent.the-variants as firsts
 
 -- ---- a call does what it says
 
--- of a verdict: the number that is told and what is left of h, where d is left by a call that passes
-abbrev Judges : Verdict → ℕ → Holding → Holding → Holding → Type 0
-Judges verdicts.Pass n left d h = (n ≡ 0) × (left ≡ d)
-Judges (verdicts.No e) n left d h = (n ≡ numberOf e) × (left ≡ h)
+-- of a verdict: what is left of h, where d is left by a call that passes
+abbrev Judges : Verdict → Holding → Holding → Holding → Type 0
+Judges verdicts.Pass left d h = left ≡ d
+Judges (verdicts.No e) left d h = left ≡ h
 
-by : (v : Verdict) (told : Verdict → ℕ) (left : Verdict → Holding) {d h : Holding} → told verdicts.Pass ≡ 0 → ((e : Refusal) → told (verdicts.No e) ≡ numberOf e)
-    → left verdicts.Pass ≡ d → ((e : Refusal) → left (verdicts.No e) ≡ h) → Judges v (told v) (left v) d h
-by verdicts.Pass told left none some kept same = (none, kept)
-by (verdicts.No e) told left none some kept same = (some e, same e)
+by : (v : Verdict) (left : Verdict → Holding) {d h : Holding} → left verdicts.Pass ≡ d → ((e : Refusal) → left (verdicts.No e) ≡ h) → Judges v (left v) d h
+by verdicts.Pass left kept same = kept
+by (verdicts.No e) left kept same = same e
 
-by-changed : (h : Holding) (v : Verdict) (after : State)
-    → Judges v (outcomeTold (changedBy v (h .state) after .outcome) .number) (withState h (changedBy v (h .state) after .state)) (withState h after) h
-by-changed h v after =
-    by v (λ x. outcomeTold (changedBy x (h .state) after .outcome) .number) (λ x. withState h (changedBy x (h .state) after .state)) refl (λ e. refl) refl (λ e. refl)
+by-changed : (h : Holding) (v : Verdict) (after : State) → Judges v (withState h (changedBy v (h .state) after .state)) (withState h after) h
+by-changed h v after = by v (λ x. withState h (changedBy x (h .state) after .state)) refl (λ e. refl)
 
--- a packet that is named, or that none is, is told with 0
-named-told : (found : FirstSent) (s : State) (timeout : AckTimeout) (unreliable : _) → confirmTimeoutTold (namedBy found s timeout unreliable) .number ≡ 0
-named-told firsts.Nothing s timeout unreliable = refl
-named-told (firsts.Is flight) s timeout unreliable = refl
-
-judged : (c : Call) (h : Holding) → Judges (verdict c h) (number c h) (next c h) (done c h) h
-unfolding addOf removeOf confirmOf unconfirmOf blockOf markOf pingOf pongOf flushOf sendOf sendStore resendOf ackOf receiveOf receiveStore showingOf handOutBy takeOf ackAnswer takeAckOf dueOf earliestConfirmTimeoutOf
+judged : (c : Call) (h : Holding) → Judges (verdict c h) (next c h) (done c h) h
+unfolding addOf removeOf confirmOf unconfirmOf blockOf markOf pingOf pongOf flushOf sendOf sendStore resendOf ackOf receiveOf receiveStore handOutBy takeOf closeOf ackAnswer takeAckOf
 judged (Add id roundtrip max blocked unconfirmed) h =
     let s = h .state in
     let after = withRow s (lowestIn s) (freshRow id roundtrip max blocked unconfirmed) in
-    by (addVerdict s id roundtrip max) (λ v. addTold (addedBy v (lowestIn s) s after .answer) .number) (λ v. withState h (addedBy v (lowestIn s) s after .state)) refl (λ e. refl) refl (λ e. refl)
+    by (addVerdict s id roundtrip max) (λ v. withState h (addedBy v (lowestIn s) s after .state)) refl (λ e. refl)
 judged (Remove slot) h = let c = Remove slot in by-changed h (verdict c h) (done c h .state)
 judged (Confirm slot) h = let c = Confirm slot in by-changed h (verdict c h) (done c h .state)
 judged (Unconfirm slot) h = let c = Unconfirm slot in by-changed h (verdict c h) (done c h .state)
@@ -82,41 +71,36 @@ judged (Pong slot time) h = let c = Pong slot time in by-changed h (verdict c h)
 judged (Flush slot time) h = let c = Flush slot time in by-changed h (verdict c h) (done c h .state)
 judged (Send slot time msg bytes) h =
     let s = h .state in
-    let after = sentState s slot time msg (length bytes) in
-    by (sendVerdict s (length (h .sent)) slot time msg (length bytes)) (λ v. sendTold (sentBy v s after .answer) .number)
-    (λ v. record { state = sentBy v s after .state; sent = storeBy v (h .sent) (copied (h .sent) (cellStart PACKETS (s .tx .«tx_seq» .0)) bytes); received = h .received })
-    refl (λ e. refl) refl (λ e. refl)
+    let after = done (Send slot time msg bytes) h in
+    by (sendVerdict s (length (h .sent)) slot time msg (length bytes))
+    (λ v. record { state = sentBy v s (after .state) .state; sent = storeBy v (h .sent) (after .sent); received = h .received }) refl (λ e. refl)
 judged (Resend slot time n) h =
     let s = h .state in
-    let after = resentState s slot time n in
-    by (resendVerdict s slot time n) (λ v. resendTold (resentBy v s n after .answer) .number) (λ v. withState h (resentBy v s n after .state)) refl (λ e. refl) refl (λ e. refl)
+    by (resendVerdict s slot time n) (λ v. withState h (resentBy v s n (resentState s slot time n) .state)) refl (λ e. refl)
 judged (Ack slot time n) h = let c = Ack slot time n in by-changed h (verdict c h) (done c h .state)
 judged (Receive slot msg n bytes) h =
     let s = h .state in
     let after = done (Receive slot msg n bytes) h in
-    by (receiveVerdict s (length (h .received)) slot msg n (length bytes)) (λ v. outcomeTold (changedBy v s (after .state) .outcome) .number)
-    (λ v. record { state = changedBy v s (after .state) .state; sent = h .sent; received = storeBy v (h .received) (after .received) }) refl (λ e. refl) refl (λ e. refl)
-judged Show h = by (showVerdict (h .state) (length (h .received))) (λ v. handOutTold (handOutBy v (h .state .rx)) .number) (λ v. h) refl (λ e. refl) refl (λ e. refl)
-judged Take h =
-    by (takeVerdict (h .state)) (λ v. handOutTold (handOutBy v (h .state .rx)) .number) (λ v. withState h (takenBy (handOutBy v (h .state .rx)) (h .state))) refl (λ e. refl) refl (λ e. refl)
-judged Due h = by (dueVerdict (h .state)) (λ v. dueTold (dueBy v (h .state)) .number) (λ v. h) refl (λ e. refl) refl (λ e. refl)
+    by (receiveVerdict s (length (h .received)) slot msg n (length bytes))
+    (λ v. record { state = changedBy v s (after .state) .state; sent = h .sent; received = storeBy v (h .received) (after .received) }) refl (λ e. refl)
+judged Show h = by (verdict Show h) (λ v. h) refl (λ e. refl)
+judged Take h = by (takeVerdict (h .state)) (λ v. withState h (takenBy (handOutBy v (h .state .rx)) (h .state))) refl (λ e. refl)
+judged Due h = by (verdict Due h) (λ v. h) refl (λ e. refl)
+judged Close h = by-changed h (verdict Close h) (done Close h .state)
 judged (TakeAck slot) h =
     let ack = oldestAck (rowOf (h .state) slot) in
-    by (takeAckVerdict (h .state) slot) (λ v. takeAckTold (ackAs v ack) .number) (λ v. withState h (takenAckBy (ackAs v ack) (h .state) slot)) refl (λ e. refl) refl (λ e. refl)
-judged (EarliestConfirmTimeout timeout unreliable) h =
-    let found = firstSent (packets (h .state .tx)) in
-    by (confirmTimeoutVerdict (h .state) timeout) (λ v. confirmTimeoutTold (confirmTimeoutBy v (namedBy found (h .state) timeout unreliable)) .number) (λ v. h)
-    (named-told found (h .state) timeout unreliable) (λ e. refl) refl (λ e. refl)
+    by (takeAckVerdict (h .state) slot) (λ v. withState h (takenAckBy (ackAs v ack) (h .state) slot)) refl (λ e. refl)
+judged (EarliestConfirmTimeout timeout unreliable) h = let c = EarliestConfirmTimeout timeout unreliable in by (verdict c h) (λ v. h) refl (λ e. refl)
 
 module _ (c : Call) (h : Holding) where
   pub left-passed : verdict c h ≡ verdicts.Pass → next c h ≡ done c h
-  left-passed e = subst (λ (v : Verdict). Judges v (number c h) (next c h) (done c h) h) e (judged c h) .1
+  left-passed e = subst (λ (v : Verdict). Judges v (next c h) (done c h) h) e (judged c h)
 
   pub left-refused : (e : Refusal) → verdict c h ≡ verdicts.No e → next c h ≡ h
-  left-refused r e = subst (λ (v : Verdict). Judges v (number c h) (next c h) (done c h) h) e (judged c h) .1
+  left-refused r e = subst (λ (v : Verdict). Judges v (next c h) (done c h) h) e (judged c h)
 
   pub number-passed : verdict c h ≡ verdicts.Pass → number c h ≡ 0
-  number-passed e = subst (λ (v : Verdict). Judges v (number c h) (next c h) (done c h) h) e (judged c h) .0
+  number-passed e = ap (λ (v : Verdict). toldBy v (values c h) .number) e
 
   -- what holds before a call and after an accepted one, holds after it
   pub next-keeps : (P : Holding → Type 0) → P h → (verdict c h ≡ verdicts.Pass → P (done c h)) → P (next c h)
@@ -153,6 +137,7 @@ passed (Receive slot msg n bytes) h t g e = receive-passed (h .state) (length (h
 passed Show h t g e = tt
 passed Take h t g e = taking (h .state) _ _ _ (ap (λ (v : Verdict). handOutBy v (h .state .rx)) e)
 passed Due h t g e = tt
+passed Close h t g e = tt
 passed (TakeAck slot) h t g e = take-ack-passed (h .state) slot e
 passed (EarliestConfirmTimeout timeout unreliable) h t g e = tt
 
@@ -178,5 +163,6 @@ done-good (Receive slot msg n bytes) h t g p =
 done-good Show h t g p = g
 done-good Take h t g p = taken-good (h .state) g _ _ _ p
 done-good Due h t g p = g
+done-good Close h t g p = read-good (h .state) false g
 done-good (TakeAck slot) h t g p = take-ack-good (h .state) g slot (p .at)
 done-good (EarliestConfirmTimeout timeout unreliable) h t g p = g

@@ -1,6 +1,6 @@
 -- One row of the links is replaced: what Sound asks of the rows, and of the packets that name them, is kept. Assumes nothing.
 use mathlib.Core.Path.{_≡_, refl, sym, ap, _∙_}
-use mathlib.Core.Bool.{true, false}
+use mathlib.Core.Bool.{Bool, true, false}
 use mathlib.Core.List.{List, [], _∷_}
 use Prim.Native.Nat.{ℕ, suc, _^_, _≤_, _<_}
 use native.Mathlib.Decide.{ℕ-discrete}
@@ -23,7 +23,7 @@ use Rattle.engine.specs.Packets.{noPacket, packets, SentOn, weightAs, sumOf}
 use Rattle.engine.specs.DecidedTables.{RowFine}
 use Rattle.engine.specs.Rows.{rowOf, row-of}
 use Rattle.engine.specs.Sound.{Sound, Shaped, rowAt, packetAt, SentHere, SentBy, FlushedBy}
-use Rattle.engine.specs.Fields.{withRow, withTime}
+use Rattle.engine.specs.Fields.{withRow, withTime, withParts, withReader}
 use Rattle.engine.specs.Sizes.{SLOTS}
 use Rattle.refusal.specs.Tests.{false-true}
 
@@ -203,9 +203,9 @@ module _ (s t : State) (slot : ℕ) (row : LinkRow) (at : t .links ≡ set (s .l
 
 -- ---- the whole state
 
--- other rows and another time, and both halves as they were
-abbrev pub withLinks : State → List LinkRow → ℕ → State
-withLinks s links time = record { links = links; tx = s .tx; rx = s .rx; time = time }
+-- other rows, another time and a reader that is open or not, and both halves as they were
+abbrev pub withLinks : State → List LinkRow → ℕ → Bool → State
+withLinks s links time reads = withReader (withParts s links (s .tx) (s .rx) time) reads
 
 -- one row is replaced by another with as many places for acks
 pub links-set : (s : State) (slot : ℕ) (row : LinkRow) → Shaped s → length (row .«tx_ack_queue») ≡ ACKS → LinksShaped (set (s .links) slot row)
@@ -217,8 +217,8 @@ links-set s slot row shaped full = record {
   ];
 }
 
-module _ (s : State) (links : List LinkRow) (time : ℕ) where
-  links-shaped : LinksShaped links → time < 2 ^ 64 → Shaped s → Shaped (withLinks s links time)
+module _ (s : State) (links : List LinkRow) (time : ℕ) (reads : Bool) where
+  pub links-shaped : LinksShaped links → time < 2 ^ 64 → Shaped s → Shaped (withLinks s links time reads)
   links-shaped rows timed shaped = record {
     links-full = rows .full;
     queues = rows .queues;
@@ -241,7 +241,7 @@ module _ (s : State) (links : List LinkRow) (time : ℕ) where
   }
 
   pub links-sound : Sound s → s .time ≤ time → time ≤ MAX_TIME → RowsFine links (λ j. sumOf (SentOn j) (packets (s .tx))) time → Apart links
-      → ((st : SentReliableStatus) → SentHere s st → SentHere (withLinks s links time) st) → Sound (withLinks s links time)
+      → ((st : SentReliableStatus) → SentHere s st → SentHere (withLinks s links time reads) st) → Sound (withLinks s links time reads)
   links-sound sound later top fine apart here = record {
     consecutive = sound .consecutive;
     first = sound .first;
@@ -274,7 +274,7 @@ module _ (s : State) (links : List LinkRow) (time : ℕ) where
 -- one row changes, and perhaps the time: the row is as Sound asks, and keeps who lives there and the link's unacked bytes
 module _ (s : State) (slot : ℕ) (row : LinkRow) (time : ℕ) (shaped : Shaped s) where
   pub row-shaped : length (row .«tx_ack_queue») ≡ ACKS → time < 2 ^ 64 → Shaped (withTime (withRow s slot row) time)
-  row-shaped full timed = links-shaped s (set (s .links) slot row) time (links-set s slot row shaped full) timed shaped
+  row-shaped full timed = links-shaped s (set (s .links) slot row) time (s .«read_open») (links-set s slot row shaped full) timed shaped
 
   pub row-sound : Sound s → slot < SLOTS → rowAt s slot .live ≡ true → s .time ≤ time → time ≤ MAX_TIME → row .live ≡ rowAt s slot .live → row .«link_id» ≡ rowAt s slot .«link_id»
       → RowFine row (rowAt s slot .«txed_unacked_data») time → Sound (withTime (withRow s slot row) time)
@@ -282,7 +282,7 @@ module _ (s : State) (slot : ℕ) (row : LinkRow) (time : ℕ) (shaped : Shaped 
       let inside : slot < length (s .links) = omega (arith, shaped .links-full) in
       let sums : ℕ → ℕ = λ j. sumOf (SentOn j) (packets (s .tx)) in
       let fits : RowFine row (sums slot) time = rw (sound .link-unacked slot small lives) at new in
-      links-sound s (set (s .links) slot row) time sound later top
+      links-sound s (set (s .links) slot row) time (s .«read_open») sound later top
       (rows-set (s .links) slot row sums sums (s .time) time inside later (rows-of s sound) (λ l. fits) (λ j l ne. refl))
       (apart-kept (s .links) slot row inside small live id (sound .identities))
       (here-same s (withTime (withRow s slot row) time) slot row refl inside live id)

@@ -177,6 +177,10 @@ pub engine-handing-out :
     × Unique engine.handing_out.is_consume_ack_required.Reads.Learnt
 engine-handing-out = (first, first, first)
 
+-- crates/engine/src/closing.rt
+pub engine-closing : Unique engine.closing.close_reader.Reads.Learnt
+engine-closing = first
+
 -- crates/engine/src/deadlines.rt
 pub engine-deadlines : Unique engine.deadlines.earliest_confirm_timeout.Reads.Learnt
 engine-deadlines = first

@@ -179,6 +179,7 @@ fn to_cells(received: &mut ReceivedStore, tally: &mut Tally, number: u8, s: Stat
     report::answered(tally, take(s) == number);
     report::answered(tally, take_ack(s) == number);
     report::answered(tally, due(s) == number);
+    report::answered(tally, changed(s, engine::close_reader(s)) == number);
     report::answered(tally, is_sound(s) == number);
 }
 

@@ -23,7 +23,7 @@ use engine::State;
 // How many kinds of states are not sound, and how many there are with those that are sound all the same.
 const WRONG: usize = 96;
 
-const KINDS: usize = 103;
+const KINDS: usize = 104;
 
 // The good state with something set otherwise, and what that is written. Past the last kind it is the good state.
 fn kind(k: usize, s: State) -> State {
@@ -40,6 +40,7 @@ fn kind(k: usize, s: State) -> State {
         87..=95 => times::kinds(k - 87, s),
         96..=101 => links::empty(k - 96, s),
         102 => sending::resent(s),
+        103 => receiving::closed(s),
         _ => s,
     }
 }

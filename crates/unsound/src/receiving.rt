@@ -93,3 +93,10 @@ pub fn cells(k: usize, s: State) -> State {
         _ => s,
     }
 }
+
+// Sound asks nothing of the reader.
+pub fn closed(s: State) -> State {
+    let mut out = s;
+    out.read_open = false;
+    named(b"the reader closed", out)
+}

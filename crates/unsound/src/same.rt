@@ -239,5 +239,9 @@ pub fn states(a: State, b: State) -> bool {
     let b_tx = b.tx;
     let a_rx = a.rx;
     let b_rx = b.rx;
-    a.time == b.time && rows(a_rows, b_rows) && sending(a_tx, b_tx) && receiving(a_rx, b_rx)
+    a.time == b.time
+        && a.read_open == b.read_open
+        && rows(a_rows, b_rows)
+        && sending(a_tx, b_tx)
+        && receiving(a_rx, b_rx)
 }

@@ -153,6 +153,7 @@ impl Driver {
             Call::Take => self.take(),
             Call::TakeAck { slot } => self.take_ack(slot),
             Call::Due => format!("0 {}", self.end().is_consume_ack_required() as u8),
+            Call::Close => self.close(),
             Call::Deadline { factors, min, max, unreliable } => self.deadline(factors, min, max, unreliable),
             // The original looks at its own links, so that no run of another length is asked of it.
             Call::Slow { rows } => if rows == SLOTS { self.slow() } else { "4".into() },
@@ -372,6 +373,14 @@ impl Driver {
         format!("0 {} {seq} {length}", kind_of(&msg))
     }
 
+    /// Repeats what `run` does when it finds that the reader was dropped, but for the ReceiveFinish, which is a call of its own here.
+    fn close(&mut self) -> String {
+        let end = self.end();
+        end.read_tx = None;
+        end.read_closed_rx = None;
+        "0".into()
+    }
+
     /// Repeats what `run` does with a waiting ack; the number is read from the wire.
     fn take_ack(&mut self, slot: usize) -> String {
         self.written(slot);
@@ -453,7 +462,7 @@ impl End {
     fn dump_to(&self, out: &mut String, time: u64) -> fmt::Result {
         writeln!(
             out,
-            "end {} {} {} {} {} {} {} {} {} {} {} {time}",
+            "end {} {} {} {} {} {} {} {} {} {} {} {time} {}",
             self.tx_seq,
             self.txed_unacked,
             self.txed_unconsumed,
@@ -465,6 +474,7 @@ impl End {
             self.rxed_reliable_size,
             self.rxed_reliable_consumed_since_last_ack,
             self.cfg.recv_buffer,
+            self.read_tx.is_some() as u8,
         )?;
         for (slot, link) in self.links.iter().enumerate() {
             let Some(link) = link else { continue };

@@ -1,4 +1,4 @@
-//! The words of a script's line, as shared/CALLS.md gives them.
+//! The words of a script's line, as docs/CALLS.md gives them.
 
 use std::{num::NonZeroUsize, str::FromStr};
 
@@ -33,6 +33,7 @@ pub(crate) enum Call {
     Take,
     TakeAck { slot: usize },
     Due,
+    Close,
     Deadline { factors: [u64; 3], min: u64, max: u64, unreliable: bool },
     Slow { rows: usize },
     Dump,
@@ -120,6 +121,7 @@ impl Call {
             ["take"] => Self::Take,
             ["takeack", at] => Self::TakeAck { slot: slot(at)? },
             ["due"] => Self::Due,
+            ["close"] => Self::Close,
             ["deadline", roundtrip, resent, unreliable, min, max, is_unreliable] => Self::Deadline {
                 factors: [number(roundtrip)?, number(resent)?, number(unreliable)?],
                 min: number(min)?,

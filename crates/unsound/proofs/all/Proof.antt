@@ -8,7 +8,7 @@ abbrev Inv-loop : tie.InvT-loop
 Inv-loop sent₀ received₀ tally₀ s k₀ sent received tally k = Unit {0}
 
 abbrev μ-loop : tie.MeasureT-loop
-μ-loop sent₀ received₀ tally₀ s k₀ sent received tally k = 103 - k
+μ-loop sent₀ received₀ tally₀ s k₀ sent received tally k = 104 - k
 
 loop-holds : tie.Need-loop-holds Inv-loop μ-loop
 loop-holds c = search needs

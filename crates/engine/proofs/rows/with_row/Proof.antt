@@ -6,6 +6,7 @@ use lib.ListN.{length, length-map}
 use lib.Seq.{set-out}
 use Rattle.link.specs.declared.row.LinkRow.{LinkRow}
 use Rattle.engine.specs.declared.state.State.{State}
+use Rattle.engine.specs.Fields.{withParts}
 use borrow.Author.Needs.{needs}
 use Rattle.engine.proofs.rows.with_row.Statement.{statement}
 use Rattle.engine.proofs.rows.with_row.Tie as tie
@@ -16,7 +17,7 @@ returns c =
     let s : State = a .s in
     let g = c .before .good .0 .1 .1 .0 in
     let h : length (s .links) ≡ 8 = simp length-map at (g .1 .0 .1) in
-    ap {B = State} (λ (l : List LinkRow). record { links = l; tx = s .tx; rx = s .rx; time = s .time })
+    ap {B = State} (λ (l : List LinkRow). withParts s l (s .tx) (s .rx) (s .time))
     (sym (set-out (s .links) (a .slot) (a .row) (omega (arith, c .if1 .taken))))
 
 mul-row : tie.Need-mul-row
