@@ -47,11 +47,16 @@ reading reads h = withState h (withReader (h .state) reads)
 
 -- ---- what decides a call, what it tells and what it leaves
 
-sound-reading : (s : State) (reads : Bool) → soundb (withReader s reads) ≡ soundb s
-sound-reading s reads =
+-- whether a state is sound, and each of its rows: what `is_sound` and `row_of` answer
+pub reader-sound : (s : State) (reads : Bool) → soundb (withReader s reads) ≡ soundb s
+reader-sound s reads =
     cases (soundb s)
     (λ t. sound-true (withReader s reads) (read-sound s reads (sound s t)) ∙ sym t)
     (λ f. cases (soundb (withReader s reads)) (λ t. t ∙ sym (sound-true s (read-sound (withReader s reads) (s .«read_open») (sound (withReader s reads) t)))) (λ t. t ∙ sym f))
+
+pub reader-row : (s : State) (reads : Bool) (slot : ℕ) → rowOf (withReader s reads) slot ≡ rowOf s slot
+unfolding rowOf
+reader-row s reads slot = refl
 
 named-reading : (found : FirstSent) (s : State) (reads : Bool) (timeout : AckTimeout) (unreliable : Bool) → namedValues found (withReader s reads) timeout unreliable ≡ namedValues found s timeout unreliable
 unfolding deadlineOf rowOf
@@ -70,7 +75,7 @@ Alike c h reads =
     × ((c ≢ Due → values c (reading reads h) ≡ values c h) × ((c ≡ Close → reads ≡ false) → done c (reading reads h) ≡ reading reads (done c h)))
 
 by-sound : (h : Holding) (reads : Bool) (rest : Verdict) → gate (soundb (reading reads h .state)) 1 rest ≡ gate (soundb (h .state)) 1 rest
-by-sound h reads rest = ap (λ ok. gate ok 1 rest) (sound-reading (h .state) reads)
+by-sound h reads rest = ap (λ ok. gate ok 1 rest) (reader-sound (h .state) reads)
 
 alike : (c : Call) (h : Holding) (reads : Bool) → Alike c h reads
 unfolding slotVerdict timedVerdict addVerdict sendVerdict totalsOk resendVerdict receiveVerdict showVerdict takeVerdict takeAckVerdict confirmTimeoutVerdict slotOk timeOk rowOf unconfirmedState removedState flushedState sentState resentState ackedRow ackedTx ackedState repeatedState receivedState takenState takenAckState
@@ -149,6 +154,6 @@ closed-twice s = go (stateVerdict s) refl
     go : (v : Verdict) → stateVerdict s ≡ v → closeOf (closeOf s .state) ≡ closeOf s
     go Pass e =
         let once = ap (λ x. changedBy x s (closedState s)) e in
-        let again : stateVerdict (closedState s) ≡ Pass = ap (λ ok. gate ok 1 Pass) (sound-reading s false) ∙ e in
+        let again : stateVerdict (closedState s) ≡ Pass = ap (λ ok. gate ok 1 Pass) (reader-sound s false) ∙ e in
         ap (λ (x : Changed). closeOf (x .state)) once ∙ ap (λ x. changedBy x (closedState s) (closedState s)) again ∙ sym once
     go (No r) e = ap (λ (x : Changed). closeOf (x .state)) (ap (λ x. changedBy x s (closedState s)) e)
