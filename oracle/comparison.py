@@ -54,9 +54,24 @@ class Sides:
                 text = file.read()
             if done.returncode and not text:
                 raise RuntimeError("the port's command failed: " + " ".join(self.port))
-            port = by_call(lines, text)
-            run = subprocess.run([self.driver, script, told], capture_output=True, cwd=ROOT, timeout=SECONDS, check=False)
-            return port, by_call(lines, run.stdout.decode("latin-1"))
+            return by_call(lines, text), self.original(script, told, lines)
+
+    def original(self, script, told, lines):
+        """What the original answers to each line of the script, its driver told these answers."""
+        run = subprocess.run([self.driver, script, told], capture_output=True, cwd=ROOT, timeout=SECONDS, check=False)
+        return by_call(lines, run.stdout.decode("latin-1"))
+
+    def asked(self, scripts):
+        """For scripts, each with the answers to all but its last line: what the original, told nothing of that line, answers to it."""
+        lines = [line for one, _ in scripts for line in one]
+        with tempfile.TemporaryDirectory() as room:
+            script, told = os.path.join(room, "script"), os.path.join(room, "answers")
+            with open(script, "w", encoding="latin-1") as file:
+                file.writelines(line + "\n" for line in lines)
+            with open(told, "w", encoding="latin-1") as file:
+                file.writelines(answer + "\n" for _, answers in scripts for answer in [*answers, ""])
+            answers = iter(self.original(script, told, lines))
+        return [[next(answers) for _ in one][-1] for one, _ in scripts]
 
 
 def by_call(lines, text):
@@ -82,16 +97,18 @@ def first_difference(one, other):
 
 
 class Difference:
-    """Where the port parts from the original, or from the model."""
+    """Where the port parts from the original, or from the model. Behind a far mark the original is known to part."""
 
-    def __init__(self, seed, whom, lines):
+    def __init__(self, seed, whom, lines, is_known):
         self.seed = seed
         self.whom = whom
         self.lines = lines
+        self.is_known = is_known
 
 
 class Tally:
-    """What was run: calls by name, accepted ones, refusals by number, and what the accepted deadlines and questions for a Consumed met, as the model saw it."""
+    """What was run: calls by name, accepted ones, refusals by number; what the accepted deadlines, the questions for a Consumed and the far
+    numbers met, as the model saw it; and what the original answers to calls that the port refused with 22."""
 
     def __init__(self):
         self.calls = collections.Counter()
@@ -99,6 +116,8 @@ class Tally:
         self.refusals = collections.Counter()
         self.deadlines = collections.Counter()
         self.dues = collections.Counter()
+        self.fars = collections.Counter()
+        self.asked = collections.Counter()
 
     def add(self, lines, answers):
         for line, answer in zip(lines, answers):
@@ -118,11 +137,13 @@ class Tally:
         self.refusals.update(other.refusals)
         self.deadlines.update(other.deadlines)
         self.dues.update(other.dues)
+        self.fars.update(other.fars)
+        self.asked.update(other.asked)
 
     def __str__(self):
         accepted = sum(self.accepted.values())
         numbers = sorted(self.refusals, key=lambda word: (not word.isdigit(), int(word) if word.isdigit() else 0))
-        return "%d calls, %d accepted, %d of these dumps\naccepted: %s\nrefused: %s\ndeadlines: %s\ndues: %s" % (
+        told = "%d calls, %d accepted, %d of these dumps\naccepted: %s\nrefused: %s\ndeadlines: %s\ndues: %s" % (
             sum(self.calls.values()),
             accepted,
             self.accepted["dump"],
@@ -131,6 +152,25 @@ class Tally:
             ", ".join("%s: %d" % item for item in self.deadlines.items()) or "none",
             ", ".join("%s: %d" % item for item in self.dues.items()) or "none",
         )
+        for name, counts in (("far numbers", self.fars), ("what the original answers to what was refused with 22", self.asked)):
+            lines = ["    %s: %d" % item for item in sorted(counts.items()) if item[1]]
+            told += "\n".join(["\n%s:" % name, *lines]) if lines else ""
+        return told
+
+
+def asked_by_itself(sides, lines, port):
+    """What the original answers to each call of a script that the port refused with 22, with the call's name. Each is asked by itself,
+    behind the lines before it that the port did not refuse so."""
+    names, scripts, before = [], [], []
+    for line, answer in zip(lines, port):
+        if line.startswith("fresh ") and answer == "0":
+            before = []
+        if answer == "22":
+            names.append(line.split(" ")[0])
+            scripts.append(([one for one, _ in before] + [line], [told for _, told in before]))
+        elif line != "dump":
+            before.append((line, answer))
+    return zip(names, sides.asked(scripts)) if scripts else []
 
 
 def compare(sides, seeds, calls, mode="near"):
@@ -143,6 +183,9 @@ def compare(sides, seeds, calls, mode="near"):
     for one in scripts:
         tally.deadlines.update(one.deadlines)
         tally.dues.update(one.dues)
+        tally.fars.update(one.fars)
+    if mode == "far":
+        tally.asked.update("%s, answered %s" % one for one in asked_by_itself(sides, lines, port))
     differences = []
     at = 0
     for seed, one in zip(seeds, scripts):
@@ -151,7 +194,8 @@ def compare(sides, seeds, calls, mode="near"):
         for whom, other in (("original", original[part]), ("model", one.answers)):
             place = first_difference(port[part], other)
             if place is not None:
-                differences.append(Difference(seed, whom, one.lines[: place + 1]))
+                is_known = mode == "marks" and whom == "original" and any(mark < place for mark in one.far_marks)
+                differences.append(Difference(seed, whom, one.lines[: place + 1], is_known))
     return tally, differences
 
 

@@ -1,7 +1,7 @@
 """Scripts of calls, each from a seed: oracle/generate writes one, oracle/compare runs many.
 
 The model goes along, so that a script can aim at what its state makes interesting: the wrap, a full table, the window's edge, a
-buffer exactly full, repeats, late acks, a deadline's bounds. Its answers come with the script.
+buffer exactly full, repeats, late acks, a deadline's bounds; in scripts with far numbers the edge of far. Its answers come with the script.
 """
 
 import collections
@@ -12,6 +12,7 @@ from model import (
     CELLS,
     CONSUMED,
     DATA,
+    FAR,
     MOST_BUFFER,
     MOST_DATA,
     MOST_FACTOR,
@@ -26,12 +27,20 @@ from model import (
     USABLE_INTERVAL,
     WRAP,
     Model,
+    distance,
     pattern,
 )
 
-# Every number of a script is at most this far from its start, so that no two are 2^30 apart: document 01 and the original
-# order nearer numbers alike, and farther ones not.
+# What a script's numbers may be. Near: no two are far from each other. Far: received and acked ones may be far from what they are judged
+# against. Marks: a mark, too, may be far from an acked or a resent number, and the original puts the two in an order.
+NEAR_ONLY, FAR_TOO, FAR_MARKS = range(3)
+MODES = {"near": NEAR_ONLY, "far": FAR_TOO, "marks": FAR_MARKS}
+
+# But for what is far on purpose, every number of a script is at most this far from its start, so that no two are 2^30 apart.
 NEAR = 2**29 - 1
+
+# The edge of far, and the farthest of all: how far, either way, and how the tally names it.
+EDGES = {FAR - 1: "2^30 - 1", FAR: "2^30", FAR + 1: "2^30 + 1", 2**31 - 1: "2^31 - 1", 2**31: "2^31"}
 
 # A dump comes at least this often.
 DUMP_EVERY = 10
@@ -64,14 +73,19 @@ MOODS = {
     "messages": {"read": 50, "write": 50},
     "odd": {"junk": 20, "lend": 6, "fresh": 1, "wrong_slot": 20, "wrong_time": 20, "send": 10, "receive": 10},
 }
+# What scripts with far numbers have besides, each as often as three of the others.
+FAR_MOODS = {
+    "far": {"receive_far": 30, "ack_far": 30, "receive": 20, "send": 20, "ack": 10, "mark": 10, "take": 8, "takeack": 8},
+    "far marks": {"mark": 30, "ack_far": 20, "ack": 20, "send": 20, "unconfirm": 6, "resend": 30, "add": 4},
+}
 SELDOM = {"junk": 0.3, "lend": 0.3, "wrong_slot": 0.6, "wrong_time": 0.6, "mark": 0.3, "add": 0.4, "due": 0.4, "slow": 0.4}
 SELDOM.update({"ping": 0.4, "pong": 0.4, "read": 0.4, "write": 0.4, "confirm": 0.3, "send_consumed": 0.4, "show": 0.4})
 SELDOM.update({"deadline": 3, "close": 0.4})
 
 
-def weights(mood):
+def weights(steps):
     together = dict(SELDOM)
-    for name, weight in MOODS[mood].items():
+    for name, weight in steps.items():
         together[name] = together.get(name, 0) + weight
     names = list(together)
     sums, total = [], 0
@@ -81,7 +95,7 @@ def weights(mood):
     return names, sums
 
 
-WEIGHTS = {mood: weights(mood) for mood in MOODS}
+WEIGHTS = {mood: weights(steps) for mood, steps in (MOODS | FAR_MOODS).items()}
 
 
 def met(end, roundtrip_factor, resent_factor, unreliable_factor, least, most, unreliable):
@@ -121,17 +135,29 @@ def reader(end):
     return {"closed, none untold": not due, "closed, due": due, "closed, due at a tenth or less": due and end.untold <= tenth}
 
 
-class Script:
-    """A script in the making: its lines, the model's answers, and what its deadlines and its questions for a Consumed met."""
+def edge(a, b):
+    """At which edge of far a stands from b, in words; none elsewhere."""
+    ahead = (a - b) % WRAP
+    if ahead in EDGES:
+        return EDGES[ahead] + " ahead"
+    return EDGES[WRAP - ahead] + " behind" if WRAP - ahead in EDGES else None
 
-    def __init__(self, seed, calls, far=False):
-        self.random = random.Random("farthingkeg %d %d" % (seed, far))
+
+class Script:
+    """A script in the making: its lines, the model's answers, and what its deadlines, its questions for a Consumed and its far numbers met."""
+
+    def __init__(self, seed, calls, numbers=NEAR_ONLY):
+        self.random = random.Random("farthingkeg %d %d" % (seed, numbers))
         self.calls = calls
-        self.far = far
+        self.numbers = numbers
+        self.moods = list(MOODS) if numbers == NEAR_ONLY else list(MOODS) + 3 * list(FAR_MOODS)
         self.lines = []
         self.answers = []
         self.deadlines = collections.Counter()
         self.dues = collections.Counter()
+        self.fars = collections.Counter()
+        # The places of accepted acks and resends that met a mark far from their number.
+        self.far_marks = []
         self.since_dump = 0
         self.model = Model()
         self.begin()
@@ -147,7 +173,10 @@ class Script:
         """Adds the call, and a dump when one is due. What is past the script's length is dropped."""
         if len(self.lines) >= self.calls:
             return
-        self.put(" ".join(map(str, words)))
+        if self.numbers != NEAR_ONLY and words[0] in ("receive", "ack", "resend"):
+            self.put_judged(words)
+        else:
+            self.put(" ".join(map(str, words)))
         self.since_dump += 1
         if self.since_dump >= DUMP_EVERY - 1 or self.chance(0.06):
             self.put("dump")
@@ -160,6 +189,29 @@ class Script:
             self.deadlines.update(met(self.end, *map(int, line.split(" ")[1:])))
         if line == "due" and self.answers[-1].startswith("0"):
             self.dues.update(reader(self.end))
+
+    def put_judged(self, words):
+        """Puts a call with a number, and notes how far that is from what it is judged against and from the link's mark. Unless the script
+        is about far marks, one that an ack or a resend would meet is set anew first, near the number."""
+        name, slot, _, number, *_ = words
+        link = self.end.links[slot] if slot in self.live() else None
+        judge = self.end.rx if name == "receive" else self.end.tx
+        is_far, place = distance(number, judge) is None, edge(number, judge)
+        is_marked = name != "receive" and link is not None and link.mark is not None
+        far_mark = is_marked and not is_far and distance(link.mark, number) is None
+        if far_mark and self.numbers == FAR_TOO:
+            self.put("mark %d %d" % (slot, (number + self.pick(-1, 0, 1)) % WRAP))
+            far_mark = False
+        waiting = len(link.acks) if link else 0
+        self.put(" ".join(map(str, words)))
+        answer = self.answers[-1].split(" ")[0]
+        if name != "resend":
+            self.fars["%s far, answered %s" % (name, answer)] += is_far
+            self.fars["receive far with 64 acks waiting, answered %s" % answer] += is_far and name == "receive" and waiting == ACKS
+            self.fars["%s %s, answered %s" % (name, place, answer)] += place is not None and answer in ("0", "11", "13", "22")
+        if far_mark and answer == "0":
+            self.far_marks.append(len(self.lines) - 1)
+            self.fars["%s with a far mark" % name] += 1
 
     # Choices.
 
@@ -205,11 +257,14 @@ class Script:
 
     def near(self, number):
         """The number, or one that no rule meets often."""
-        if self.far and self.chance(0.08):
-            return (self.start + self.pick(2**30, 2**31, 3 * 2**30) + self.pick(-65, -1, 0, 1, 64)) % WRAP
         if self.chance(0.01):
             return (self.start + self.pick(-1, 1) * (NEAR - self.below(2000))) % WRAP
         return number % WRAP
+
+    def far_number(self, number):
+        """A number at an edge of far from that one, or about there, or anywhere beyond."""
+        away = self.pick(*EDGES, *EDGES, FAR - self.below(200), FAR + self.below(200), FAR + self.below(FAR))
+        return (number + self.pick(-1, 1) * away) % WRAP
 
     # The script.
 
@@ -230,7 +285,7 @@ class Script:
             self.step_add()
 
     def mood(self):
-        names, sums = WEIGHTS[self.random.choice(list(MOODS))]
+        names, sums = WEIGHTS[self.random.choice(self.moods)]
         for _ in range(10 + self.below(90)):
             name = self.random.choices(names, cum_weights=sums)[0]
             getattr(self, "step_" + name)()
@@ -275,6 +330,9 @@ class Script:
         self.call("slow")
 
     def step_mark(self):
+        if self.numbers == FAR_MARKS and self.chance(0.5):
+            packets = [self.end.tx, *(packet.number for packet in self.end.packets)]
+            return self.call("mark", self.slot(), self.far_number(self.random.choice(packets)))
         self.call("mark", self.slot(), self.near(self.end.tx + self.pick(-64, -3, -2, -1, 0, 0, 1, 5)))
 
     # Sending.
@@ -317,6 +375,18 @@ class Script:
             first = packets[0].number if packets else self.end.tx
             number = self.pick(self.end.tx, self.end.tx + 1, first - 1, first - 2, self.end.tx - PACKETS, first - self.below(200))
         self.call("ack", slot, self.time(), self.near(number))
+
+    def step_ack_far(self):
+        """A far number, or one that just isn't; at times what is refused before that, 3 and 4. Often over a link with a mark."""
+        marked = [slot for slot in self.live() if self.end.links[slot].mark is not None]
+        slot, time, how = self.slot(), self.time(), self.below(12)
+        if marked and self.chance(0.5):
+            slot = self.random.choice(marked)
+        if how == 0:
+            slot = self.pick(8, 255, *(slot for slot in range(8) if slot not in self.live()))
+        elif how == 1:
+            time = self.pick(max(0, self.end.time - 1), MOST_TIME + 1)
+        self.call("ack", slot, time, self.far_number(self.end.tx))
 
     # Deadlines.
 
@@ -382,6 +452,27 @@ class Script:
         if held and self.chance(0.4):
             return self.receive(self.random.choice(held))
         self.receive(self.end.rx - 1 - self.pick(0, 1, self.below(80), CELLS, ACKS))
+
+    def step_receive_far(self):
+        """A far number, or one that just isn't; at times with what is refused before that, 2, 4 and 7, or after it, 13, 14 and 15."""
+        slot, how = self.slot(), self.below(40)
+        kind, count, data = DATA, 0, self.data(self.size())
+        if how < 3:
+            slot = self.pick(8, 255, *(slot for slot in range(8) if slot not in self.live()))
+        elif how < 6:
+            kind, data = self.pick((DATA, self.odd_data()), (SEND_FINISH, "aa"), (RECEIVE_CLOSE, self.odd_data()))
+        elif how < 9:
+            kind, count, data = CONSUMED, min(self.end.unconsumed + self.below(3), WRAP - 1), "-"
+        elif how < 12:
+            data = self.data(min(self.end.buffer - self.end.untaken + 1, MOST_DATA))
+        elif how == 12 and slot in self.live():
+            for _ in range(ACKS - len(self.end.links[slot].acks)):
+                self.receive(self.end.rx - 1, DATA, slot, 0)
+        elif how == 13:
+            self.call("lend", "received", STORE - 1)
+        self.call("receive", slot, kind, self.far_number(self.end.rx), count, data)
+        if how == 13:
+            self.call("lend", "received", STORE)
 
     def step_receive_consumed(self):
         self.receive(self.end.rx, CONSUMED)
@@ -574,6 +665,8 @@ class Trips:
         self.random = random.Random("farthingkeg trips %d" % seed)
         self.deadlines = collections.Counter()
         self.dues = collections.Counter()
+        self.fars = collections.Counter()
+        self.far_marks = []
         self.lines = []
         while len(self.lines) + 5 <= calls:
             trip, elapsed = self.time(), self.time()
@@ -588,8 +681,8 @@ class Trips:
 
 
 def script(mode, seed, calls):
-    """A script of that mode: near (what both sides agree about), far, or trips."""
-    return Trips(seed, calls) if mode == "trips" else Script(seed, calls, mode == "far")
+    """A script of that mode: near, far, marks, or trips."""
+    return Trips(seed, calls) if mode == "trips" else Script(seed, calls, MODES[mode])
 
 
 # Lines that are no calls.

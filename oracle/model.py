@@ -1,5 +1,5 @@
 #!/usr/bin/env python3
-"""Document 01 and requests [1], [4], [9] and [11] of 02 as a model: answers the scripted calls of CALLS.md. Written from these papers alone.
+"""Document 01 and requests [1], [4], [5], [9] and [11] of 02 as a model: answers the scripted calls of CALLS.md. Written from these papers alone.
 
     python3 oracle/model.py < SCRIPT
     python3 oracle/model.py --sound < SCRIPT     also asks after every call that the state is sound
@@ -23,6 +23,8 @@ MOST_DATA = 1024
 STORE = CELLS * MOST_DATA
 MOST_BUFFER = 65536
 USABLE_INTERVAL = 65536
+# From here on, either way, two numbers are far from each other.
+FAR = 2**30
 
 DATA, CONSUMED, SEND_FINISH, RECEIVE_CLOSE, RECEIVE_FINISH = 7, 9, 10, 11, 12
 
@@ -42,13 +44,30 @@ class NotACall(Exception):
 
 
 def distance(a, b):
-    """Sums and differences of numbers wrap at 2^32; a difference is read as signed."""
+    """The one place where distance is asked for (02, [5]): the difference, wrapped at 2^32 and read as signed. None says "far"."""
     n = (a - b) % WRAP
-    return n - WRAP if n >= WRAP // 2 else n
+    signed = n - WRAP if n >= WRAP // 2 else n
+    return signed if -FAR < signed < FAR else None
+
+
+def need_near(a, b):
+    """The distance of two numbers that must not be far from each other."""
+    away = distance(a, b)
+    if away is None:
+        raise Refused(22)
+    return away
+
+
+def is_past(a, b, least, most):
+    """Whether a is past b by so many numbers, from the least to the most. Of far numbers none is past the other."""
+    away = distance(a, b)
+    return away is not None and least <= away <= most
 
 
 def before(a, b):
-    return distance(a, b) < 0
+    """Of far numbers none is before the other."""
+    away = distance(a, b)
+    return away is not None and away < 0
 
 
 class Link:
@@ -263,12 +282,13 @@ class End:
     def ack(self, slot, time, number):
         self.need_time(time)
         link = self.live(slot)
-        back = (self.tx - number) % WRAP
+        back = need_near(self.tx, number)
         packet = None
         if 1 <= back <= len(self.packets):
             packet = self.packets[len(self.packets) - back]
         if link.mark is not None:
-            if link.mark == number or before(link.mark, number):
+            away = distance(link.mark, number)
+            if away is None or away <= 0:
                 link.mark = None
             else:
                 link.zero = True
@@ -336,10 +356,11 @@ class End:
         link = self.live(slot)
         self.need_data(kind, data)
         length = len(data)
-        new = not before(number, self.rx) and number not in self.held
-        if new and distance(number, self.rx) > USABLE_INTERVAL:
+        offset = need_near(number, self.rx)
+        new = offset >= 0 and number not in self.held
+        if new and offset > USABLE_INTERVAL:
             raise Refused(11)
-        if new and distance(number, self.oldest()) >= CELLS:
+        if new and not is_past(number, self.oldest(), 0, CELLS - 1):
             raise Refused(12)
         if len(link.acks) == ACKS:
             raise Refused(13)
@@ -410,7 +431,7 @@ class End:
         return self.kept[at : at + message.length]
 
     def held_in_order(self):
-        return [self.held[n] for n in sorted(self.held, key=lambda n: (n - self.rx) % WRAP)]
+        return [self.held[n] for n in sorted(self.held, key=lambda n: distance(n, self.rx))]
 
     def dump(self):
         out = [
@@ -477,7 +498,6 @@ class End:
         identities = [link.identity for _, link in live]
         messages = self.ready + list(self.held.values())
         since = [distance(m.number, self.oldest()) for m in self.ready]
-        after = [distance(number, self.rx) for number in self.held]
         times = [p.time for p in sent] + [p.flushed for p in sent if p.flushed is not None]
         times += [link.ping for _, link in live if link.ping is not None]
         sizes = [self.unacked, self.unconsumed, self.unconsumable, self.untold, self.untaken]
@@ -492,10 +512,10 @@ class End:
             and self.untaken == sum(m.length for m in messages if m.kind == DATA) <= self.buffer
             and len(set(identities)) == len(identities)
             and all(m.kind in (DATA, SEND_FINISH) and before(m.number, self.rx) for m in self.ready)
+            and all(is_past(m.number, self.oldest(), 0, CELLS - 1) for m in messages)
             and since == sorted(set(since))
-            and all(n > 0 for n in after)
-            and all(0 <= distance(m.number, self.oldest()) < CELLS for m in messages)
-            and 0 <= distance(self.rx, self.oldest()) <= CELLS
+            and all(before(self.rx, number) for number in self.held)
+            and is_past(self.rx, self.oldest(), 0, CELLS)
             and all(time <= self.time for time in times)
             and len(self.packets) <= PACKETS
             and all(len(link.acks) <= ACKS and link.roundtrip <= MOST_TIME for _, link in live)

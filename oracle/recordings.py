@@ -10,6 +10,7 @@ import re
 from model import (
     CONSUMED,
     DATA,
+    FAR,
     MOST_DATA,
     RECEIVE_CLOSE,
     RECEIVE_FINISH,
@@ -26,7 +27,6 @@ NUMBERED = (DATA, CONSUMED, SEND_FINISH, RECEIVE_CLOSE, RECEIVE_FINISH)
 MOST_FRAME_DIGITS = 2080
 MOST_PAYLOAD_DIGITS = 2048
 MOST_NUMBERS = 1024
-FAR = 2**30
 BAD_LINE, TOO_FAR, TOO_MANY = 20, 22, 23
 FIRST, SECOND = "first", "second"
 
@@ -95,7 +95,7 @@ def read(whose, recording):
 
 def need_near(whose, start, messages):
     for place, number, _ in messages:
-        if not -FAR < distance(number, start) < FAR:
+        if distance(number, start) is None:
             raise Refusal(TOO_FAR, whose, place)
 
 
@@ -297,7 +297,7 @@ class Pair:
             away = distance(self.random.randint(-3, 3) % WRAP, self.start)
         else:
             away = self.random.randint(1 - FAR, FAR - 1)
-        return (self.start + away) % WRAP if abs(away) < FAR else self.number()
+        return self.number() if away is None else (self.start + away) % WRAP
 
     def far_number(self):
         """About 2^30 from the start, on both sides of the limit, or 2^31."""

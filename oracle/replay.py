@@ -1,5 +1,5 @@
 #!/usr/bin/env python3
-"""What the replay program answers, by document 01 and requests [2] and [11] of 02 alone: "The replay program", "Message bytes (002)",
+"""What the replay program answers, by document 01 and requests [2], [5] and [11] of 02 alone: "The replay program", "Message bytes (002)",
 "Receive" and "Hand out".
 
 It is a model of its own: nothing here is taken from the crates. `input` writes the hand-made cases, `answers` the answers to what
@@ -14,15 +14,18 @@ Input in pieces (`Replay`) is a second model: it sees a line when it ends, and o
 import sys
 
 WRAP = 2**32
+FAR = 2**30
 RECEIVE_BUFFER = 65_536
 DATA, ACK, CONSUMED, SEND_FINISH, RECEIVE_CLOSE, RECEIVE_FINISH = 7, 8, 9, 10, 11, 12
 RELIABLE = (CONSUMED, SEND_FINISH, RECEIVE_CLOSE, RECEIVE_FINISH)
 BAD = 20
 
 
-def signed(n):
-    n %= WRAP
-    return n - WRAP if n >= WRAP // 2 else n
+def distance(a, b):
+    """The difference, wrapped and read as signed; None where it is 2^30 or more either way, which request [5] calls far."""
+    n = (a - b) % WRAP
+    signed = n - WRAP if n >= WRAP // 2 else n
+    return signed if -FAR < signed < FAR else None
 
 
 def number(four):
@@ -67,14 +70,17 @@ class End:
         self.untold = 0
 
     def receive(self, kind, n, count, size):
-        again = signed(n - self.expected) < 0 or n in self.held
+        offset = distance(n, self.expected)
         oldest = self.ready[0][0] if self.ready else self.expected
         untaken = sum(s for _, s in self.ready) + sum(s for _, s in self.held.values())
         if size > 1024:
             return 7
-        if not again and (n - self.expected) % WRAP > 65_536:
+        if offset is None:
+            return 22
+        again = offset < 0 or n in self.held
+        if not again and offset > 65_536:
             return 11
-        if not again and (n - oldest) % WRAP >= 64:
+        if not again and distance(n, oldest) >= 64:
             return 12
         if self.acks == 64:
             return 13
@@ -243,9 +249,11 @@ def cases():
     yield from data(14, "05") + data(15, "0700000010")
     # the window: 63 past the next expected is held, 64 is not; 65,536 past is still 12, 65,537 past is 11
     yield from data(16 + 63, "01") + data(16 + 64, "01") + data(16 + 65_536, "01") + data(16 + 65_537, "01")
-    # a repeat of one that is held, and of old ones, with other bytes, of another kind, and just 2^31 before
-    yield from data(16 + 63, "02") + data(0, "ee") + numbered(12, 0) + consumed(2, 9) + data(16 - 2**31, "")
-    yield from data(16 + 2**31 - 1, "")
+    # a repeat of one that is held, and of old ones, with other bytes, of another kind, and 2^30 - 1 before the next expected
+    yield from data(16 + 63, "02") + data(0, "ee") + numbered(12, 0) + consumed(2, 9) + data(16 - FAR + 1, "")
+    # 2^30 - 1 past it is 11; 2^30 and more is far, either way and of every kind; with a bad payload it is bad
+    yield from data(16 + FAR - 1, "") + data(16 + FAR, "") + data(16 - FAR, "") + data(16 + 2**31, "") + data(16 + FAR, "5a" * 1025)
+    yield from consumed(16 + FAR, 1) + numbered(10, 16 - FAR) + numbered(11, 16 + 2**31 - 1) + numbered(12, 16 - FAR - 1)
     # more repeats than acks wait: each was taken
     for _ in range(70):
         yield from data(3, "")

@@ -257,7 +257,7 @@ fn cells(out: &mut Buffer, at: usize, rx: Receiving) -> usize {
     let mut end = at;
     let mut n = rx.rx_oldest;
     let mut k: u32 = 0;
-    let expected = rx.rx_seq.since(rx.rx_oldest);
+    let expected = rx.rx_seq.past(rx.rx_oldest);
     while k < CELL_ROUND {
         let i = (n.0 % CELL_ROUND) as usize;
         let cell = rx.rxed_reliable[i];

@@ -13,7 +13,7 @@ use Rattle.comparing.specs.Rows.{Rising, rowsOf}
 use Rattle.comparing.specs.Cells.{rows-length}
 use Rattle.comparing.specs.Table.{earliest, noNumbers, tabled}
 use Rattle.comparing.specs.Differences.{Listed, listBelow, listOf}
-use Rattle.comparing.specs.Judging.{farLine, manyLine, startsPart, inOrder, verdictOf, passed-says, starts-same}
+use Rattle.comparing.specs.Judging.{farLine, manyLine, startsPart, inOrder, verdictOf, passed-says, order-same, starts-same}
 use Rattle.comparing.specs.Compared.{wordsOf, howMany, comparedAs, comparedOf, listIn, comparedList}
 use Rattle.comparing.specs.Says.{Says}
 use Rattle.comparing.specs.Sanity.{body-sane, start-small}
@@ -36,24 +36,26 @@ module _ (input : List ℕ) (found : Scanned) (cells : List ℕ) (scans : Scanni
   unfolding earliest
   far-found = ap (λ t. t .far) (scans .tables) ∙ tabled-far input (startOf input) noNumbers (bodyOf input .messages)
 
-  many-found : found .counts .many ≡ manyLine [] (bodyOf input .messages)
-  many-found = ap (λ t. t .many) (scans .tables) ∙ tabled-many input (startOf input) (start-small input) (bodyOf input .messages) (body-sane input)
-
   rows-found : rowsOf (found .counts .count) cells ≡ tabled input (startOf input) noNumbers (bodyOf input .messages) .rows
   rows-found = ap (λ t. t .rows) (scans .tables)
 
   rising-found : Rising 0 (rowsOf (found .counts .count) cells)
   rising-found = rw rows-found (tabled-rising input (startOf input) (bodyOf input .messages))
 
-  none-found : manyLine [] (bodyOf input .messages) ≡ 0 → tabled input (startOf input) noNumbers (bodyOf input .messages) .many ≡ 0
-  none-found e = tabled-many input (startOf input) (start-small input) (bodyOf input .messages) (body-sane input) ∙ e
+  -- where no message is far, the table's count is that of the numbers
+  module _ (near : farLine (startOf input) (bodyOf input .messages) ≡ 0) where
+    many-found : found .counts .many ≡ manyLine [] (bodyOf input .messages)
+    many-found = ap (λ t. t .many) (scans .tables) ∙ tabled-many input (startOf input) (start-small input) (bodyOf input .messages) (body-sane input) near
 
-  count-found : length cells ≡ 3072 → manyLine [] (bodyOf input .messages) ≡ 0 → found .counts .count ≡ howMany input
-  unfolding howMany
-  count-found room none =
-      sym (rows-length (found .counts .count) cells (omega (arith, scans .counts)))
-      ∙ ap length rows-found
-      ∙ tabled-count input (startOf input) (start-small input) (bodyOf input .messages) (body-sane input) (none-found none)
+    none-found : manyLine [] (bodyOf input .messages) ≡ 0 → tabled input (startOf input) noNumbers (bodyOf input .messages) .many ≡ 0
+    none-found e = tabled-many input (startOf input) (start-small input) (bodyOf input .messages) (body-sane input) near ∙ e
+
+    count-found : length cells ≡ 3072 → manyLine [] (bodyOf input .messages) ≡ 0 → found .counts .count ≡ howMany input
+    unfolding howMany
+    count-found room none =
+        sym (rows-length (found .counts .count) cells (omega (arith, scans .counts)))
+        ∙ ap length rows-found
+        ∙ tabled-count input (startOf input) (start-small input) (bodyOf input .messages) (body-sane input) near (none-found none)
 
 -- what is known of two recordings that passed
 pub record Passed (first second : List ℕ) (a : Scanned) (x : List ℕ) (b : Scanned) (y : List ℕ) : Type 0 where
@@ -66,20 +68,24 @@ pub record Passed (first second : List ℕ) (a : Scanned) (x : List ℕ) (b : Sc
 module _ (first second : List ℕ) (a : Scanned) (x : List ℕ) (b : Scanned) (y : List ℕ) (scans-a : Scanning first a x) (scans-b : Scanning second b y) where
   pub judged-same : judgedOf a b ≡ verdictOf first second
   unfolding verdictOf
-  judged-same = cc (scans-a .starts, scans-a .bads, scans-b .starts, scans-b .bads, far-found first a x scans-a, far-found second b y scans-b, many-found first a x scans-a, many-found second b y scans-b)
+  judged-same =
+      rw (scans-a .starts, scans-a .bads, scans-b .starts, scans-b .bads, far-found first a x scans-a, far-found second b y scans-b)
+      (order-same (bodyOf first .bad) (bodyOf second .bad) (startsPart (startOf first) (startOf second)) _ _ _ _ _ _ (many-found first a x scans-a) (many-found second b y scans-b))
 
   pub passed : length x ≡ 3072 → length y ≡ 3072 → judgedOf a b ≡ Pass → Passed first second a x b y
   passed room-x room-y pass =
       let said = passed-says _ _ _ _ _ _ _ pass in
       let same : startOf first ≡ startOf second = sym (scans-a .starts) ∙ starts-same (a .start .0) (b .start .0) (said .0) ∙ scans-b .starts in
-      let none-a = sym (many-found first a x scans-a) ∙ said .1 in
-      let none-b = sym (many-found second b y scans-b) ∙ said .2 in
+      let near-a = sym (far-found first a x scans-a) ∙ said .1 in
+      let near-b = sym (far-found second b y scans-b) ∙ said .2 in
+      let none-a = sym (many-found first a x scans-a near-a) ∙ said .3 in
+      let none-b = sym (many-found second b y scans-b near-b) ∙ said .4 in
       record {
-        says = rw (scans-a .starts, rows-found first a x scans-a, rows-found second b y scans-b) (tables-say first second same (none-found first a x scans-a none-a) (none-found second b y scans-b none-b));
+        says = rw (scans-a .starts, rows-found first a x scans-a, rows-found second b y scans-b) (tables-say first second same near-a near-b (none-found first a x scans-a near-a none-a) (none-found second b y scans-b near-b none-b));
         rising-first = rising-found first a x scans-a;
         rising-second = rising-found second b y scans-b;
-        count-first = count-found first a x scans-a room-x none-a;
-        count-second = count-found second b y scans-b room-y none-b;
+        count-first = count-found first a x scans-a near-a room-x none-a;
+        count-second = count-found second b y scans-b near-b room-y none-b;
       }
 
 -- every number is listed; the bound stays shut, since no proof goes through 2^32 steps

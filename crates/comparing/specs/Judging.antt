@@ -83,8 +83,8 @@ told-pass line e side rest h =
     (λ t. (eqb-true line 0 t, simp t at h))
     (λ f. let z : _≡_ {A = ℕ} 0 1 = cc (simp f at h) in absurd (omega arith))
 
--- who passed has one start number and at most 1,024 numbers a side
-pub passed-says : (p q starts f g m n : ℕ) → inOrder p q starts f g m n ≡ Pass → (starts ≡ 0) × (m ≡ 0) × (n ≡ 0)
+-- who passed has one start number, no number far from it, and at most 1,024 numbers a side
+pub passed-says : (p q starts f g m n : ℕ) → inOrder p q starts f g m n ≡ Pass → (starts ≡ 0) × (f ≡ 0) × (g ≡ 0) × (m ≡ 0) × (n ≡ 0)
 passed-says p q starts f g m n h =
     let a = told-pass p _ _ _ h in
     let b = told-pass q _ _ _ (a .1) in
@@ -93,7 +93,20 @@ passed-says p q starts f g m n h =
     let e = told-pass g _ _ _ (d .1) in
     let i = told-pass m _ _ _ (e .1) in
     let j = told-pass n _ _ _ (i .1) in
-    (c .0, i .0, j .0)
+    (c .0, d .0, e .0, i .0, j .0)
+
+-- what the later refusals say counts only where no line is told
+told-same : (line : ℕ) (e : Refusal) (side : Side) (rest other : Judged) → (line ≡ 0 → rest ≡ other) → toldAt line e side rest ≡ toldAt line e side other
+unfolding toldAt
+told-same line e side rest other h = cases (eqb line 0) (λ t. simp t (h (eqb-true line 0 t))) (λ f. simp f)
+
+-- so 23 counts only where 22 is not given
+pub order-same : (p q starts f g m n k l : ℕ) → (f ≡ 0 → m ≡ k) → (g ≡ 0 → n ≡ l) → inOrder p q starts f g m n ≡ inOrder p q starts f g k l
+order-same p q starts f g m n k l x y =
+    told-same p _ _ _ _
+    (λ u.
+    told-same q _ _ _ _
+    (λ v. told-same starts _ _ _ _ (λ w. told-same f _ _ _ _ (λ near-first. told-same g _ _ _ _ (λ near-second. rw (x near-first, y near-second))))))
 
 pub starts-same : (a b : ℕ) → startsPart a b ≡ 0 → a ≡ b
 unfolding startsPart

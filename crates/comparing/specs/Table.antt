@@ -6,13 +6,16 @@ use Prim.Native.Nat.{ℕ, _≤_, _<_}
 use lib.Dec.{eqb, ltb}
 use lib.ListN.{length, drop}
 use borrow.Author.Tests.{lt-ltb, le-ltb}
+use Rattle.seq.specs.declared.Apart.{Apart}
+use Rattle.seq.specs.declared.Apart.the-variants.{By, Far}
+use Rattle.seq.specs.Distance.{distanceOf}
 use Rattle.comparing.specs.Sizes.{NUMBERS}
 use Rattle.comparing.specs.declared.messages.Message.{Message}
 use Rattle.comparing.specs.declared.table.Held.{Held}
 use Rattle.comparing.specs.declared.table.Held.the-variants.{Not, At}
 use Rattle.comparing.specs.declared.table.Counts.{Counts}
 use Rattle.comparing.specs.Runs.{contentFrom, contentOf, isEqual, runAt}
-use Rattle.comparing.specs.Ranks.{rankOf, farAt}
+use Rattle.comparing.specs.Ranks.{rankBy}
 use Rattle.comparing.specs.Rows.{Row, row, rowsOf, positionIn, insertAt, heldFirst, markedAt}
 
 -- the first of two lines to be told, where 0 is none
@@ -51,12 +54,18 @@ enteredAs (At first flag) input i rank m t = record { rows = repeated input firs
 abbrev pub withFar : ℕ → Table → Table
 withFar line t = record { rows = t .rows; far = earliest (t .far) line; many = t .many }
 
+-- a message of a rank, at the row where the rank stands
+abbrev pub enteredAt : List ℕ → ℕ → Message → Table → Table
+enteredAt input rank m t = enteredAs (heldFirst rank (drop (positionIn rank (t .rows)) (t .rows))) input (positionIn rank (t .rows)) rank m t
+
+-- [6], "22 for a number far from the start number"; [5], "so that no caller orders such numbers": a far message is told and is not entered
+abbrev pub enteredBy : Apart → List ℕ → Table → Message → Table
+enteredBy Far input t m = withFar (m .line) t
+enteredBy (By d) input t m = enteredAt input (rankBy d) m t
+
 unfoldable pub entered : List ℕ → ℕ → Table → Message → Table
-unfolding repeated added earliest heldFirst positionIn rankOf farAt
-entered input start t m =
-    enteredAs (heldFirst (rankOf start (m .number .0)) (drop (positionIn (rankOf start (m .number .0)) (t .rows)) (t .rows)))
-    input (positionIn (rankOf start (m .number .0)) (t .rows)) (rankOf start (m .number .0)) m
-    (withFar (farAt start m) t)
+unfolding repeated added earliest heldFirst positionIn distanceOf
+entered input start t m = enteredBy (distanceOf (m .number .0) start) input t m
 
 unfoldable pub tabled : List ℕ → ℕ → Table → List Message → Table
 unfolding entered
@@ -83,28 +92,8 @@ module _ (i rank : ℕ) (m : Message) (t : Table) where
   unfolding added
   added-full h = simp (le-ltb (length (t .rows)) 1024 h)
 
--- a message whose number the table has not, and one that repeats a number, with the rank, the place and the told line that were found
-module _ (input : List ℕ) (start : ℕ) (t : Table) (m : Message) (rank i far : ℕ)
-    (ranked : rank ≡ rankOf start (m .number .0)) (placed : i ≡ positionIn rank (t .rows)) (told : far ≡ earliest (t .far) (farAt start m)) where
-  enteredBy : Held → ℕ → ℕ → ℕ → Table
-  enteredBy held j r line = enteredAs held input j r m (record { rows = t .rows; far = line; many = t .many })
-
-  entered-by : (held : Held) → held ≡ heldFirst rank (drop i (t .rows)) → enteredBy held i rank far ≡ entered input start t m
-  unfolding entered enteredBy
-  entered-by held e =
-      let place : i ≡ positionIn (rankOf start (m .number .0)) (t .rows) = placed ∙ ap (λ r. positionIn r (t .rows)) ranked in
-      let same : held ≡ heldFirst (rankOf start (m .number .0)) (drop (positionIn (rankOf start (m .number .0)) (t .rows)) (t .rows)) =
-      e ∙ ap (λ r. heldFirst r (drop i (t .rows))) ranked ∙ ap (λ j. heldFirst (rankOf start (m .number .0)) (drop j (t .rows))) place in
-      ap (λ h. enteredBy h i rank far) same
-      ∙ ap (λ j. enteredBy (heldFirst (rankOf start (m .number .0)) (drop (positionIn (rankOf start (m .number .0)) (t .rows)) (t .rows))) j rank far) place
-      ∙ ap (λ r. enteredBy (heldFirst (rankOf start (m .number .0)) (drop (positionIn (rankOf start (m .number .0)) (t .rows)) (t .rows))) (positionIn (rankOf start (m .number .0)) (t .rows)) r far) ranked
-      ∙ ap (λ line. enteredBy (heldFirst (rankOf start (m .number .0)) (drop (positionIn (rankOf start (m .number .0)) (t .rows)) (t .rows))) (positionIn (rankOf start (m .number .0)) (t .rows)) (rankOf start (m .number .0)) line) told
-
-  pub entered-new : Not ≡ heldFirst rank (drop i (t .rows)) → added i rank m (record { rows = t .rows; far = far; many = t .many }) ≡ entered input start t m
-  unfolding enteredBy
-  entered-new e = entered-by Not e
-
-  pub entered-again : (first flag : ℕ) → At first flag ≡ heldFirst rank (drop i (t .rows))
-      → record { rows = repeated input first (m .at) i (t .rows); far = far; many = t .many } ≡ entered input start t m
-  unfolding enteredBy
-  entered-again first flag e = entered-by (At first flag) e
+-- a message by the row that was found for its rank, and by what is held there
+pub entered-held : (input : List ℕ) (rank i : ℕ) (m : Message) (t : Table) (held : Held) → i ≡ positionIn rank (t .rows) → held ≡ heldFirst rank (drop i (t .rows))
+    → enteredAs held input i rank m t ≡ enteredAt input rank m t
+entered-held input rank i m t held placed e =
+    ap (λ h. enteredAs h input i rank m t) e ∙ ap (λ j. enteredAs (heldFirst rank (drop j (t .rows))) input j rank m t) placed

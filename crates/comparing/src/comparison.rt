@@ -46,7 +46,7 @@ fn told(line: usize, refusal: Refusal, side: Side, rest: Judged) -> Judged
 fn start_differs(a: Seq, b: Seq) -> usize
     ensures { λ r. ⌜ r ≡ startsPart (a .0) (b .0) ⌝ }
 {
-    if a.0 == b.0 { 0 } else { 1 }
+    if a.eq(b) { 0 } else { 1 }
 }
 
 // The refusals in their order over both recordings.

@@ -1,5 +1,5 @@
-// The numbers of a recording in rising order, each with the place of its first message. A row is three cells: rank, place, and 1 where a
-// repeat has other content, else 0.
+// The numbers of a recording in rising order, but for those far from its start number, each with the place of its first message. A row is
+// three cells: rank, place, and 1 where a repeat has other content, else 0.
 use crate::messages::Message;
 use crate::runs::Content;
 use crate::runs::compare_runs;
@@ -8,13 +8,13 @@ use seq::Apart;
 use seq::Seq;
 ghost use mathlib.Core.Path.{_≡_};
 ghost use Prim.Native.Nat.{_+_, _*_, _≤_, _<_};
-ghost use lib.ListN.{length, drop, set, getD};
+ghost use lib.ListN.{length, drop};
 ghost use Rattle.comparing.specs.Sizes.{CELLS, NUMBERS};
 ghost use Rattle.comparing.specs.Runs.{isEqual};
-ghost use Rattle.comparing.specs.Ranks.{rankOf, farAt};
+ghost use Rattle.comparing.specs.Ranks.{rankBy};
 ghost use Rattle.comparing.specs.Rows.{Rising, row, rowsOf, positionIn, insertAt, heldFirst};
 ghost use Rattle.comparing.specs.Cells.{Moved};
-ghost use Rattle.comparing.specs.Table.{earliest, repeated, tableOf, added, entered};
+ghost use Rattle.comparing.specs.Table.{earliest, repeated, tableOf, added, enteredAt, entered};
 
 // What a table has of a number: the place of its first message, and whether a repeat has other content.
 pub enum Held {
@@ -29,23 +29,11 @@ pub struct Counts {
     pub many: usize,
 }
 
-// Ranks rise as the signed distance from the start number does.
-pub(crate) fn rank(start: Seq, number: Seq) -> usize
-    ensures { λ r. ⌜ r ≡ rankOf (start .0) (number .0) ⌝ }
+// The rank of a number by its signed distance from the start number: ranks rise as the distance does.
+fn rank(d: i32) -> usize
+    ensures { λ r. ⌜ r ≡ rankBy d ⌝ }
 {
-    let least = start.sub(0x8000_0000);
-    number.since(least) as usize
-}
-
-// The line of a message whose number is far from the start number, else 0.
-fn far_at(start: Seq, m: Message) -> usize
-    ensures { λ r. ⌜ r ≡ farAt (start .0) m ⌝ }
-{
-    let number = m.number;
-    match number.apart(start) {
-        Apart::By(_) => 0,
-        Apart::Far => m.line,
-    }
+    (d as i64 + 0x8000_0000) as usize
 }
 
 // The first of two lines to be told, where 0 is none.
@@ -167,7 +155,27 @@ fn add(cells: &mut [usize], counts: Counts, i: usize, rank: usize, m: Message) -
     }
 }
 
-// Enters a message into the table of a recording.
+// Enters a message of a rank: a number that the table has is a repeat.
+fn enter_at(input: &[u8], rank: usize, m: Message, cells: &mut [usize], counts: Counts) -> Counts
+    requires { ⌜ length (now cells) ≡ CELLS ⌝ }
+    requires { ⌜ counts .count ≤ NUMBERS ⌝ }
+    requires { ⌜ Rising 0 (rowsOf (counts .count) (now cells)) ⌝ }
+    ensures { λ r. ⌜ tableOf r (now (cells .exit)) ≡ enteredAt (now (input .entry)) rank m (tableOf counts (now (cells .entry))) ⌝ }
+    ensures { λ r. ⌜ r .count ≤ NUMBERS ⌝ }
+{
+    let count = counts.count;
+    let i = position(cells, count, rank);
+    let held = held_at(cells, count, i, rank);
+    match held {
+        Held::Not => add(cells, counts, i, rank, m),
+        Held::At(first, _) => {
+            repeat(input, cells, count, i, first, m.at);
+            counts
+        }
+    }
+}
+
+// Enters a message into the table of a recording. A number far from the start number has no rank: its line is told.
 pub(crate) fn enter(
     input: &[u8],
     start: Seq,
@@ -182,20 +190,12 @@ pub(crate) fn enter(
     ensures { λ r. ⌜ r .count ≤ NUMBERS ⌝ }
 {
     let number = m.number;
-    let rank = rank(start, number);
-    let count = before.count;
-    let counts = Counts {
-        count,
-        far: earliest(before.far, far_at(start, m)),
-        many: before.many,
-    };
-    let i = position(cells, count, rank);
-    let held = held_at(cells, count, i, rank);
-    match held {
-        Held::Not => add(cells, counts, i, rank, m),
-        Held::At(first, _) => {
-            repeat(input, cells, count, i, first, m.at);
-            counts
-        }
+    match number.distance(start) {
+        Apart::By(d) => enter_at(input, rank(d), m, cells, before),
+        Apart::Far => Counts {
+            count: before.count,
+            far: earliest(before.far, m.line),
+            many: before.many,
+        },
     }
 }

@@ -10,9 +10,9 @@ use lib.ListN.{length, getD, drop, length-map, length-drop}
 use lib.Seq.{getD-drop}
 use borrow.Author.Tests.{eq-eqb, le-leb}
 use borrow.Table.Steps.{cases}
-use Rattle.seq.specs.Numbers.{plus, minus}
-use Rattle.seq.specs.Laws.{plus-lt, minus-ahead}
-use Rattle.refusal.specs.declared.verdict.Verdict.the-variants as verdicts
+use Rattle.seq.specs.Numbers.{plus}
+use Rattle.seq.specs.Laws.{plus-lt}
+use Rattle.seq.specs.Distance.{past, past-counted}
 use Rattle.refusal.specs.Tests.{false-true, join}
 use Rattle.engine.specs.declared.state.SentReliableStatus.{SentReliableStatus}
 use Rattle.engine.specs.declared.state.SentReliableStatus.the-variants as statuses
@@ -20,12 +20,11 @@ use Rattle.engine.specs.declared.state.SentReliable.{SentReliable}
 use Rattle.engine.specs.declared.state.State.{State}
 use Rattle.engine.specs.declared.answer.Outcome.the-variants as outcomes
 use Rattle.engine.specs.Answer.{done-passed}
-use Rattle.engine.specs.Gates.{timedVerdict}
 use Rattle.engine.specs.Packets.{noPacket, packets, isReceived}
 use Rattle.engine.specs.Table.{inTable, lookedAt}
 use Rattle.engine.specs.InTable.{looked-cell}
 use Rattle.engine.specs.Sending.{sentState, sentBy, sendOf}
-use Rattle.engine.specs.Acking.{settled, ackedState, ackOf}
+use Rattle.engine.specs.Acking.{settled, ackedState, ackVerdict, ackOf}
 use Rattle.laws.specs.Good.{Good}
 use Rattle.laws.specs.Calls as calls
 use Rattle.laws.specs.Calls.{Holding, next, done}
@@ -131,9 +130,9 @@ module _ (W : World) (i : Inv (way W)) (good : Good (W .a .state)) (j : ℕ) whe
   status-at k l q =
       let n = plus (W .start) j in
       let count = packets-count (S .tx) in
-      let back : minus (S .tx .«tx_seq» .0) n ≡ length (W .a .given) - j =
-      ap (λ x. minus x n) (i .txi .next-is) ∙ minus-ahead (W .start) (length (W .a .given)) j (omega arith) (omega (arith, i .txi .room)) in
-      let b = minus (S .tx .«tx_seq» .0) n in
+      let back : past (S .tx .«tx_seq» .0) n ≡ length (W .a .given) - j =
+      ap (λ x. past x n) (i .txi .next-is) ∙ past-counted (W .start) (length (W .a .given)) j (omega arith) (omega (arith, i .txi .room)) in
+      let b = past (S .tx .«tx_seq» .0) n in
       let held : inTable (S .tx) n ≡ true = join (le-leb 1 b (omega (arith, back))) (le-leb b (S .tx .«txed_count») (omega (arith, back, count))) in
       let here = number-place h good k n (omega (arith, count)) (i .txi .each k j l q .number-is) in
       ap (λ (p : SentReliable). p .status) (looked-cell S (good .shaped) (good .sound) n (plus-lt (W .start) j) held) ∙ ap (λ x. getD ps x noPacket .status) here
@@ -144,7 +143,7 @@ module _ (W : World) (i : Inv (way W)) (good : Good (W .a .state)) (j : ℕ) whe
   unfolding ackOf
   done-now slot time n timely n-is over ok =
       let c = calls.Ack slot time n in
-      let e = done-passed (timedVerdict S slot time verdicts.Pass) S (ackedState S slot time n) ok in
+      let e = done-passed (ackVerdict S slot time n) S (ackedState S slot time n) ok in
       subst DoneBy (sym (left-passed c h e))
       (done-acked slot time n (ack-small W i good timely)
       (λ k l q.

@@ -12,7 +12,8 @@ use lib.Seq.{getD-set-same, getD-set-other, set-set}
 use borrow.Author.Tests.{eqb-true, lt-ltb}
 use borrow.Table.Steps.{cases}
 use Rattle.seq.specs.declared.Seq.{Seq}
-use Rattle.seq.specs.Numbers.{plus, minus}
+use Rattle.seq.specs.Numbers.{plus}
+use Rattle.seq.specs.Distance.{past}
 use Rattle.msg.specs.declared.reliable.ReliableMsg.{ReliableMsg}
 use Rattle.refusal.specs.declared.verdict.Verdict.the-variants.{Pass}
 use Rattle.refusal.specs.Tests.{false-true}
@@ -224,7 +225,7 @@ module _ (h : Holding) (good : Good (h .state)) where
   unfolding place
   number-place i n l e =
       let number : plus (firstOf (s .tx)) i ≡ n = sym (ap (λ (q : Seq). q .0) (good .sound .consecutive i l)) ∙ e in
-      let back = ap (minus (s .tx .«tx_seq» .0)) (sym number) ∙ number-back (s .tx .«tx_seq» .0) (s .tx .«txed_count») i (good .shaped .next-u32) (good .sound .packet-count) l in
+      let back = ap (past (s .tx .«tx_seq» .0)) (sym number) ∙ number-back (s .tx .«tx_seq» .0) (s .tx .«txed_count») i (good .shaped .next-u32) (good .sound .packet-count) l in
       omega (arith, back)
 
   -- a packet that is resent was queued, and so not Received

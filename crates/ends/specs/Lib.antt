@@ -10,3 +10,4 @@ pub mod RxSteps
 pub mod Sender
 pub mod Receiver
 pub mod Drains
+pub mod NoneFar

@@ -10,8 +10,9 @@ use lib.ListN.{length, getD, set, take, drop}
 use borrow.Author.Tests.{eq-eqb, ne-eqb, ltb-true}
 use borrow.Table.Steps.{cases}
 use Rattle.seq.specs.declared.Seq.{Seq}
-use Rattle.seq.specs.Numbers.{seqOf, plus, minus, before}
-use Rattle.seq.specs.Laws.{minus-ahead, before-counted, not-before-counted, cell-counted}
+use Rattle.seq.specs.Numbers.{seqOf, plus}
+use Rattle.seq.specs.Laws.{cell-counted}
+use Rattle.seq.specs.Distance.{before, past, past-counted, before-counted, not-before-counted}
 use Rattle.msg.specs.declared.reliable.ReliableMsg.{ReliableMsg}
 use Rattle.refusal.specs.declared.verdict.Verdict.{Verdict}
 use Rattle.refusal.specs.declared.verdict.Verdict.the-variants as verdicts
@@ -35,7 +36,7 @@ use Rattle.engine.specs.Decide.{sound-true}
 use Rattle.engine.specs.Sound.{cellAt, LengthWithin}
 use Rattle.engine.specs.Cells.{cellOf, nearOldest, isRepeat}
 use Rattle.engine.specs.Ring.{cells-apart, window-step}
-use Rattle.engine.specs.Gates.{timed-passed}
+use Rattle.engine.specs.Acking.{ack-passed}
 use Rattle.engine.specs.Rows.{rowOf, row-of}
 use Rattle.engine.specs.Stores.{cellStart, copied}
 use Rattle.engine.specs.Receiving.{repeatedState, receivedState, receiveOf, ReceivePassed}
@@ -130,12 +131,12 @@ module _ (W : World) (i : Inv (way (swap W))) (good : Good (W .a .state)) where
         go (yes y) = false-true (sym b ∙ rw (label .number-is, i .rxi .exp-is) (before-counted s x e y (omega (arith, timely, i .rxi .en))))
         go (no y) = omega arith
 
-    past : e ≤ x → minus n (rx .«rx_oldest» .0) ≡ x - o
-    past l = ap₂ (λ a b. minus a b) (label .number-is) (i .rxi .old-is) ∙ minus-ahead s x o (omega (arith, i .rxi .oe)) (omega (arith, label .inside, few, i .rxi .eo))
+    past-is : e ≤ x → past n (rx .«rx_oldest» .0) ≡ x - o
+    past-is l = ap₂ (λ a b. past a b) (label .number-is) (i .rxi .old-is) ∙ past-counted s x o (omega (arith, i .rxi .oe)) (omega (arith, label .inside, few, i .rxi .eo))
 
     near-is : e ≤ x → nearOldest CELLS rx n ≡ true → x < o + CELLS
     unfolding nearOldest
-    near-is l t = omega (arith, ltb-true (minus n (rx .«rx_oldest» .0)) CELLS t, past l, i .rxi .oe)
+    near-is l t = omega (arith, ltb-true (past n (rx .«rx_oldest» .0)) CELLS t, past-is l, i .rxi .oe)
 
     has-it : isRepeat CELLS rx n ≡ true → HasAt (way (swap W)) e o x
     unfolding isRepeat
@@ -190,7 +191,7 @@ module _ (W : World) (i : Inv (way (swap W))) (good : Good (W .a .state)) where
 
     module _ (ok : ReceivePassed S (length (W .a .received)) slot (p .msg .kind) n (length (p .msg .bytes))) (new : isRepeat CELLS rx n ≡ false) where
       abbrev c : ℕ → Held
-      c = heldBut CELLS rx (minus n (rx .«rx_oldest» .0)) (helds.Message (p .msg .kind) (length (p .msg .bytes)))
+      c = heldBut CELLS rx (past n (rx .«rx_oldest» .0)) (helds.Message (p .msg .kind) (length (p .msg .bytes)))
 
       abbrev rx′ : Receiving
       rx′ = receivedState S slot (p .msg .kind) n (length (p .msg .bytes)) .rx
@@ -208,17 +209,17 @@ module _ (W : World) (i : Inv (way (swap W))) (good : Good (W .a .state)) where
       xo : x < o + CELLS
       xo = near-is ex (ok .new new .near)
 
-      offset : minus n (rx .«rx_oldest» .0) ≡ x - o
-      offset = past ex
+      offset : past n (rx .«rx_oldest» .0) ≡ x - o
+      offset = past-is ex
 
       -- its own cell, and every other
       here : (k : ℕ) → o + k ≡ x → c k ≡ helds.Message (p .msg .kind) (length (p .msg .bytes))
-      here k q = rw (eq-eqb k (minus n (rx .«rx_oldest» .0)) (omega (arith, offset, q))) refl
+      here k q = rw (eq-eqb k (past n (rx .«rx_oldest» .0)) (omega (arith, offset, q))) refl
 
       there : (k : ℕ) → (o + k ≡ x → ⊥) → c k ≡ cellOf CELLS rx (plus s (o + k))
       there k ne =
-          let no : k ≡ minus n (rx .«rx_oldest» .0) → ⊥ = λ q. ne (omega (arith, offset, q, i .rxi .oe, ex)) in
-          rw (ne-eqb k (minus n (rx .«rx_oldest» .0)) no) (ap (cellOf CELLS rx) (rx-number (i .rxi) k))
+          let no : k ≡ past n (rx .«rx_oldest» .0) → ⊥ = λ q. ne (omega (arith, offset, q, i .rxi .oe, ex)) in
+          rw (ne-eqb k (past n (rx .«rx_oldest» .0)) no) (ap (cellOf CELLS rx) (rx-number (i .rxi) k))
 
       long : length (W .a .received) ≡ CELLS * DATA_BYTES
       long = i .rxi .store-long
@@ -480,7 +481,7 @@ module _ (W : World) (i : Inv (way (swap W))) (good : Good (W .a .state)) where
   receiver (Acked slot time n brought timely) =
       let c = calls.Ack slot time n in
       next-keeps c h (λ k. Inv (way (swap (then k)))) i
-      (λ q. still (done c h) (acked-rx h good slot time n) (acked-acks-left h good slot time n (timed-passed S slot time verdicts.Pass q .0 .at .small)))
+      (λ q. still (done c h) (acked-rx h good slot time n) (acked-acks-left h good slot time n (ack-passed S slot time n q .timed .at .small)))
   receiver Take = answer-keeps calls.Take h (λ v. handOutBy v rx) (λ a k. Inv (way (swap (taken-world a k)))) (λ q. take-inv _ _ _ (passed calls.Take h tt good q)) (λ r. i)
   receiver (TakeAck slot) =
       let c = calls.TakeAck slot in

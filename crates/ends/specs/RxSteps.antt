@@ -13,8 +13,9 @@ use lib.ListN.{length, getD, take}
 use lib.Seq.{take-suc}
 use borrow.Table.Steps.{cases}
 use Rattle.seq.specs.declared.Seq.{Seq}
-use Rattle.seq.specs.Numbers.{plus, minus}
-use Rattle.seq.specs.Laws.{plus-plus, minus-ahead, cell-counted}
+use Rattle.seq.specs.Numbers.{plus}
+use Rattle.seq.specs.Laws.{plus-plus, cell-counted}
+use Rattle.seq.specs.Distance.{past, past-counted}
 use Rattle.msg.specs.declared.reliable.ReliableMsg.{ReliableMsg}
 use Rattle.refusal.specs.Tests.{false-true}
 use Rattle.engine.specs.declared.state.Held.{Held}
@@ -67,8 +68,8 @@ rx-grown G m i = record {
 
 -- how far the next expected number is past the oldest, and the numbers past that
 module _ {N s expected oldest e o : ℕ} {G : List Msg} {c : ℕ → Held} {store : List ℕ} (i : RxI N s G expected oldest c store e o) where
-  pub rx-ahead : N ≤ 65536 → minus expected oldest ≡ e - o
-  rx-ahead few = ap₂ (λ a b. minus a b) (i .exp-is) (i .old-is) ∙ minus-ahead s e o (i .oe) (omega (arith, i .eo))
+  pub rx-ahead : N ≤ 65536 → past expected oldest ≡ e - o
+  rx-ahead few = ap₂ (λ a b. past a b) (i .exp-is) (i .old-is) ∙ past-counted s e o (i .oe) (omega (arith, i .eo))
 
   pub rx-number : (k : ℕ) → plus oldest k ≡ plus s (o + k)
   rx-number k = ap (λ n. plus n k) (i .old-is) ∙ plus-plus s o k

@@ -56,13 +56,13 @@ use Rattle.ends.specs.Receiver.{receiver}
 use Rattle.ends.specs.Drains.{Done, done-step, done-now, status-at, all-done}
 
 -- both directions, and both states
-record Joined (W : World) : Type 0 where
-  one : Inv (way W)
-  two : Inv (way (swap W))
-  good-a : Good (W .a .state)
-  good-b : Good (W .b .state)
+pub record Joined (W : World) : Type 0 where
+  pub one : Inv (way W)
+  pub two : Inv (way (swap W))
+  pub good-a : Good (W .a .state)
+  pub good-b : Good (W .b .state)
 
-turned : {W : World} → Joined W → Joined (swap W)
+pub turned : {W : World} → Joined W → Joined (swap W)
 turned j = record { one = j .two; two = j .one; good-a = j .good-b; good-b = j .good-a }
 
 -- ---- a call at a: a's state is `next` of the call's, and b is left alone
@@ -128,7 +128,7 @@ next : {W X : World} → Step W X → Joined W → Joined X
 next (at-a c) j = next-a j c
 next (at-b c) j = turned (next-a (turned j) c)
 
-joined-after : {U W : World} → Run U W → Joined U → Joined W
+pub joined-after : {U W : World} → Run U W → Joined U → Joined W
 joined-after here j = j
 joined-after (_then_ r x) j = next x (joined-after r j)
 
@@ -193,7 +193,7 @@ fresh-side s x y sa ra sb rb s32 la lb =
       acks = [];
     }) (fresh-inv s x y sa rb s32 la lb)
 
-joined-fresh : {U : World} → Fresh U → Joined U
+pub joined-fresh : {U : World} → Fresh U → Joined U
 unfolding freshOf
 joined-fresh (fresh s x y sa ra sb rb s32 hx hy l₁ l₂ l₃ l₄) = record {
   one = fresh-side s x y sa ra sb rb s32 l₁ l₄;

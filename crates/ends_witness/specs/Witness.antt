@@ -20,7 +20,8 @@ use Rattle.engine.specs.declared.state.SentReliableStatus.the-variants as statu
 use Rattle.engine.specs.declared.answer.Outcome.the-variants as outcomes
 use Rattle.engine.specs.Stores.{storeBy, copied, cellStart}
 use Rattle.engine.specs.declared.handing_out.HandOut.the-variants as handouts
-use Rattle.seq.specs.Numbers.{plus, minus, signed, before}
+use Rattle.seq.specs.Numbers.{plus, minus, signed}
+use Rattle.seq.specs.Distance.{distanceOf, near, before, past}
 use Rattle.link.specs.Acks.{ackQueued, waiting, oldestAck, shifted, ackTaken}
 use Rattle.link.specs.Limit.{markedRow, markAckedAs, markResentAs}
 use Rattle.link.specs.Roundtrip.{tripAfter, tripMoved}
@@ -37,7 +38,7 @@ use Rattle.engine.specs.Links.{lowestEmpty, addVerdict, addOf, isTaken}
 use Rattle.engine.specs.Unconfirming.{unconfirmed, unconfirmedState, unconfirmOf}
 use Rattle.engine.specs.Resending.{resendVerdict, resentState, resendOf, isListed}
 use Rattle.engine.specs.Sending.{totalsOk, sendVerdict, sentTx, toldRx, sentState, sendOf, sendStore}
-use Rattle.engine.specs.Acking.{ackedRow, ackedTx, ackedState, ackOf, settledRowAs, receivedTx, settledTxAs, sweepFrom, sweepOf, sweptTx}
+use Rattle.engine.specs.Acking.{ackedRow, ackedTx, ackedState, ackVerdict, ackOf, settledRowAs, receivedTx, settledTxAs, sweepFrom, sweepOf, sweptTx}
 use Rattle.engine.specs.Turns.{turns}
 use Rattle.engine.specs.Cells.{cellOf, nearOldest, isRepeat, canAdvance, passedOver}
 use Rattle.engine.specs.Receiving.{receiveVerdict, effectTx, storedRx, repeatedState, receivedState, receiveOf, receiveStore}
@@ -253,7 +254,7 @@ module _ (sa ra sb rb : List ℕ) where
     out-16 : w16 .b .out ≡ record { kind = msgs.Data; bytes = received-cell } ∷ finish ∷ []
 
   computed : Computed
-  unfolding plus minus signed before ackQueued waiting oldestAck shifted ackTaken markedRow markAckedAs markResentAs tripAfter tripMoved freshRow emptyRow unconfirmedRow withUnacked nextCell window sound? queuedOf sumOf bytesIn refilled place lookedAt packetOf withTable isTaken isListed takeAckVerdict soundb freshTx freshRx freshState freshVerdict freshOf slotVerdict timedVerdict requeued rowOf slotOk timeOk inTable withPacket lengthOk lowestEmpty addVerdict addOf unconfirmed unconfirmedState unconfirmOf resendVerdict resentState resendOf totalsOk sendVerdict sentTx toldRx sentState sendOf sendStore ackedRow ackedTx ackedState ackOf settledRowAs receivedTx settledTxAs sweepFrom sweepOf sweptTx cellOf nearOldest isRepeat canAdvance passedOver turns receiveVerdict effectTx storedRx repeatedState receivedState receiveOf receiveStore ackAnswer takenAckState takeAckOf readyOf handOutBy showVerdict showingOf shownOf takeVerdict canSkip passedBy takenRx takenState takeOf resendAt takeAckAt sendWith receiveWith takeWith w0 w1 w2 w3 w4 w5 w6 w7 w8 w9 w10 w11 w12 w13 w14 w15 w16 w17 w18
+  unfolding plus minus signed distanceOf near before past ackQueued waiting oldestAck shifted ackTaken markedRow markAckedAs markResentAs tripAfter tripMoved freshRow emptyRow unconfirmedRow withUnacked nextCell window sound? queuedOf sumOf bytesIn refilled place lookedAt packetOf withTable isTaken isListed takeAckVerdict soundb freshTx freshRx freshState freshVerdict freshOf slotVerdict timedVerdict requeued rowOf slotOk timeOk inTable withPacket lengthOk lowestEmpty addVerdict addOf unconfirmed unconfirmedState unconfirmOf resendVerdict resentState resendOf totalsOk sendVerdict sentTx toldRx sentState sendOf sendStore ackedRow ackedTx ackedState ackVerdict ackOf settledRowAs receivedTx settledTxAs sweepFrom sweepOf sweptTx cellOf nearOldest isRepeat canAdvance passedOver turns receiveVerdict effectTx storedRx repeatedState receivedState receiveOf receiveStore ackAnswer takenAckState takeAckOf readyOf handOutBy showVerdict showingOf shownOf takeVerdict canSkip passedBy takenRx takenState takeOf resendAt takeAckAt sendWith receiveWith takeWith w0 w1 w2 w3 w4 w5 w6 w7 w8 w9 w10 w11 w12 w13 w14 w15 w16 w17 w18
   computed = record {
     sent-4 = refl;
     sent-5 = refl;
@@ -276,7 +277,7 @@ module _ (sa ra sb rb : List ℕ) where
   }
 
   computed-later : ComputedLater
-  unfolding plus minus signed before ackQueued waiting oldestAck shifted ackTaken markedRow markAckedAs markResentAs tripAfter tripMoved freshRow emptyRow unconfirmedRow withUnacked nextCell window sound? queuedOf sumOf bytesIn refilled place lookedAt packetOf withTable isTaken isListed takeAckVerdict soundb freshTx freshRx freshState freshVerdict freshOf slotVerdict timedVerdict requeued rowOf slotOk timeOk inTable withPacket lengthOk lowestEmpty addVerdict addOf unconfirmed unconfirmedState unconfirmOf resendVerdict resentState resendOf totalsOk sendVerdict sentTx toldRx sentState sendOf sendStore ackedRow ackedTx ackedState ackOf settledRowAs receivedTx settledTxAs sweepFrom sweepOf sweptTx cellOf nearOldest isRepeat canAdvance passedOver turns receiveVerdict effectTx storedRx repeatedState receivedState receiveOf receiveStore ackAnswer takenAckState takeAckOf readyOf handOutBy showVerdict showingOf shownOf takeVerdict canSkip passedBy takenRx takenState takeOf resendAt takeAckAt sendWith receiveWith takeWith w0 w1 w2 w3 w4 w5 w6 w7 w8 w9 w10 w11 w12 w13 w14 w15 w16 w17 w18
+  unfolding plus minus signed distanceOf near before past ackQueued waiting oldestAck shifted ackTaken markedRow markAckedAs markResentAs tripAfter tripMoved freshRow emptyRow unconfirmedRow withUnacked nextCell window sound? queuedOf sumOf bytesIn refilled place lookedAt packetOf withTable isTaken isListed takeAckVerdict soundb freshTx freshRx freshState freshVerdict freshOf slotVerdict timedVerdict requeued rowOf slotOk timeOk inTable withPacket lengthOk lowestEmpty addVerdict addOf unconfirmed unconfirmedState unconfirmOf resendVerdict resentState resendOf totalsOk sendVerdict sentTx toldRx sentState sendOf sendStore ackedRow ackedTx ackedState ackVerdict ackOf settledRowAs receivedTx settledTxAs sweepFrom sweepOf sweptTx cellOf nearOldest isRepeat canAdvance passedOver turns receiveVerdict effectTx storedRx repeatedState receivedState receiveOf receiveStore ackAnswer takenAckState takeAckOf readyOf handOutBy showVerdict showingOf shownOf takeVerdict canSkip passedBy takenRx takenState takeOf resendAt takeAckAt sendWith receiveWith takeWith w0 w1 w2 w3 w4 w5 w6 w7 w8 w9 w10 w11 w12 w13 w14 w15 w16 w17 w18
   computed-later = record {
     given-16 = refl;
     acks-16 = refl;

@@ -17,15 +17,18 @@ use mathlib.Core.List.{List, [], _∷_}
 use native.Mathlib.Omega.{arith}
 use borrow.Table.Steps.{cases}
 use Rattle.seq.specs.declared.Seq.{Seq}
+use Rattle.seq.specs.Distance.{near}
 use Rattle.engine.specs.Ring.{window, window-step, window-none, window-length, nextCell}
 use Rattle.engine.specs.Packets.{noPacket, packets, isReceived, Settled}
 use Rattle.engine.specs.declared.acking.Front.{Front}
+use Rattle.refusal.specs.declared.verdict.Verdict.{Verdict}
 use Rattle.refusal.specs.declared.verdict.Verdict.the-variants.{Pass}
+use Rattle.refusal.specs.Verdicts.{gate, gate-pass}
 use Rattle.link.specs.Limit.{markAcked}
 use Rattle.engine.specs.declared.state.State.{State}
 use Rattle.engine.specs.declared.answer.Changed.{Changed}
 use Rattle.engine.specs.Rows.{rowOf}
-use Rattle.engine.specs.Gates.{timedVerdict}
+use Rattle.engine.specs.Gates.{timedVerdict, AtTime, timed-passed}
 use Rattle.engine.specs.Answer.{changedBy}
 use Rattle.engine.specs.Sound.{Sound, Shaped}
 use Rattle.engine.specs.InTable.{packet-short, sum-small}
@@ -102,12 +105,28 @@ unfoldable pub ackedState : State → ℕ → ℕ → ℕ → State
 unfolding ackedRow ackedTx
 ackedState s slot time a = withParts s (set (s .links) slot (ackedRow s slot time a)) (sweptTx (ackedTx s slot a)) (s .rx) time
 
--- refused with 1, 3 and 4 alone: the place that is looked at holds no other number than a (document 02, [9])
+-- refused with 1, 3 and 4, as every call on a slot at a time, and 02 [5]: with 22, "ack against the next to send". The place that is looked at
+-- holds no other number than a (02 [9])
+unfoldable pub ackVerdict : State → ℕ → ℕ → ℕ → Verdict
+ackVerdict s slot time a = timedVerdict s slot time (gate (near a (s .tx .«tx_seq» .0)) 22 Pass)
+
 unfoldable pub ackOf : State → ℕ → ℕ → ℕ → Changed
-unfolding ackedState
-ackOf s slot time a = changedBy (timedVerdict s slot time Pass) s (ackedState s slot time a)
+unfolding ackVerdict ackedState
+ackOf s slot time a = changedBy (ackVerdict s slot time a) s (ackedState s slot time a)
 
 -- ---- laws
+
+-- what an accepted ack says
+pub record AckPassed (s : State) (slot time a : ℕ) : Type 0 where
+  pub timed : AtTime s slot time
+  pub close : near a (s .tx .«tx_seq» .0) ≡ true
+
+pub ack-passed : (s : State) (slot time a : ℕ) → ackVerdict s slot time a ≡ Pass → AckPassed s slot time a
+unfolding ackVerdict
+ack-passed s slot time a e =
+    let t = timed-passed s slot time _ e in
+    let e22 = gate-pass (near a (s .tx .«tx_seq» .0)) _ _ (t .1) in
+    record { timed = t .0; close = e22 .0 }
 
 module _ (cells : List SentReliable) (at left : ℕ) (last : Seq) (held : ℕ) where
   pub sweep-on : 0 < left → isReceived (getD cells at noPacket .status) ≡ true

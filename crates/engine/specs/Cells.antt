@@ -5,7 +5,8 @@ use Prim.Native.Nat.{ℕ, _%_}
 use lib.Dec.{eqb, ltb}
 use lib.ListN.{getD, set}
 use Rattle.seq.specs.declared.Seq.{Seq}
-use Rattle.seq.specs.Numbers.{seqOf, plus, minus, before}
+use Rattle.seq.specs.Numbers.{seqOf, plus}
+use Rattle.seq.specs.Distance.{before, past}
 use Rattle.engine.specs.declared.state.Held.{Held}
 use Rattle.engine.specs.declared.state.Held.the-variants.{Nothing, Message}
 use Rattle.engine.specs.declared.state.Receiving.{Receiving}
@@ -22,7 +23,7 @@ withCell N rx n held = withCells rx (rx .«rx_seq») (rx .«rx_oldest») (set (r
 
 -- less than N past the number that refusal 12 counts from
 unfoldable pub nearOldest : ℕ → Receiving → ℕ → Bool
-nearOldest N rx n = ltb (minus n (rx .«rx_oldest» .0)) N
+nearOldest N rx n = ltb (past n (rx .«rx_oldest» .0)) N
 
 -- "A number before the next expected, or already held"
 unfoldable pub isRepeat : ℕ → Receiving → ℕ → Bool

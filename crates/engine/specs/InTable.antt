@@ -8,6 +8,7 @@ use lib.Dec.{leb}
 use lib.ListN.{length, getD}
 use borrow.Author.Tests.{leb-true}
 use Rattle.seq.specs.Numbers.{seqOf, plus, minus}
+use Rattle.seq.specs.Distance.{past, past-near}
 use mathlib.Core.List.{List}
 use Rattle.engine.specs.declared.state.SentReliable.{SentReliable}
 use Rattle.engine.specs.declared.state.Sending.{Sending}
@@ -31,10 +32,10 @@ cell-of-place t count back c l h =
     mod-add-mod (t + (2 ^ 32 - count)) PACKETS (count - back)
     ∙ ap (λ k. k % PACKETS) (omega arith)
 
--- a number is as far before the next one as their difference says
-back-number : (t n : ℕ) → t < 2 ^ 32 → n < 2 ^ 32 → n ≡ minus t (minus t n)
+-- a number that is few before the next one is as far before it as the one place says
+back-number : (t n : ℕ) → t < 2 ^ 32 → n < 2 ^ 32 → past t n ≤ PACKETS → n ≡ minus t (past t n)
 unfolding minus
-back-number t n ht hn = omega arith
+back-number t n ht hn few = let e : past t n ≡ (t + (2 ^ 32 - n)) % 2 ^ 32 = past-near t n (omega arith) in omega arith
 
 -- the number `back` before the next is `count − back` past the first
 pub number-past : (t count back : ℕ) → count ≤ PACKETS → back ≤ count → minus t back ≡ plus (minus t count) (count - back)
@@ -48,8 +49,8 @@ unfolding minus
 cell-wraps t k = mod-mod-of-dvd _ (t + (2 ^ 32 - k)) cells-divide
 
 pub record Placed (tx : Sending) (n : ℕ) : Type 0 where
-  pub back-low : 1 ≤ minus (tx .«tx_seq» .0) n
-  pub back-high : minus (tx .«tx_seq» .0) n ≤ tx .«txed_count»
+  pub back-low : 1 ≤ past (tx .«tx_seq» .0) n
+  pub back-high : past (tx .«tx_seq» .0) n ≤ tx .«txed_count»
   pub number : n ≡ plus (firstOf tx) (place tx n)
   pub here : packetOf tx n ≡ lookedAt tx n
 
@@ -58,23 +59,25 @@ pub placed : (tx : Sending) (n : ℕ) → tx .«tx_seq» .0 < 2 ^ 32 → n < 2 ^
 unfolding inTable packetOf lookedAt place
 placed tx n ht hn c e =
     let t = tx .«tx_seq» .0 in
-    let b = split (leb 1 (minus t n)) (leb (minus t n) (tx .«txed_count»)) e in
-    let low : 1 ≤ minus t n = leb-true 1 (minus t n) (b .0) in
-    let high : minus t n ≤ tx .«txed_count» = leb-true (minus t n) (tx .«txed_count») (b .1) in
-    let cell : n % PACKETS ≡ (firstOf tx % PACKETS + (tx .«txed_count» - minus t n)) % PACKETS =
-    ap (λ k. k % PACKETS) (back-number t n ht hn)
-    ∙ cell-wraps t (minus t n)
-    ∙ sym (cell-of-place t (tx .«txed_count») (minus t n) c low high)
-    ∙ ap (λ k. (k + (tx .«txed_count» - minus t n)) % PACKETS) (sym (cell-wraps t (tx .«txed_count»)))
+    let back = past t n in
+    let b = split (leb 1 back) (leb back (tx .«txed_count»)) e in
+    let low : 1 ≤ back = leb-true 1 back (b .0) in
+    let high : back ≤ tx .«txed_count» = leb-true back (tx .«txed_count») (b .1) in
+    let number = back-number t n ht hn (omega arith) in
+    let cell : n % PACKETS ≡ (firstOf tx % PACKETS + (tx .«txed_count» - back)) % PACKETS =
+    ap (λ k. k % PACKETS) number
+    ∙ cell-wraps t back
+    ∙ sym (cell-of-place t (tx .«txed_count») back c low high)
+    ∙ ap (λ k. (k + (tx .«txed_count» - back)) % PACKETS) (sym (cell-wraps t (tx .«txed_count»)))
     in
     let at : firstOf tx % PACKETS < PACKETS = omega arith in
     record {
       back-low = low;
       back-high = high;
-      number = back-number t n ht hn ∙ number-past t (tx .«txed_count») (minus t n) c high;
+      number = number ∙ number-past t (tx .«txed_count») back c high;
       here =
           ap (λ k. getD (tx .«txed_packets») k noPacket) cell
-          ∙ sym (window-at PACKETS noPacket (tx .«txed_packets») (firstOf tx % PACKETS) (tx .«txed_count») (tx .«txed_count» - minus t n) at (omega arith));
+          ∙ sym (window-at PACKETS noPacket (tx .«txed_packets») (firstOf tx % PACKETS) (tx .«txed_count») (tx .«txed_count» - back) at (omega arith));
     }
 
 -- other packets in the places of the table's own are the table's packets

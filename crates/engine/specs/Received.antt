@@ -10,7 +10,7 @@ use Rattle.engine.specs.declared.state.Held.the-variants.{Nothing, Messa
 use Rattle.engine.specs.declared.state.RxCell.{RxCell}
 use Rattle.engine.specs.declared.state.Receiving.{Receiving}
 use Rattle.engine.specs.Ring.{window}
-use Rattle.seq.specs.Numbers.{minus}
+use Rattle.seq.specs.Distance.{past}
 
 abbrev pub noCell : RxCell
 noCell = record { held = Nothing }
@@ -21,7 +21,7 @@ cellView N rx = window N noCell (rx .«rxed_reliable») (rx .«rx_oldest» .0 % 
 
 -- how far the next expected number is past the oldest
 abbrev pub expectedAt : Receiving → ℕ
-expectedAt rx = minus (rx .«rx_seq» .0) (rx .«rx_oldest» .0)
+expectedAt rx = past (rx .«rx_seq» .0) (rx .«rx_oldest» .0)
 
 abbrev pub isFull : Held → Bool
 isFull Nothing = false

@@ -8,7 +8,8 @@ use Prim.Native.Nat.{ℕ, _+_, _-_, _≤_, _<_}
 use lib.Dec.{eqb, leb, ltb}
 use lib.ListN.{length, set}
 use borrow.Author.Tests.{eqb-true, leb-true, ltb-true}
-use Rattle.seq.specs.Numbers.{seqOf, minus, USABLE_INTERVAL}
+use Rattle.seq.specs.Numbers.{seqOf, USABLE_INTERVAL}
+use Rattle.seq.specs.Distance.{near, past}
 use Rattle.msg.specs.declared.reliable.ReliableMsg.{ReliableMsg}
 use Rattle.msg.specs.Reliable.{isKind, countOf, MSG_RECEIVE_CLOSE, MSG_RECEIVE_FINISH}
 use Rattle.refusal.specs.declared.verdict.Verdict.{Verdict}
@@ -37,7 +38,8 @@ use Rattle.engine.specs.Totals.{fits}
 abbrev pub consumedOk : ReliableMsg → ℕ → Bool
 consumedOk msg unconsumed = leb (countOf msg) unconsumed
 
--- the refusals of receive, in the order of their numbers; 11, 12, 14 and 15 are for new numbers
+-- the refusals of receive, in the order of their numbers, but for 02 [5]: "22 Far, for receive and ack, checked after 7 and before 11; this
+-- amends the smallest-number rule", and "Receive judges against the next expected number"; 11, 12, 14 and 15 are for new numbers
 unfoldable pub receiveVerdict : State → ℕ → ℕ → ReliableMsg → ℕ → ℕ → Verdict
 receiveVerdict s store slot msg n len =
     let again = isRepeat CELLS (s .rx) n in
@@ -45,12 +47,13 @@ receiveVerdict s store slot msg n len =
     (gate (eqb store RECEIVED_BYTES) 2
     (gate (slotOk s slot) 4
     (gate (lengthOk msg len) 7
-    (gate (again || leb (minus n (s .rx .«rx_seq» .0)) USABLE_INTERVAL) 11
+    (gate (near n (s .rx .«rx_seq» .0)) 22
+    (gate (again || leb (past n (s .rx .«rx_seq» .0)) USABLE_INTERVAL) 11
     (gate (again || nearOldest CELLS (s .rx) n) 12
     (gate (ltb (rowOf s slot .«ack_count») ACKS) 13
     (gate (again || fits (s .rx .«rxed_reliable_size») len (s .rx .«recv_buffer»)) 14
     (gate (again || consumedOk msg (s .tx .«txed_unconsumed»)) 15
-    Pass))))))))
+    Pass)))))))))
 
 -- "Consumed reduces `txed_unconsumed`, ReceiveClose raises a flag, ReceiveFinish ends sending"
 unfoldable pub effectTx : Sending → ReliableMsg → Sending
@@ -100,6 +103,7 @@ pub record ReceivePassed (s : State) (store slot : ℕ) (msg : ReliableMsg) (n l
   pub stored : store ≡ RECEIVED_BYTES
   pub fits : lengthOk msg len ≡ true
   pub short : len ≤ DATA_BYTES
+  pub close : near n (s .rx .«rx_seq» .0) ≡ true
   pub room : rowOf s slot .«ack_count» < ACKS
   pub new : isRepeat CELLS (s .rx) n ≡ false → NewNumber s msg n len
 
@@ -114,7 +118,8 @@ receive-passed s store slot msg n len e =
     let e2 = gate-pass (eqb store RECEIVED_BYTES) _ _ (e1 .1) in
     let e4 = gate-pass (slotOk s slot) _ _ (e2 .1) in
     let e7 = gate-pass (lengthOk msg len) _ _ (e4 .1) in
-    let e11 = gate-pass (again || leb (minus n (s .rx .«rx_seq» .0)) USABLE_INTERVAL) _ _ (e7 .1) in
+    let e22 = gate-pass (near n (s .rx .«rx_seq» .0)) _ _ (e7 .1) in
+    let e11 = gate-pass (again || leb (past n (s .rx .«rx_seq» .0)) USABLE_INTERVAL) _ _ (e22 .1) in
     let e12 = gate-pass (again || nearOldest CELLS (s .rx) n) _ _ (e11 .1) in
     let e13 = gate-pass (ltb (rowOf s slot .«ack_count») ACKS) _ _ (e12 .1) in
     let e14 = gate-pass (again || fits (s .rx .«rxed_reliable_size») len (s .rx .«recv_buffer»)) _ _ (e13 .1) in
@@ -124,6 +129,7 @@ receive-passed s store slot msg n len e =
       stored = eqb-true store RECEIVED_BYTES (e2 .0);
       fits = e7 .0;
       short = length-le msg len (e7 .0);
+      close = e22 .0;
       room = ltb-true (rowOf s slot .«ack_count») ACKS (e13 .0);
       new = λ is. record {
         near = new-test again (nearOldest CELLS (s .rx) n) is (e12 .0);

@@ -4,7 +4,7 @@ use mathlib.Core.List.{List}
 use Prim.Native.Nat.{ℕ, _-_, _%_}
 use lib.Dec.{leb}
 use lib.ListN.{getD, set}
-use Rattle.seq.specs.Numbers.{minus}
+use Rattle.seq.specs.Distance.{past}
 use Rattle.engine.specs.declared.state.SentReliable.{SentReliable}
 use Rattle.engine.specs.declared.state.Sending.{Sending}
 use Rattle.engine.specs.Ring.{refilled}
@@ -14,11 +14,11 @@ use Rattle.engine.specs.Fields.{withPackets}
 
 -- "Let back = next number − a. If 1 ≤ back ≤ packet count": the table holds the number
 unfoldable pub inTable : Sending → ℕ → Bool
-inTable tx n = leb 1 (minus (tx .«tx_seq» .0) n) && leb (minus (tx .«tx_seq» .0) n) (tx .«txed_count»)
+inTable tx n = leb 1 (past (tx .«tx_seq» .0) n) && leb (past (tx .«tx_seq» .0) n) (tx .«txed_count»)
 
 -- "the packet at count − back is looked at"
 unfoldable pub place : Sending → ℕ → ℕ
-place tx n = tx .«txed_count» - minus (tx .«tx_seq» .0) n
+place tx n = tx .«txed_count» - past (tx .«tx_seq» .0) n
 
 unfoldable pub lookedAt : Sending → ℕ → SentReliable
 unfolding place

@@ -18,16 +18,17 @@ use crate::table::packet_of;
 use crate::table::with_packet;
 use crate::totals::less;
 use link::LinkRow;
+use refusal::Refusal;
 use refusal::Verdict;
+use refusal::gate;
 use seq::Seq;
 ghost use mathlib.Core.Path.{_≡_};
 ghost use mathlib.Core.List.{[]};
 ghost use Prim.Native.Nat.{_+_, _≤_, _<_, _^_};
 ghost use Rattle.refusal.specs.Answers.{toldBy};
 ghost use Rattle.engine.specs.Answer.{outcomeTold};
-ghost use Rattle.engine.specs.Gates.{timedVerdict};
 ghost use Rattle.engine.specs.Sound.{Sound};
-ghost use Rattle.engine.specs.Acking.{settledRow, receivedTx, settledTx, sweepOf, sweptTx, ackedRow, ackedTx, ackOf};
+ghost use Rattle.engine.specs.Acking.{settledRow, receivedTx, settledTx, sweepOf, sweptTx, ackedRow, ackedTx, ackVerdict, ackOf};
 ghost use Rattle.engine.specs.Sizes.{PACKETS};
 
 // The row, where the packet was Sent over its slot.
@@ -147,11 +148,20 @@ fn acked_tx(s: State, slot: u8, seq: Seq) -> Sending
     settle_tx(tx, slot, seq, p)
 }
 
+// Its own gate judges the number against the next to send.
+fn ack_verdict(s: State, slot: u8, time: u64, seq: Seq) -> Verdict
+    ensures { λ r. ⌜ r ≡ ackVerdict s slot time (seq .0) ⌝ }
+{
+    let tx = s.tx;
+    let v22 = gate(seq.is_near(tx.tx_seq), Refusal::Far, Verdict::Pass);
+    timed_verdict(s, slot, time, v22)
+}
+
 pub fn ack(s: State, slot: u8, time: u64, seq: Seq) -> Changed
     ensures { λ r. ⌜ r ≡ ackOf s slot time (seq .0) ⌝ }
-    ensures { λ r. ⌜ outcomeTold (r .outcome) ≡ toldBy (timedVerdict s slot time Verdict.Pass) [] ⌝ }
+    ensures { λ r. ⌜ outcomeTold (r .outcome) ≡ toldBy (ackVerdict s slot time (seq .0)) [] ⌝ }
 {
-    let verdict = timed_verdict(s, slot, time, Verdict::Pass);
+    let verdict = ack_verdict(s, slot, time, seq);
     match verdict {
         Verdict::No(e) => Changed {
             outcome: Outcome::No(e),

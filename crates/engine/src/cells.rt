@@ -45,7 +45,7 @@ pub(crate) fn with_cell(rx: Receiving, seq: Seq, held: Held) -> Receiving
 pub(crate) fn near_oldest(rx: Receiving, seq: Seq) -> bool
     ensures { λ r. ⌜ r ≡ nearOldest CELLS rx (seq .0) ⌝ }
 {
-    seq.since(rx.rx_oldest) < CELL_ROUND
+    seq.past(rx.rx_oldest) < CELL_ROUND
 }
 
 // Whether the number was received already: it is before the next expected, or held.
@@ -90,7 +90,7 @@ fn oldest_after(oldest: Seq, seq: Seq, next: Seq, ready: bool) -> Seq
     if ready {
         return oldest;
     }
-    if oldest.0 == seq.0 { next } else { oldest }
+    if oldest.eq(seq) { next } else { oldest }
 }
 
 // The next expected message is passed.

@@ -46,7 +46,7 @@ pub enum HandOut {
 fn oldest_ready(rx: Receiving) -> Held
     ensures { λ r. ⌜ r ≡ readyOf CELLS rx ⌝ }
 {
-    if rx.rx_oldest.0 == rx.rx_seq.0 {
+    if rx.rx_oldest.eq(rx.rx_seq) {
         return Held::Nothing;
     }
     cell_of(rx, rx.rx_oldest)
@@ -150,7 +150,7 @@ fn take_verdict(s: State) -> Verdict
 fn can_skip(rx: Receiving) -> bool
     ensures { λ r. ⌜ r ≡ canSkip CELLS rx ⌝ }
 {
-    if rx.rx_oldest.0 == rx.rx_seq.0 {
+    if rx.rx_oldest.eq(rx.rx_seq) {
         return false;
     }
     let held = cell_of(rx, rx.rx_oldest);

@@ -96,7 +96,7 @@ fn status_ok(status: SentReliableStatus, seq: Seq, next: Seq, roster: Roster, ti
             both(here, both(flight.sent <= time, flush))
         }
         SentReliableStatus::Received => true,
-        SentReliableStatus::ResendQueued { sent_link: _ } => next.0 == seq.0,
+        SentReliableStatus::ResendQueued { sent_link: _ } => next.eq(seq),
     }
 }
 
@@ -108,7 +108,7 @@ fn packet_ok(p: SentReliable, n: Seq, next: Seq, roster: Roster, time: u64) -> b
     let status = p.status;
     let length = length_ok(msg, p.len as usize);
     let well = status_ok(status, seq, next, roster, time);
-    both(seq.0 == n.0, both(length, well))
+    both(seq.eq(n), both(length, well))
 }
 
 // The tally with one packet more. Sums go round at 2^32, which a table that is well cannot reach.

@@ -76,7 +76,7 @@ pub(crate) fn cells_tallied(rx: Receiving) -> CellTally
 {
     let mut t = CellTally { ok: true, size: 0 };
     let oldest = rx.rx_oldest;
-    let expected = rx.rx_seq.since(oldest) as usize;
+    let expected = rx.rx_seq.past(oldest) as usize;
     let mut at = (oldest.0 % CELL_ROUND) as usize;
     let mut k: usize = 0;
     while k < CELLS {

@@ -48,7 +48,7 @@ fn receive_verdict(
 {
     let rx = s.rx;
     let again = is_repeat(rx, seq);
-    let offset = either(again, seq.since(rx.rx_seq) <= MAX_OFFSET);
+    let offset = either(again, seq.past(rx.rx_seq) <= MAX_OFFSET);
     let window = either(again, near_oldest(rx, seq));
     let acks = row_of(s, slot).ack_count < ACKS;
     let room = either(again, sum_fits(rx.rxed_reliable_size, len, rx.recv_buffer));
@@ -58,7 +58,8 @@ fn receive_verdict(
     let v13 = gate(acks, Refusal::Acks, v14);
     let v12 = gate(window, Refusal::Window, v13);
     let v11 = gate(offset, Refusal::Offset, v12);
-    let v7 = gate(length_ok(msg, len), Refusal::Length, v11);
+    let v22 = gate(seq.is_near(rx.rx_seq), Refusal::Far, v11);
+    let v7 = gate(length_ok(msg, len), Refusal::Length, v22);
     let v4 = gate(slot_ok(s, slot), Refusal::Slot, v7);
     let v2 = gate(store == RECEIVED_BYTES, Refusal::StoreLength, v4);
     gate(is_sound(s), Refusal::Unsound, v2)

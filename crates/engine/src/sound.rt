@@ -90,7 +90,7 @@ fn found_sound(s: State) -> bool
     let first = first_ok(tx);
     let rows = rows_ok(links, on, s.time);
     let alone = distinct(roster);
-    let near = rx.rx_seq.since(rx.rx_oldest) <= CELL_ROUND;
+    let near = rx.rx_seq.past(rx.rx_oldest) <= CELL_ROUND;
     let sums = both(
         t.unacked == tx.txed_unacked,
         t.unconsumable == tx.txed_unconsumable,

@@ -24,7 +24,7 @@ pub(crate) fn first_cell(tx: Sending) -> usize
 pub(crate) fn in_table(tx: Sending, seq: Seq) -> bool
     ensures { λ r. ⌜ r ≡ inTable tx (seq .0) ⌝ }
 {
-    let back = tx.tx_seq.since(seq) as usize;
+    let back = tx.tx_seq.past(seq) as usize;
     both(1 <= back, back <= tx.txed_count)
 }
 

@@ -14,7 +14,7 @@ use Rattle.engine.specs.Unconfirming.{unconfirmOf, removeOf, unconfirmedState, 
 use Rattle.engine.specs.Sending.{sendOf, sendStore, sendVerdict, sentState, SendPassed}
 use Rattle.engine.specs.Flushing.{flushOf, flushedState}
 use Rattle.engine.specs.Resending.{resendOf, resendVerdict, resentState, ResendPassed}
-use Rattle.engine.specs.Acking.{ackOf, ackedState}
+use Rattle.engine.specs.Acking.{ackVerdict, AckPassed, ackOf, ackedState}
 use Rattle.engine.specs.Receiving.{receiveOf, receiveStore, receiveVerdict, repeatedState, receivedState, ReceivePassed}
 use Rattle.engine.specs.Closing.{closeOf, closedState}
 use Rattle.engine.specs.Table.{lookedAt}
@@ -73,7 +73,7 @@ verdict (Pong slot time) h = timedVerdict (h .state) slot time verdicts.Pass
 verdict (Flush slot time) h = timedVerdict (h .state) slot time verdicts.Pass
 verdict (Send slot time msg bytes) h = sendVerdict (h .state) (length (h .sent)) slot time msg (length bytes)
 verdict (Resend slot time n) h = resendVerdict (h .state) slot time n
-verdict (Ack slot time n) h = timedVerdict (h .state) slot time verdicts.Pass
+verdict (Ack slot time n) h = ackVerdict (h .state) slot time n
 verdict (Receive slot msg n bytes) h = receiveVerdict (h .state) (length (h .received)) slot msg n (length bytes)
 verdict Show h = showVerdict (h .state) (length (h .received))
 verdict Take h = takeVerdict (h .state)
@@ -234,7 +234,7 @@ Passed (Pong slot time) h = AtTime (h .state) slot time
 Passed (Flush slot time) h = AtTime (h .state) slot time
 Passed (Send slot time msg bytes) h = SendPassed (h .state) (length (h .sent)) slot time msg (length bytes)
 Passed (Resend slot time n) h = ResendPassed (h .state) slot time n
-Passed (Ack slot time n) h = AtTime (h .state) slot time
+Passed (Ack slot time n) h = AckPassed (h .state) slot time n
 Passed (Receive slot msg n bytes) h = ReceivePassed (h .state) (length (h .received)) slot msg n (length bytes)
 Passed Show h = Unit
 Passed Take h = Taking (h .state) (msgIn (readyOf CELLS (h .state .rx))) (h .state .rx .«rx_oldest») (heldBytes (readyOf CELLS (h .state .rx)))

@@ -12,7 +12,8 @@ use borrow.Table.Steps.{cases}
 use borrow.Author.Tests.{ltb-true, ltb-false, lt-ltb, eq-eqb, ne-eqb, eqb-true, eqb-false, not-true, not-false}
 use lib.Seq.{getD-set-same, getD-set-other}
 use Rattle.seq.specs.Numbers.{seqOf, plus, minus}
-use Rattle.seq.specs.Laws.{cell-counted, minus-ahead, plus-plus, plus-lt}
+use Rattle.seq.specs.Laws.{cell-counted, plus-plus, plus-lt}
+use Rattle.seq.specs.Distance.{past, past-near, past-counted}
 use Rattle.refusal.specs.Tests.{false-true, split, same-test}
 use Rattle.msg.specs.declared.reliable.ReliableMsg.{ReliableMsg}
 use Rattle.msg.specs.Reliable.{isKind, MSG_DATA, MSG_SEND_FINISH}
@@ -100,13 +101,16 @@ heldBut N rx at h k = cond (eqb k at) h (heldPast N rx (rx .«rx_oldest» .0) k)
 -- ---- numbers
 
 -- the number p past e, the number n and the number after another, by how far they are past o
-counted : (e o p : ℕ) → e < 2 ^ 32 → o < 2 ^ 32 → plus e p ≡ plus o (minus e o + p)
+counted : (e o p : ℕ) → e < 2 ^ 32 → o < 2 ^ 32 → past e o < 2 ^ 30 → plus e p ≡ plus o (past e o + p)
 unfolding plus minus
-counted e o p he ho = omega arith
+counted e o p he ho close = let z : past e o ≡ (e + (2 ^ 32 - o)) % 2 ^ 32 = past-near e o close in omega arith
 
-pub number-cell : (N : ℕ) → CellCount N → (n o : ℕ) → o < 2 ^ 32 → n % N ≡ plus o (minus n o) % N
+pub number-cell : (N : ℕ) → CellCount N → (n o : ℕ) → o < 2 ^ 32 → past n o < 2 ^ 30 → n % N ≡ plus o (past n o) % N
 unfolding plus minus
-number-cell N count n o h = let e : n % 2 ^ 32 ≡ plus o (minus n o) = omega arith in sym (mod-mod-of-dvd N n (count .round)) ∙ ap (λ m. m % N) e
+number-cell N count n o h close =
+    let z : past n o ≡ (n + (2 ^ 32 - o)) % 2 ^ 32 = past-near n o close in
+    let e : n % 2 ^ 32 ≡ plus o (past n o) = omega arith in
+    sym (mod-mod-of-dvd N n (count .round)) ∙ ap (λ m. m % N) e
 
 plus-one : (a n : ℕ) → plus (plus a n) 1 ≡ plus a (suc n)
 unfolding plus
@@ -227,6 +231,9 @@ module _ (N : ℕ) (count : CellCount N) (old : Receiving) (table : Table N old)
   abbrev E : ℕ
   E = expectedAt old
 
+  near-expected : E < 2 ^ 30
+  near-expected = omega (arith, table .near, count .few)
+
   -- the cell of the number j past o is changed, and that of any other k isn't
   put : (cells : List RxCell) (n j : ℕ) (h : Held) → length cells ≡ N → n % N ≡ plus o j % N → j < N → (k : ℕ) → k < N
       → heldIn N (set cells (n % N) (record { held = h })) (plus o k) ≡ cond (eqb k j) h (heldIn N cells (plus o k))
@@ -240,11 +247,11 @@ module _ (N : ℕ) (count : CellCount N) (old : Receiving) (table : Table N old)
   module _ (c : ℕ → Held) (p g : ℕ) (rx : Receiving) (was : Moved N old c p g rx) where
     -- the next expected number, and what the tests of the two loops are
     expected-at : rx .«rx_seq» .0 ≡ plus o (E + p)
-    expected-at = was .over .expected-is ∙ counted (old .«rx_seq» .0) o p (table .expected-u32) (table .oldest-u32)
+    expected-at = was .over .expected-is ∙ counted (old .«rx_seq» .0) o p (table .expected-u32) (table .oldest-u32) near-expected
 
     can-advance : canAdvance N rx ≡ (ltb (E + p - g) N && isFull (heldPast N rx o (E + p)))
     unfolding canAdvance nearOldest
-    can-advance = simp (expected-at, was .oldest-is, minus-ahead o (E + p) g (was .behind) (omega arith))
+    can-advance = simp (expected-at, was .oldest-is, past-counted o (E + p) g (was .behind) (omega arith))
 
     apart : not (eqb (rx .«rx_oldest» .0) (rx .«rx_seq» .0)) ≡ ltb g (E + p)
     unfolding plus
@@ -371,13 +378,14 @@ module _ (N : ℕ) (count : CellCount N) (old : Receiving) (table : Table N old)
 
   -- "is stored .. Then consecutive messages advance the next expected number"; and the oldest ready message is taken
   pub stored-passes : (msg : ReliableMsg) (n len : ℕ) → nearOldest N old n ≡ true
-      → Passes N old (storedIn N old msg n len) (heldBut N old (minus n (old .«rx_oldest» .0)) (Message msg len))
+      → Passes N old (storedIn N old msg n len) (heldBut N old (past n (old .«rx_oldest» .0)) (Message msg len))
   unfolding nearOldest cellOf
   stored-passes msg n len close =
-      let c = heldBut N old (minus n o) (Message msg len) in
-      let start = changed n (minus n o) (Message msg len) (old .«rxed_reliable_size» + len) (old .«rxed_reliable_consumed»)
-      (number-cell N count n o (table .oldest-u32)) (ltb-true (minus n o) N close) in
-      let stands : 0 < E → isFull (c 0) ≡ true = λ l. cases (eqb 0 (minus n o)) (λ t. simp t) (λ f. simp f (table .oldest l)) in
+      let c = heldBut N old (past n o) (Message msg len) in
+      let close-by = ltb-true (past n o) N close in
+      let start = changed n (past n o) (Message msg len) (old .«rxed_reliable_size» + len) (old .«rxed_reliable_consumed»)
+      (number-cell N count n o (table .oldest-u32) (omega (arith, count .few))) close-by in
+      let stands : 0 < E → isFull (c 0) ≡ true = λ l. cases (eqb 0 (past n o)) (λ t. simp t) (λ f. simp f (table .oldest l)) in
       advances c _ (0, 0, start, omega arith, λ l. ap isFull (start .over .other 0 (count .some) (λ a. omega arith)) ∙ stands (omega arith))
 
   pub taken-passes : (bytes : ℕ) → 0 < expectedAt old → Passes N old (takenRx N old bytes) (heldBut N old 0 Nothing)
@@ -410,8 +418,8 @@ module _ (N : ℕ) (count : CellCount N) (old : Receiving) (table : Table N old)
     -- the next expected number and the same cells, from the number that is the oldest now
     expected-then : expectedAt new ≡ end - pass .gone
     expected-then =
-        simp (ap (λ q. q .0) (pass .expected-is), ap (λ q. q .0) (pass .oldest-is), counted (old .«rx_seq» .0) o (pass .passed) (table .expected-u32) (table .oldest-u32))
-        (minus-ahead o end (pass .gone) (pass .behind) (omega arith))
+        simp (ap (λ q. q .0) (pass .expected-is), ap (λ q. q .0) (pass .oldest-is), counted (old .«rx_seq» .0) o (pass .passed) (table .expected-u32) (table .oldest-u32) near-expected)
+        (past-counted o end (pass .gone) (pass .behind) (omega arith))
 
     view-then : (k : ℕ) → k < N → getD (cellView N new) k noCell .held ≡ heldPast N new o (pass .gone + k)
     view-then k l =

@@ -28,7 +28,7 @@ use Rattle.engine.specs.Sound.{packetAt}
 use Rattle.engine.specs.Flushing.{flushedPacket, flushedState, flushOf}
 use Rattle.engine.specs.Unconfirming.{unconfirmedPacket, unconfirmedState, unconfirmOf}
 use Rattle.engine.specs.Resending.{resendVerdict, resentState, resentBy, resendOf, resend-passed}
-use Rattle.engine.specs.Acking.{settled, ackedState, ackOf}
+use Rattle.engine.specs.Acking.{settled, ackedState, ackVerdict, ackOf}
 use Rattle.engine.specs.Deadlines.{inFlight, firstSent, wasFlushed, definitelySent, deadlineOf, namedBy, confirmTimeoutVerdict, confirmTimeoutBy, earliestConfirmTimeoutOf, Oldest, timeout-passed}
 use Rattle.laws.specs.Good.{Good}
 use Rattle.laws.specs.PacketsKept.{packets-count, map-length, map-at}
@@ -161,7 +161,7 @@ module _ (s : State) (good : Good s) where
       ∙ ap firstSent (resent-packets s good slot time n u32 (resend-passed s slot time n (good .shaped) u32 e .held))
       ∙ first-mapped _ (packets (s .tx))
 
-  pub ack-names : (slot time a : ℕ) → a < 2 ^ 32 → timedVerdict s slot time Pass ≡ Pass
+  pub ack-names : (slot time a : ℕ) → a < 2 ^ 32 → ackVerdict s slot time a ≡ Pass
       → firstSent (packets (ackOf s slot time a .state .tx)) ≡ firstLeft (changeAt a (settled slot)) (packets (s .tx))
   unfolding ackOf
   ack-names slot time a u32 e =

@@ -13,6 +13,7 @@ pub mod PacketsKept
 pub mod PaperExamples
 pub mod Deadlines
 pub mod Parts
+pub mod Near
 pub mod Passed
 pub mod Reader
 pub mod ReaderKept

@@ -10,6 +10,7 @@ use lib.ListN.{length, getD, set, replicate, length-replicate, getD-replicate}
 use borrow.Author.Tests.{leb-true, le-leb}
 use Rattle.seq.specs.Numbers.{seqOf, minus}
 use Rattle.seq.specs.Laws.{minus-lt}
+use Rattle.seq.specs.Distance.{past, past-ahead}
 use Rattle.refusal.specs.declared.verdict.Verdict.{Verdict}
 use Rattle.refusal.specs.declared.verdict.Verdict.the-variants.{Pass}
 use Rattle.refusal.specs.Refusals.{refuse}
@@ -146,9 +147,9 @@ empty-bytes zero = refl
 empty-bytes (suc n) = omega (arith, empty-bytes n)
 
 -- nothing lies between a number and itself
-minus-self : (n : ℕ) → n < 2 ^ 32 → minus n n ≡ 0
+past-self : (n : ℕ) → n < 2 ^ 32 → past n n ≡ 0
 unfolding minus
-minus-self n h = omega arith
+past-self n h = let e : minus n n ≡ 0 = omega arith in past-ahead n n (omega (arith, e)) ∙ e
 
 module _ (start buffer : ℕ) (number : start < 2 ^ 32) where
   -- every row is empty
@@ -189,7 +190,7 @@ module _ (start buffer : ℕ) (number : start < 2 ^ 32) where
 
   fresh-expected : expectedAt (freshState start buffer .rx) ≡ 0
   unfolding freshState freshRx
-  fresh-expected = minus-self start number
+  fresh-expected = past-self start number
 
   fresh-state-sound : 1 ≤ buffer → buffer ≤ MAX_RECV_BUFFER → Sound (freshState start buffer)
   unfolding freshState freshTx freshRx emptyRow window sumOf queuedOf

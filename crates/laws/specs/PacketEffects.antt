@@ -16,6 +16,7 @@ use borrow.Table.Steps.{cases}
 use Rattle.seq.specs.declared.Seq.{Seq}
 use Rattle.seq.specs.Numbers.{plus, minus}
 use Rattle.seq.specs.Laws.{plus-minus, cell-counted}
+use Rattle.seq.specs.Distance.{past}
 use Rattle.msg.specs.declared.reliable.ReliableMsg.{ReliableMsg}
 use Rattle.refusal.specs.Tests.{false-true, join}
 use Rattle.engine.specs.declared.state.SentReliableStatus.{SentReliableStatus}
@@ -157,8 +158,8 @@ module _ (s : State) (good : Good s) where
       let count = s .tx .«txed_count» in
       let few : i < count = omega (arith, packets-count (s .tx)) in
       let number : plus (firstOf (s .tx)) i ≡ n = sym (ap (λ (q : Seq). q .0) (good .sound .consecutive i few)) ∙ eqb-true _ _ e in
-      let back : minus next n ≡ count - i = ap (minus next) (sym number) ∙ number-back next count i (good .shaped .next-u32) (good .sound .packet-count) few in
-      (join (le-leb 1 (minus next n) (omega (arith, back))) (le-leb (minus next n) count (omega (arith, back))), omega (arith, back))
+      let back : past next n ≡ count - i = ap (past next) (sym number) ∙ number-back next count i (good .shaped .next-u32) (good .sound .packet-count) few in
+      (join (le-leb 1 (past next n) (omega (arith, back))) (le-leb (past next n) count (omega (arith, back))), omega (arith, back))
 
   module _ (n : ℕ) (u32 : n < 2 ^ 32) where
     -- where a change leaves the packet of a number, or the table doesn't hold the number, every packet stays

@@ -9,8 +9,11 @@ use native.Mathlib.Omega.{arith}
 use lib.Dec.{leb}
 use lib.ListN.{length, getD, set}
 use Rattle.refusal.specs.declared.verdict.Verdict.the-variants.{Pass}
+use Rattle.refusal.specs.Verdicts.{gate}
 use Rattle.seq.specs.declared.Seq.{Seq}
-use Rattle.seq.specs.Numbers.{seqOf, plus, minus, before, signed}
+use Rattle.seq.specs.declared.Apart.the-variants.{Far}
+use Rattle.seq.specs.Numbers.{seqOf, plus, minus, signed}
+use Rattle.seq.specs.Distance.{distanceOf, near, past}
 use Rattle.link.specs.declared.row.LinkRow.{LinkRow}
 use Rattle.link.specs.declared.row.MaxPing.the-variants.{Unlimited, UpTo}
 use Rattle.link.specs.Row.{emptyRow, freshRow}
@@ -31,7 +34,7 @@ use Rattle.engine.specs.Rows.{rowOf}
 use Rattle.engine.specs.Sizes.{PACKETS}
 use Rattle.engine.specs.Sound.{Sound, Shaped, packetAt}
 use Rattle.engine.specs.Table.{inTable, place, lookedAt}
-use Rattle.engine.specs.Acking.{settledRow, settledTx, sweepFrom, sweepOf, sweptTx, ackedRow, ackedTx, ackedState, ackOf}
+use Rattle.engine.specs.Acking.{settledRow, settledTx, sweepFrom, sweepOf, sweptTx, ackedRow, ackedTx, ackedState, ackVerdict, ackOf}
 use Rattle.engine.specs.declared.handing_out.Due.the-variants.{Is}
 use Rattle.engine.specs.HandingOut.{dueOf}
 use Rattle.engine.specs.Slowness.{allSlow, overSlots, slowSlots}
@@ -56,8 +59,8 @@ abbrev pub acked : State → ℕ → ℕ → LinkRow → Sending → Changed
 acked s slot time row tx = record { outcome = Done; state = withParts s (set (s .links) slot row) tx (s .rx) time }
 
 pub record PaperExamples : Type 0 where
-  -- "S3 0x80000000 is before 0."
-  pub s3 : before 2147483648 0 ≡ true
+  -- "S3 0x80000000 is before 0."; request [5]: "S3 in the examples becomes far."
+  pub s3 : distanceOf 2147483648 0 ≡ Far
   -- "R1 r 100, e 200: 175. R2 r 200, e 100: 199. R4 flag set, e 50: 50."
   pub r1 : tripAfter false 100 200 ≡ 175
   pub r2 : tripAfter false 200 100 ≡ 199
@@ -100,10 +103,10 @@ module _ (s : State) (slot time a : ℕ) (five : NextIsFive s slot time) where
   is-sound : Sound s
   is-sound = timed-passed s slot time Pass (five .passed) .0 .at .fine
 
-  back : minus (s .tx .«tx_seq» .0) a ≡ minus 5 a
-  back = ap (λ seq. minus (seq .0) a) (five .next)
+  back : past (s .tx .«tx_seq» .0) a ≡ past 5 a
+  back = ap (λ seq. past (seq .0) a) (five .next)
 
-  in-table : inTable (s .tx) a ≡ (leb 1 (minus 5 a) && leb (minus 5 a) 3)
+  in-table : inTable (s .tx) a ≡ (leb 1 (past 5 a) && leb (past 5 a) 3)
   unfolding inTable
   in-table = simp (back, five .count)
 
@@ -111,13 +114,16 @@ module _ (s : State) (slot time a : ℕ) (five : NextIsFive s slot time) where
   unfolding minus plus
   first-number = is-sound .consecutive 0 (omega (arith, five .count)) ∙ simp (five .next, five .count)
 
-  whole : ackOf s slot time a ≡ acked s slot time (ackedRow s slot time a) (sweptTx (ackedTx s slot a))
-  unfolding ackOf ackedState
-  whole = ap (λ v. changedBy v s (ackedState s slot time a)) (five .passed)
+  -- a number near 5 is accepted
+  whole : near a 5 ≡ true → ackOf s slot time a ≡ acked s slot time (ackedRow s slot time a) (sweptTx (ackedTx s slot a))
+  unfolding ackOf ackVerdict ackedState
+  whole close =
+      let test : near a (s .tx .«tx_seq» .0) ≡ true = ap (λ seq. near a (seq .0)) (five .next) ∙ close in
+      ap (λ v. changedBy v s (ackedState s slot time a)) (ap (λ b. timedVerdict s slot time (gate b 22 Pass)) test ∙ five .passed)
 
 none-of : (s : State) (slot time : ℕ) → NextIsFive s slot time
     → ackOf s slot time 1 ≡ acked s slot time (markAcked (rowOf s slot) 1) (withEnds (s .tx) (seqOf 2) (s .tx .«send_finish_sent») (s .tx .«write_closed»))
-unfolding ackedRow ackedTx minus
+unfolding ackedRow ackedTx near past distanceOf minus signed
 none-of s slot time five =
     let safe = is-sound s slot time 1 five in
     let out : inTable (s .tx) 1 ≡ false = in-table s slot time 1 five in
@@ -127,22 +133,22 @@ none-of s slot time five =
     let swept = swept-whole (s .tx) (safe .packet-count) some (safe .first some) in
     let last : Seq → Sending = λ n. withEnds (s .tx) n (s .tx .«send_finish_sent») (s .tx .«write_closed») in
     let half = ap sweptTx tx ∙ swept ∙ ap last (first-number s slot time 1 five) in
-    whole s slot time 1 five ∙ (λ d. acked s slot time (row d) (half d))
+    whole s slot time 1 five refl ∙ (λ d. acked s slot time (row d) (half d))
 
 first-of : (s : State) (slot time : ℕ) → NextIsFive s slot time
     → ackOf s slot time 2
     ≡ acked s slot time (settledRow (markAcked (rowOf s slot) 2) (packetAt s 0) slot time) (sweptTx (settledTx (s .tx) slot 2 (packetAt s 0)))
-unfolding ackedRow ackedTx lookedAt place minus
+unfolding ackedRow ackedTx lookedAt place near past distanceOf minus signed
 first-of s slot time five =
     let held : inTable (s .tx) 2 ≡ true = in-table s slot time 2 five in
     let first : place (s .tx) 2 ≡ 0 = omega (arith, five .count, back s slot time 2 five) in
     let here : lookedAt (s .tx) 2 ≡ packetAt s 0 = ap (λ i. packetAt s i) first in
     let row : ackedRow s slot time 2 ≡ settledRow (markAcked (rowOf s slot) 2) (packetAt s 0) slot time = simp (held, here) in
     let tx : ackedTx s slot 2 ≡ settledTx (s .tx) slot 2 (packetAt s 0) = simp (held, here) in
-    whole s slot time 2 five ∙ (λ d. acked s slot time (row d) (sweptTx (tx d)))
+    whole s slot time 2 five refl ∙ (λ d. acked s slot time (row d) (sweptTx (tx d)))
 
 pub paper-examples : PaperExamples
-unfolding before signed minus tripAfter slowSlots allSlow overSlots confirmedLink aboveMaxPing slowRow dueOf freshRow emptyRow
+unfolding distanceOf signed minus tripAfter slowSlots allSlow overSlots confirmedLink aboveMaxPing slowRow dueOf freshRow emptyRow
 paper-examples = record {
   s3 = refl;
   r1 = refl;

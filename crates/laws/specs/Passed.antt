@@ -17,7 +17,7 @@ use Rattle.engine.specs.Unconfirming.{unconfirmOf, removeOf}
 use Rattle.engine.specs.Sending.{sendOf, sendStore, sentBy, sendVerdict, send-passed}
 use Rattle.engine.specs.Flushing.{flushOf}
 use Rattle.engine.specs.Resending.{resendOf, resentBy, resendVerdict, resentState, resend-passed}
-use Rattle.engine.specs.Acking.{ackOf}
+use Rattle.engine.specs.Acking.{ackOf, ack-passed}
 use Rattle.engine.specs.Cells.{isRepeat}
 use Rattle.engine.specs.Receiving.{receiveOf, receiveStore, receiveVerdict, receive-passed}
 use Rattle.engine.specs.HandingOut.{handOutBy, takeVerdict, takenBy, takeOf, taking, takeAckVerdict, ackAs, ackAnswer, takenAckBy, takeAckOf, take-ack-passed}
@@ -132,7 +132,7 @@ passed (Pong slot time) h t g e = timed-passed (h .state) slot time verdicts.Pas
 passed (Flush slot time) h t g e = timed-passed (h .state) slot time verdicts.Pass e .0
 passed (Send slot time msg bytes) h t g e = send-passed (h .state) (length (h .sent)) slot time msg (length bytes) e
 passed (Resend slot time n) h t g e = resend-passed (h .state) slot time n (g .shaped) t e
-passed (Ack slot time n) h t g e = timed-passed (h .state) slot time verdicts.Pass e .0
+passed (Ack slot time n) h t g e = ack-passed (h .state) slot time n e
 passed (Receive slot msg n bytes) h t g e = receive-passed (h .state) (length (h .received)) slot msg n (length bytes) e
 passed Show h t g e = tt
 passed Take h t g e = taking (h .state) _ _ _ (ap (λ (v : Verdict). handOutBy v (h .state .rx)) e)
@@ -155,7 +155,7 @@ done-good (Pong slot time) h t g p = ponged-good (h .state) g slot time p
 done-good (Flush slot time) h t g p = flushed-good (h .state) g slot time p
 done-good (Send slot time msg bytes) h t g p = sent-good (h .state) g (length (h .sent)) slot time msg (length bytes) p
 done-good (Resend slot time n) h t g p = resent-good (h .state) g slot time n t p
-done-good (Ack slot time n) h t g p = acked-good (h .state) g slot time n t p
+done-good (Ack slot time n) h t g p = acked-good (h .state) g slot time n t (p .timed)
 done-good (Receive slot msg n bytes) h t g p =
     cases (isRepeat CELLS (h .state .rx) n)
     (λ again. simp again (repeated-good (h .state) g slot n (p .at)))

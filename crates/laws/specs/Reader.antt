@@ -25,7 +25,7 @@ use Rattle.engine.specs.Unconfirming.{unconfirmedState, removedState}
 use Rattle.engine.specs.Flushing.{flushedState}
 use Rattle.engine.specs.Sending.{sendVerdict, totalsOk, sentState}
 use Rattle.engine.specs.Resending.{resendVerdict, resentState}
-use Rattle.engine.specs.Acking.{ackedRow, ackedTx, ackedState}
+use Rattle.engine.specs.Acking.{ackVerdict, ackedRow, ackedTx, ackedState}
 use Rattle.engine.specs.Receiving.{receiveVerdict, repeatedState, receivedState}
 use Rattle.engine.specs.declared.handing_out.HandOut.{HandOut}
 use lib.ListN.{length}
@@ -78,7 +78,7 @@ by-sound : (h : Holding) (reads : Bool) (rest : Verdict) → gate (soundb (readi
 by-sound h reads rest = ap (λ ok. gate ok 1 rest) (reader-sound (h .state) reads)
 
 alike : (c : Call) (h : Holding) (reads : Bool) → Alike c h reads
-unfolding slotVerdict timedVerdict addVerdict sendVerdict totalsOk resendVerdict receiveVerdict showVerdict takeVerdict takeAckVerdict confirmTimeoutVerdict slotOk timeOk rowOf unconfirmedState removedState flushedState sentState resentState ackedRow ackedTx ackedState repeatedState receivedState takenState takenAckState
+unfolding slotVerdict timedVerdict addVerdict sendVerdict totalsOk resendVerdict ackVerdict receiveVerdict showVerdict takeVerdict takeAckVerdict confirmTimeoutVerdict slotOk timeOk rowOf unconfirmedState removedState flushedState sentState resentState ackedRow ackedTx ackedState repeatedState receivedState takenState takenAckState
 alike (Add id roundtrip max blocked unconfirmed) h reads = (by-sound h reads _, (λ u. refl, λ u. refl))
 alike (Remove slot) h reads = (by-sound h reads _, (λ u. refl, λ u. refl))
 alike (Confirm slot) h reads = (by-sound h reads _, (λ u. refl, λ u. refl))

@@ -9,7 +9,8 @@ use lib.ListN.{length, drop, length-set, length-append, length-drop, length-repl
 use borrow.Author.Tests.{ltb-true}
 use borrow.Table.Steps.{cases}
 use Rattle.seq.specs.declared.Seq.{Seq}
-use Rattle.seq.specs.Numbers.{seqOf, before}
+use Rattle.seq.specs.Numbers.{seqOf}
+use Rattle.seq.specs.Distance.{before}
 use Rattle.link.specs.declared.row.LinkRow.{LinkRow}
 use Rattle.link.specs.declared.row.MaxPing.{MaxPing}
 use Rattle.link.specs.declared.row.Limit.{Limit}
@@ -17,7 +18,7 @@ use Rattle.link.specs.declared.row.Limit.the-variants.{Clear, At}
 use Rattle.link.specs.declared.row.Ping.{Ping}
 use Rattle.link.specs.declared.row.Ping.the-variants.{Idle, Since}
 use Rattle.link.specs.Row.{emptyRow, freshRow, confirmed, blockedRow, unconfirmedRow, withUnacked}
-use Rattle.link.specs.Limit.{atOrBefore, markedRow, markAckedAs, markAcked, markResentAs, markResent}
+use Rattle.link.specs.Limit.{markedRow, markAckedAs, markAcked, markResentAs, markResent}
 use Rattle.link.specs.Roundtrip.{pinged, pongedAs, tripMoved}
 use Rattle.link.specs.Acks.{ackQueued, shifted, ackTaken}
 use Rattle.link.specs.Sizes.{ACKS}
@@ -78,7 +79,7 @@ module _ (r : LinkRow) where
   unfolding markAckedAs markedRow
   mark-acked-acks Clear a = record { queue = refl; count = refl }
   mark-acked-acks (At m) a =
-      either (λ q. SameAcks q r) (atOrBefore (m .0) a) _ _ (record { queue = refl; count = refl }) (record { queue = refl; count = refl })
+      either (λ q. SameAcks q r) (before a (m .0)) _ _ (record { queue = refl; count = refl }) (record { queue = refl; count = refl })
 
   mark-resent-acks : (m : Limit) (n : ℕ) → SameAcks (markResentAs m r n) r
   unfolding markResentAs markedRow

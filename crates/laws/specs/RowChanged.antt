@@ -4,13 +4,13 @@ use mathlib.Core.Bool.{Bool, true, false, cond}
 use Prim.Native.Nat.{ℕ, _+_, _-_, _*_, _/_, _≤_}
 use native.Mathlib.Omega.{arith}
 use lib.Dec.{ltb}
-use Rattle.seq.specs.Numbers.{before}
+use Rattle.seq.specs.Distance.{before}
 use Rattle.link.specs.declared.row.LinkRow.{LinkRow}
 use Rattle.link.specs.declared.row.Limit.{Limit}
 use Rattle.link.specs.declared.row.Limit.the-variants.{Clear, At}
 use Rattle.link.specs.Sizes.{maxPingWithin, pingWithin, MAX_TIME}
 use Rattle.link.specs.Row.{withUnacked}
-use Rattle.link.specs.Limit.{atOrBefore, markedRow, markAckedAs, markResentAs}
+use Rattle.link.specs.Limit.{markedRow, markAckedAs, markResentAs}
 use Rattle.link.specs.Roundtrip.{tripAfter, tripMoved}
 use Rattle.engine.specs.DecidedTables.{RowFine}
 
@@ -42,7 +42,7 @@ pub mark-acked : (m : Limit) (r : LinkRow) (a : ℕ) → Like (markAckedAs m r a
 unfolding markAckedAs markedRow
 mark-acked Clear r a = record { live = refl; id = refl; bytes = refl; trip = refl; limit = refl; pinged = refl; acks = refl }
 mark-acked (At m) r a =
-    either (λ q. Like q r) (atOrBefore (m .0) a) _ _
+    either (λ q. Like q r) (before a (m .0)) _ _
     (record { live = refl; id = refl; bytes = refl; trip = refl; limit = refl; pinged = refl; acks = refl })
     (record { live = refl; id = refl; bytes = refl; trip = refl; limit = refl; pinged = refl; acks = refl })
 

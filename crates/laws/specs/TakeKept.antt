@@ -9,6 +9,7 @@ use borrow.Table.Steps.{cases}
 use Rattle.refusal.specs.Tests.{false-true}
 use Rattle.seq.specs.declared.Seq.{Seq}
 use Rattle.seq.specs.Numbers.{minus}
+use Rattle.seq.specs.Distance.{past, past-near}
 use Rattle.msg.specs.declared.reliable.ReliableMsg.{ReliableMsg}
 use Rattle.engine.specs.declared.state.Held.the-variants.{Nothing, Message}
 use Rattle.engine.specs.declared.state.State.{State}
@@ -23,10 +24,10 @@ use Rattle.laws.specs.Good.{Good}
 use Rattle.laws.specs.AcksKept.{taken-sound, taken-shaped}
 use Rattle.laws.specs.CellEffects.{heldPast, Passes, heldBut, taken-passes, cell-count, table-of, sizes, view-past, passed-good}
 
--- a number that isn't the oldest is past it
-expected-past : (e o : ℕ) → e < 2 ^ 32 → o < 2 ^ 32 → (o ≡ e → ⊥) → 0 < minus e o
+-- a number that isn't the oldest and not far past it is past it
+expected-past : (e o : ℕ) → e < 2 ^ 32 → o < 2 ^ 32 → past e o < 2 ^ 30 → (o ≡ e → ⊥) → 0 < past e o
 unfolding minus
-expected-past e o he ho ne = omega arith
+expected-past e o he ho close ne = omega (arith, past-near e o close)
 
 module _ (s : State) (good : Good s) (msg : ReliableMsg) (seq : Seq) (len : ℕ) (taking : Taking s msg seq len) where
   -- what is ready lies before the next expected number
@@ -34,7 +35,7 @@ module _ (s : State) (good : Good s) (msg : ReliableMsg) (seq : Seq) (len : ℕ)
   unfolding readyOf
   ready-past =
       cases (eqb (s .rx .«rx_oldest» .0) (s .rx .«rx_seq» .0)) (λ t. false-true (ap isFull (simp t at (taking .ready))))
-      (λ t. expected-past _ _ (good .shaped .expected-u32) (good .shaped .oldest-u32) (eqb-false _ _ t))
+      (λ t. expected-past _ _ (good .shaped .expected-u32) (good .shaped .oldest-u32) (omega (arith, good .sound .near)) (eqb-false _ _ t))
 
   -- what the passing by does
   pub taken-table-passes : Passes CELLS (s .rx) (takenState s (dataLength msg len) .rx) (heldBut CELLS (s .rx) 0 Nothing)

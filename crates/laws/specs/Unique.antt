@@ -60,11 +60,11 @@ refusal-verdict = (sole, sole, sole)
 pub seq-lib :
     Unique seq.Seq.add.Reads.Learnt
     × Unique seq.Seq.sub.Reads.Learnt
-    × Unique seq.Seq.since.Reads.Learnt
+    × Unique seq.Seq.eq.Reads.Learnt
     × Unique seq.Seq.distance.Reads.Learnt
-    × Unique seq.Seq.apart.Reads.Learnt
+    × Unique seq.Seq.is_near.Reads.Learnt
     × Unique seq.Seq.is_before.Reads.Learnt
-    × Unique seq.as_signed.Reads.Learnt
+    × Unique seq.Seq.past.Reads.Learnt
 seq-lib = (sole, sole, sole, sole, sole, sole, sole)
 
 -- crates/msg/src/reliable.rt

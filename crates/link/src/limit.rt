@@ -3,17 +3,7 @@ use crate::row::Limit;
 use crate::row::LinkRow;
 use seq::Seq;
 ghost use mathlib.Core.Path.{_≡_};
-ghost use Rattle.link.specs.Limit.{atOrBefore, markedRow, markAcked, markResent};
-
-// Whether a mark is at an acked number or before it. At 2^31 apart each of two numbers is before the other.
-fn at_or_before(mark: Seq, received: Seq) -> bool
-    ensures { λ r. ⌜ r ≡ atOrBefore (mark .0) (received .0) ⌝ }
-{
-    if mark.0 == received.0 {
-        return true;
-    }
-    mark.is_before(received)
-}
+ghost use Rattle.link.specs.Limit.{markedRow, markAcked, markResent};
 
 impl LinkRow {
     // Sets the limit mark.
@@ -39,7 +29,7 @@ impl LinkRow {
         }
     }
 
-    // What an ack of a number does to the mark.
+    // What an ack of a number does to the mark: one that is far from the number is cleared too.
     pub fn mark_acked(self, received: Seq) -> LinkRow
         ensures { λ r. ⌜ r ≡ markAcked self (received .0) ⌝ }
     {
@@ -47,17 +37,17 @@ impl LinkRow {
         match limit {
             Limit::Clear => self,
             Limit::At(mark) => {
-                if at_or_before(mark, received) {
-                    return self.mark(Limit::Clear);
+                if received.is_before(mark) {
+                    let mut out = self;
+                    out.zero_estimate = true;
+                    return out;
                 }
-                let mut out = self;
-                out.zero_estimate = true;
-                out
+                self.mark(Limit::Clear)
             }
         }
     }
 
-    // What a resend of a number over this link does to the mark.
+    // What a resend of a number over this link does to the mark: one that is far from the number is kept.
     pub fn mark_resent(self, seq: Seq) -> LinkRow
         ensures { λ r. ⌜ r ≡ markResent self (seq .0) ⌝ }
     {

@@ -17,8 +17,8 @@ use lib.Seq.{drop-drop}
 use borrow.Author.Tests.{eq-eqb, ne-eqb, eqb-true, eqb-false, lt-ltb, le-ltb, ltb-true, ltb-false}
 use borrow.Table.Steps.{cases}
 use Rattle.seq.specs.declared.Seq.{Seq}
-use Rattle.seq.specs.Numbers.{minus, signed}
-use Rattle.seq.specs.Laws.{minus-lt, signed-low, signed-high}
+use Rattle.seq.specs.declared.Apart.the-variants.{By}
+use Rattle.seq.specs.Distance.{distanceOf, by-small}
 use Rattle.msg.specs.declared.reading.Reading.{Reading}
 use Rattle.msg.specs.declared.reading.Reading.the-variants as readings
 use Rattle.msg.specs.declared.reliable.ReliableMsg.the-variants as reliable
@@ -42,7 +42,7 @@ use Rattle.comparing.specs.declared.listing.Difference.the-variants.{First, Sec
 use Rattle.comparing.specs.Messages.{Body, startLine, foundCarried, foundReading, foundPayload, lineFound, bodyAs, bodyFrom, bodyAfter, bodyIn, bodyOf, startOf}
 use Rattle.comparing.specs.Runs.{contentFrom, contentOf, content-same, lineBytes, payloadAfter, runIn, runAt}
 use Rattle.comparing.specs.Sanity.{start-small}
-use Rattle.comparing.specs.Ranks.{rankOf, numberOf, rank-lt, rank-of-number, number-of-rank, number-lt, rank-ahead, rank-behind}
+use Rattle.comparing.specs.Ranks.{rankBy, numberOf, number-lt, rankOf, rank-lt, rank-of-number, number-of-rank, rank-by}
 use Rattle.comparing.specs.Differences.{Standing, Absent, Run, standing, conflicted, conflictAs, contentAs, partAs, differencesOn, Listed, listedFor, listBelow, listOf}
 
 -- ---- two runs
@@ -88,37 +88,23 @@ content-says (u ∷ x) (v ∷ y) =
 pub content-equal-same : (x y : List ℕ) → contentOf x y ≡ contents.Equal ↔ x ≡ y
 content-equal-same x y = (λ e. subst (Says x y) e (content-says x y), λ e. subst (λ z. contentOf x z ≡ contents.Equal) e (content-same 0 x))
 
--- ---- start numbers and ranks
+-- ---- ranks
 
 same-test : (a b c d : ℕ) → (a < b → c < d) → (b ≤ a → d ≤ c) → ltb a b ≡ ltb c d
 same-test a b c d f g = cases (ltb a b) (λ t. t ∙ sym (lt-ltb c d (f (ltb-true a b t)))) (λ t. t ∙ sym (le-ltb c d (g (ltb-false a b t))))
 
--- a signed number and 2^31
-abbrev raised : ℤ → ℕ
-raised (pos d) = 2 ^ 31 + d
-raised (negsuc d) = 2 ^ 31 - 1 - d
+-- ranks rise as signed distances do
+pub rank-rises : (x y : ℤ) → mag x < 2 ^ 31 → mag y < 2 ^ 31 → ltZ x y ≡ ltb (rankBy x) (rankBy y)
+rank-rises (pos d) (pos e) h g = same-test d e (2 ^ 31 + d) (2 ^ 31 + e) (λ l. omega arith) (λ l. omega arith)
+rank-rises (pos d) (negsuc e) h g = sym (le-ltb (2 ^ 31 + d) (2 ^ 31 - 1 - e) (omega arith))
+rank-rises (negsuc d) (pos e) h g = sym (lt-ltb (2 ^ 31 - 1 - d) (2 ^ 31 + e) (omega arith))
+rank-rises (negsuc d) (negsuc e) h g = same-test e d (2 ^ 31 - 1 - d) (2 ^ 31 - 1 - e) (λ l. omega arith) (λ l. omega arith)
 
-raised-rises : (x y : ℤ) → mag x < 2 ^ 31 → mag y < 2 ^ 31 → ltZ x y ≡ ltb (raised x) (raised y)
-raised-rises (pos d) (pos e) h g = same-test d e (2 ^ 31 + d) (2 ^ 31 + e) (λ l. omega arith) (λ l. omega arith)
-raised-rises (pos d) (negsuc e) h g = sym (le-ltb (2 ^ 31 + d) (2 ^ 31 - 1 - e) (omega arith))
-raised-rises (negsuc d) (pos e) h g = sym (lt-ltb (2 ^ 31 - 1 - d) (2 ^ 31 + e) (omega arith))
-raised-rises (negsuc d) (negsuc e) h g = same-test e d (2 ^ 31 - 1 - d) (2 ^ 31 - 1 - e) (λ l. omega arith) (λ l. omega arith)
-
-rank-raised : (start n : ℕ) → start < 2 ^ 32 → n < 2 ^ 32 → (rankOf start n ≡ raised (signed (minus n start))) × (mag (signed (minus n start)) < 2 ^ 31)
-rank-raised start n s h =
-    let d = minus n start in
-    let l = minus-lt n start in
-    cases (ltb d (2 ^ 31))
-    (λ t. let i = ltb-true d (2 ^ 31) t in simp (signed-low d i) (rank-ahead start n d s h refl i, i))
-    (λ f. let i = ltb-false d (2 ^ 31) f in simp (signed-high d i) (rank-behind start n d s h refl i ∙ omega arith, omega arith))
-
--- of two numbers the one with the lower rank is the one with the lower signed distance from the start number
-pub rank-rises : (start n m : ℕ) → start < 2 ^ 32 → n < 2 ^ 32 → m < 2 ^ 32
-    → ltZ (signed (minus n start)) (signed (minus m start)) ≡ ltb (rankOf start n) (rankOf start m)
-rank-rises start n m s h g =
-    let x = rank-raised start n s h in
-    let y = rank-raised start m s g in
-    simp (x .0, y .0) (raised-rises (signed (minus n start)) (signed (minus m start)) (x .1) (y .1))
+-- so of two numbers that are not far from the start number the one of the lower rank is the one of the lower distance
+pub near-rises : (start n m : ℕ) (x y : ℤ) → start < 2 ^ 32 → distanceOf n start ≡ By x → distanceOf m start ≡ By y
+    → ltZ x y ≡ ltb (rankOf start n) (rankOf start m)
+near-rises start n m x y s h g =
+    rw (← rank-by start n x s h, ← rank-by start m y s g) (rank-rises x y (omega (arith, by-small n start x h)) (omega (arith, by-small m start y g)))
 
 -- ---- which differences are listed
 

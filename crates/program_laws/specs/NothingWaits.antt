@@ -176,7 +176,7 @@ all-settled s h =
     let good = quiet .living .good in
     record {
       quiet = ready-quiet CELLS (withoutAcks ACKS s) quiet;
-      taken = no-message-left CELLS _ (record { expected = good .shaped .expected-u32; oldest = good .shaped .oldest-u32 }) (good .sound .near);
+      taken = no-message-left CELLS _ (record { expected = good .shaped .expected-u32; oldest = good .shaped .oldest-u32; close = omega (arith, good .sound .near) }) (good .sound .near);
     }
 
 -- ---- nothing waits there

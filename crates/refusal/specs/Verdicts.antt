@@ -1,5 +1,6 @@
 -- Document 01, "Refusal numbers": "The smallest that applies is returned, and none otherwise." A verdict is a row of gates in
--- the order of their numbers: the first that is shut says its number. Assumes nothing.
+-- the order of their numbers, but for 22, "checked after 7 and before 11; this amends the smallest-number rule" (document 02 [5]): the first
+-- that is shut says its number. Assumes nothing.
 use mathlib.Core.Path.{_≡_, refl}
 use mathlib.Core.Bool.{Bool, true, false}
 use Prim.Native.Nat.{ℕ}

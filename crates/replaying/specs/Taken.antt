@@ -12,6 +12,7 @@ use borrow.Author.Tests.{eq-eqb, ne-eqb, eqb-false, not-true}
 use Rattle.refusal.specs.Tests.{false-true, split}
 use Rattle.refusal.specs.declared.verdict.Verdict.the-variants as verdicts
 use Rattle.seq.specs.Numbers.{plus, minus}
+use Rattle.seq.specs.Distance.{past, past-near, past-ahead}
 use Rattle.link.specs.declared.row.LinkRow.{LinkRow}
 use Rattle.link.specs.declared.acks.OldestAck.the-variants as oldest
 use Rattle.link.specs.Acks.{oldestAck, ackTaken}
@@ -87,20 +88,29 @@ none-ready true true rx = refl
 none-ready true false rx = refl
 none-ready false total rx = refl
 
--- the two numbers are 32 bits wide
+-- the two numbers are 32 bits wide, and the next expected is not far past the oldest
 pub record Wide (rx : Receiving) : Type 0 where
   pub expected : rx .«rx_seq» .0 < 2 ^ 32
   pub oldest : rx .«rx_oldest» .0 < 2 ^ 32
+  pub close : expectedAt rx < 2 ^ 30
 
 -- the two are the same where no number is between them, and one less is between them when the oldest is passed by
 module _ (rx : Receiving) (w : Wide rx) where
+  gap-is : expectedAt rx ≡ minus (rx .«rx_seq» .0) (rx .«rx_oldest» .0)
+  gap-is = past-near (rx .«rx_seq» .0) (rx .«rx_oldest» .0) (w .close)
+
   gap-none : expectedAt rx ≤ 0 → rx .«rx_oldest» .0 ≡ rx .«rx_seq» .0
   unfolding minus
-  gap-none e = omega arith
+  gap-none e = omega (arith, gap-is)
 
-  gap-less : (rx .«rx_oldest» .0 ≡ rx .«rx_seq» .0 → ⊥) → minus (rx .«rx_seq» .0) (plus (rx .«rx_oldest» .0) 1) + 1 ≡ expectedAt rx
+  minus-less : (rx .«rx_oldest» .0 ≡ rx .«rx_seq» .0 → ⊥) → minus (rx .«rx_seq» .0) (plus (rx .«rx_oldest» .0) 1) + 1 ≡ minus (rx .«rx_seq» .0) (rx .«rx_oldest» .0)
   unfolding minus plus
-  gap-less e = omega arith
+  minus-less e = omega arith
+
+  gap-less : (rx .«rx_oldest» .0 ≡ rx .«rx_seq» .0 → ⊥) → past (rx .«rx_seq» .0) (plus (rx .«rx_oldest» .0) 1) + 1 ≡ expectedAt rx
+  gap-less e =
+      let m = minus-less e in
+      omega (arith, past-ahead (rx .«rx_seq» .0) (plus (rx .«rx_oldest» .0) 1) (omega (arith, m, gap-is, w .close)), m, gap-is)
 
 plus-wide : (b : ℕ) → plus b 1 < 2 ^ 32
 unfolding plus
@@ -126,7 +136,9 @@ unfolding passedBy
 skip-near k rx w =
     let Near : Receiving → Type 0 = λ r. Wide r × (expectedAt r ≤ expectedAt rx) in
     turns-keep (canSkip CELLS) passedBy (λ k r. Near r) Near
-    (λ k r h t. (record { expected = h .0 .expected; oldest = plus-wide (r .«rx_oldest» .0) }, omega (arith, gap-less r (h .0) (passing r t))))
+    (λ k r h t.
+    let less = gap-less r (h .0) (passing r t) in
+    (record { expected = h .0 .expected; oldest = plus-wide (r .«rx_oldest» .0); close = omega (arith, less, h .0 .close) }, omega (arith, less)))
     (λ k r h f. h) (λ r h. h) k rx (w, omega arith)
 
 taken-as : (a : HandOut) (s : State) → isMessage a ≡ true → (bytes : ℕ) × (takenBy a s ≡ takenState s bytes)
@@ -140,8 +152,10 @@ module _ (s : State) (w : Wide (s .rx)) (t : hasMessage s ≡ true) where
   take-near : (bytes : ℕ) → Wide (takenRx CELLS (s .rx) bytes) × (expectedAt (takenRx CELLS (s .rx) bytes) + 1 ≤ expectedAt (s .rx))
   unfolding takenRx
   take-near bytes =
-      let rest = skip-near CELLS _ (record { expected = w .expected; oldest = plus-wide (s .rx .«rx_oldest» .0) }) in
-      (rest .0, omega (arith, rest .1, gap-less (s .rx) w some-ready))
+      let less = gap-less (s .rx) w some-ready in
+      let still : past (s .rx .«rx_seq» .0) (plus (s .rx .«rx_oldest» .0) 1) < 2 ^ 30 = omega (arith, less, w .close) in
+      let rest = skip-near CELLS _ (record { expected = w .expected; oldest = plus-wide (s .rx .«rx_oldest» .0); close = still }) in
+      (rest .0, omega (arith, rest .1, less))
 
   taken-near : Wide (afterMessage s .rx) × (expectedAt (afterMessage s .rx) + 1 ≤ expectedAt (s .rx))
   unfolding takeOf takenState

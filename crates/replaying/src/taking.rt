@@ -61,7 +61,7 @@ fn take_ready(s: State) -> State
     let mut left: usize = CELLS;
     while 0 < left {
         let rx = out.rx;
-        if rx.rx_oldest.0 == rx.rx_seq.0 {
+        if rx.rx_oldest.eq(rx.rx_seq) {
             return out;
         }
         let taken = engine::take(out);

@@ -1,3 +1,3 @@
 pub mod Numbers
 pub mod Laws
-pub mod Far
+pub mod Distance

@@ -1,6 +1,6 @@
--- Document 01, "Numbers (003)": sums and differences of numbers wrap at 2^32; a difference is read as signed; number a is
--- before b when a − b is negative. A number's value is a natural below 2^32, its field `.0`. Assumes nothing.
-use mathlib.Core.Bool.{Bool, true, false, cond}
+-- Document 01, "Numbers (003)": sums and differences of numbers wrap at 2^32; a difference is read as signed. A number's value is a
+-- natural below 2^32, its field `.0`. Assumes nothing.
+use mathlib.Core.Bool.{cond}
 use Prim.Native.Nat.{ℕ, _+_, _-_, _%_, _^_}
 use lib.Dec.{ltb}
 use lib.IntN.{ℤ, pos, negsuc}
@@ -21,14 +21,6 @@ minus a b = (a + (2 ^ 32 - b)) % 2 ^ 32
 -- "a difference is read as signed": below 2^31 as it is, else less 2^32 (`negsuc m` is −1 − m)
 unfoldable pub signed : ℕ → ℤ
 signed d = cond (ltb d (2 ^ 31)) (pos d) (negsuc (2 ^ 32 - 1 - d))
-
-abbrev pub negative : ℤ → Bool
-negative (pos n) = false
-negative (negsuc n) = true
-
--- "Number a is before b when a − b is negative (P)."
-unfoldable pub before : ℕ → ℕ → Bool
-before a b = negative (signed (minus a b))
 
 -- "`ZERO`, `MINUS_ONE` and `USABLE_INTERVAL` (65,536) belong to the number type itself."
 abbrev pub USABLE_INTERVAL : ℕ

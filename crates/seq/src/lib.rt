@@ -1,8 +1,9 @@
 // Sequence numbers (003, seq.rs): 32 bits that wrap at 2^32.
 ghost use mathlib.Core.Path.{_≡_};
+ghost use lib.Dec.{eqb};
 ghost use lib.IntN.{pos};
-ghost use Rattle.seq.specs.Numbers.{seqOf, plus, minus, signed, before, USABLE_INTERVAL};
-ghost use Rattle.seq.specs.Far.{apartOf};
+ghost use Rattle.seq.specs.Numbers.{seqOf, plus, minus, signed, USABLE_INTERVAL};
+ghost use Rattle.seq.specs.Distance.{distanceOf, near, before, past};
 
 // A sequence number.
 pub struct Seq(pub u32);
@@ -20,7 +21,7 @@ impl Seq {
     // The most that a received number may be past the next expected one.
     pub const USABLE_INTERVAL: i32 = 65_536;
     // From here on, either way, two numbers are far from each other.
-    pub const FAR: u32 = 0x4000_0000;
+    const FAR: u32 = 0x4000_0000;
 
     // The number n past this one.
     pub fn add(self, n: u32) -> Self
@@ -38,8 +39,15 @@ impl Seq {
         Self(std::num::wrapping_sub_u32(a, n))
     }
 
-    // How many numbers lead from other up to this one, going round at 2^32.
-    pub fn since(self, other: Self) -> u32
+    // Whether the two are one number.
+    pub fn eq(self, other: Self) -> bool
+        ensures { λ r. ⌜ r ≡ eqb (self .0) (other .0) ⌝ }
+    {
+        self.0 == other.0
+    }
+
+    // How many numbers lead from other up to this one, going round at 2^32. Only the one place below asks for it.
+    fn difference(self, other: Self) -> u32
         ensures { λ r. ⌜ r ≡ minus (self .0) (other .0) ⌝ }
     {
         let a = self.0;
@@ -47,18 +55,11 @@ impl Seq {
         std::num::wrapping_sub_u32(a, b)
     }
 
-    // The difference, read as signed: negative where this number is before other.
-    pub fn distance(self, other: Self) -> i32
-        ensures { λ r. ⌜ r ≡ signed (minus (self .0) (other .0)) ⌝ }
-    {
-        as_signed(self.since(other))
-    }
-
     // The one place that says how far this number is from other, or that it is far from it.
-    pub fn apart(self, other: Self) -> Apart
-        ensures { λ r. ⌜ r ≡ apartOf (self .0) (other .0) ⌝ }
+    pub fn distance(self, other: Self) -> Apart
+        ensures { λ r. ⌜ r ≡ distanceOf (self .0) (other .0) ⌝ }
     {
-        let d = self.since(other);
+        let d = self.difference(other);
         if d < Self::FAR {
             return Apart::By(as_signed(d));
         }
@@ -68,11 +69,39 @@ impl Seq {
         Apart::Far
     }
 
-    // Not by comparing raw numbers: at the wrap the next tile would look old.
+    // Whether the two are not far from each other.
+    pub fn is_near(self, other: Self) -> bool
+        ensures { λ r. ⌜ r ≡ near (self .0) (other .0) ⌝ }
+    {
+        match self.distance(other) {
+            Apart::By(_) => true,
+            Apart::Far => false,
+        }
+    }
+
+    // Not by comparing raw numbers: at the wrap the next tile would look old. Of two that are far apart neither is before the other.
     pub fn is_before(self, other: Self) -> bool
         ensures { λ r. ⌜ r ≡ before (self .0) (other .0) ⌝ }
     {
-        self.distance(other) < 0
+        match self.distance(other) {
+            Apart::By(d) => d < 0,
+            Apart::Far => false,
+        }
+    }
+
+    // How many numbers past other this one is: 2^30, more than any size, where it is before it or far from it.
+    pub fn past(self, other: Self) -> u32
+        ensures { λ r. ⌜ r ≡ past (self .0) (other .0) ⌝ }
+    {
+        match self.distance(other) {
+            Apart::By(d) => {
+                if 0 <= d {
+                    return d as u32;
+                }
+                Self::FAR
+            }
+            Apart::Far => Self::FAR,
+        }
     }
 }
 
@@ -96,7 +125,7 @@ fn usable_interval() -> i32
 }
 
 // A word of 32 bits read as signed. Rattle's `as` refuses a cast that changes the value.
-pub fn as_signed(d: u32) -> i32
+fn as_signed(d: u32) -> i32
     ensures { λ r. ⌜ r ≡ signed d ⌝ }
 {
     if d < 0x8000_0000 {

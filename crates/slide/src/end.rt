@@ -76,7 +76,7 @@ pub fn give(
 fn note_arrival(tally: &mut Tally, expected: Seq, seq: Seq) {
     if seq.is_before(expected) {
         count(tally, AGAIN);
-    } else if seq.0 != expected.0 {
+    } else if !seq.eq(expected) {
         count(tally, AHEAD);
     }
 }

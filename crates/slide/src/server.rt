@@ -55,7 +55,7 @@ fn finish(tally: &mut Tally) {
 }
 
 fn look_at(msg: ReliableMsg, seq: Seq, bytes: &[u8], tally: &mut Tally, row: &mut Row, tick: u64) {
-    if seq.0 == 0 {
+    if seq.eq(Seq::ZERO) {
         tally[EVENT] = WRAPPED;
     }
     match msg {
@@ -68,7 +68,7 @@ fn look_at(msg: ReliableMsg, seq: Seq, bytes: &[u8], tally: &mut Tally, row: &mu
 // Whether no message is ready.
 fn is_drained(s: State) -> bool {
     let rx = s.rx;
-    rx.rx_oldest.0 == rx.rx_seq.0
+    rx.rx_oldest.eq(rx.rx_seq)
 }
 
 // Takes every ready message: there are at most CELLS.

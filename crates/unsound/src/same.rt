@@ -24,7 +24,7 @@ fn numbers(a: [Seq; ACKS], b: [Seq; ACKS]) -> bool {
     while i < ACKS {
         let x = a[i];
         let y = b[i];
-        if x.0 != y.0 {
+        if !x.eq(y) {
             return false;
         }
         i += 1;
@@ -32,31 +32,54 @@ fn numbers(a: [Seq; ACKS], b: [Seq; ACKS]) -> bool {
     true
 }
 
-// A case and the number that it holds.
-struct Case(u8, u64);
+// A case and what it holds.
+struct Case {
+    which: u8,
+    held: u64,
+}
 
 fn alike(a: Case, b: Case) -> bool {
-    a.0 == b.0 && a.1 == b.1
+    a.which == b.which && a.held == b.held
 }
 
 fn max_ping(max: MaxPing) -> Case {
     match max {
-        MaxPing::Unlimited => Case(0, 0),
-        MaxPing::UpTo(time) => Case(1, time),
+        MaxPing::Unlimited => Case { which: 0, held: 0 },
+        MaxPing::UpTo(time) => Case {
+            which: 1,
+            held: time,
+        },
     }
 }
 
-fn limit(limit: Limit) -> Case {
+fn is_clear(limit: Limit) -> bool {
     match limit {
-        Limit::Clear => Case(0, 0),
-        Limit::At(seq) => Case(1, seq.0 as u64),
+        Limit::Clear => true,
+        Limit::At(_) => false,
+    }
+}
+
+fn is_at(limit: Limit, mark: Seq) -> bool {
+    match limit {
+        Limit::Clear => false,
+        Limit::At(at) => at.eq(mark),
+    }
+}
+
+fn limits(a: Limit, b: Limit) -> bool {
+    match a {
+        Limit::Clear => is_clear(b),
+        Limit::At(x) => is_at(b, x),
     }
 }
 
 fn ping(ping: Ping) -> Case {
     match ping {
-        Ping::Idle => Case(0, 0),
-        Ping::Since(time) => Case(1, time),
+        Ping::Idle => Case { which: 0, held: 0 },
+        Ping::Since(time) => Case {
+            which: 1,
+            held: time,
+        },
     }
 }
 
@@ -82,7 +105,7 @@ fn row(a: LinkRow, b: LinkRow) -> bool {
         && a.txed_unacked_data == b.txed_unacked_data
         && a.ack_count == b.ack_count
         && alike(max_ping(a_max), max_ping(b_max))
-        && alike(limit(a_limit), limit(b_limit))
+        && limits(a_limit, b_limit)
         && alike(ping(a_ping), ping(b_ping))
         && numbers(a_acks, b_acks)
 }
@@ -106,17 +129,26 @@ fn message(a: ReliableMsg, b: ReliableMsg) -> bool {
 
 fn flushed(flushed: Flushed) -> Case {
     match flushed {
-        Flushed::Unflushed => Case(0, 0),
-        Flushed::FlushedAt(time) => Case(1, time),
+        Flushed::Unflushed => Case { which: 0, held: 0 },
+        Flushed::FlushedAt(time) => Case {
+            which: 1,
+            held: time,
+        },
     }
 }
 
 // The case, and the identity that it holds.
 fn status(status: SentReliableStatus) -> Case {
     match status {
-        SentReliableStatus::Sent(flight) => Case(0, flight.link),
-        SentReliableStatus::Received => Case(1, 0),
-        SentReliableStatus::ResendQueued { sent_link } => Case(2, sent_link),
+        SentReliableStatus::Sent(flight) => Case {
+            which: 0,
+            held: flight.link,
+        },
+        SentReliableStatus::Received => Case { which: 1, held: 0 },
+        SentReliableStatus::ResendQueued { sent_link } => Case {
+            which: 2,
+            held: sent_link,
+        },
     }
 }
 
@@ -145,7 +177,7 @@ fn packet(a: SentReliable, b: SentReliable) -> bool {
     let b_msg = b.msg;
     let a_status = a.status;
     let b_status = b.status;
-    a.seq.0 == b.seq.0
+    a.seq.eq(b.seq)
         && a.len == b.len
         && message(a_msg, b_msg)
         && alike(status(a_status), status(b_status))
@@ -169,7 +201,7 @@ fn totals(a: Sending, b: Sending) -> bool {
     a.txed_unacked == b.txed_unacked
         && a.txed_unconsumed == b.txed_unconsumed
         && a.txed_unconsumable == b.txed_unconsumable
-        && a.txed_last_consumed.0 == b.txed_last_consumed.0
+        && a.txed_last_consumed.eq(b.txed_last_consumed)
         && a.send_finish_sent == b.send_finish_sent
         && a.write_closed == b.write_closed
 }
@@ -179,7 +211,7 @@ fn sending(a: Sending, b: Sending) -> bool {
     let b_packets = b.txed_packets;
     let a_queue = a.resend_queue;
     let b_queue = b.resend_queue;
-    a.tx_seq.0 == b.tx_seq.0
+    a.tx_seq.eq(b.tx_seq)
         && a.txed_count == b.txed_count
         && a.resend_count == b.resend_count
         && totals(a, b)
@@ -197,8 +229,11 @@ fn held(held: Held) -> ReliableMsg {
 
 fn length(held: Held) -> Case {
     match held {
-        Held::Nothing => Case(0, 0),
-        Held::Message(_, len) => Case(1, len as u64),
+        Held::Nothing => Case { which: 0, held: 0 },
+        Held::Message(_, len) => Case {
+            which: 1,
+            held: len as u64,
+        },
     }
 }
 
@@ -224,8 +259,8 @@ fn cells(a: [RxCell; CELLS], b: [RxCell; CELLS]) -> bool {
 fn receiving(a: Receiving, b: Receiving) -> bool {
     let a_cells = a.rxed_reliable;
     let b_cells = b.rxed_reliable;
-    a.rx_seq.0 == b.rx_seq.0
-        && a.rx_oldest.0 == b.rx_oldest.0
+    a.rx_seq.eq(b.rx_seq)
+        && a.rx_oldest.eq(b.rx_oldest)
         && a.rxed_reliable_size == b.rxed_reliable_size
         && a.rxed_reliable_consumed == b.rxed_reliable_consumed
         && a.recv_buffer == b.recv_buffer

@@ -3,12 +3,14 @@
 //     AAAAAAAA BBBBBBBB SSSSSSSS DDDDDDDD dddddddd O
 //
 // has the numbers a and b, the number b past a, the number b before a, the signed distance from b to a, and how a stands
-// to b: `<`, `=` or `>`. The two orders agree on numbers less than 2^30 apart, and part on some of the others: each such
-// pair is written, so that the file stdout shows it.
+// to b: `<`, `=` or `>`. Numbers less than 2^30 apart have one order on both sides. Of the others the crate seq says that
+// they are far and has no order for them, where the original has one: each such pair is written, so that the file stdout
+// shows it.
 ghost use Prim.Native.Nat.{_+_, _^_, _≤_, _<_};
 ghost use lib.ListN.{length};
 use libc::STDIN_FILENO;
 use libc::STDOUT_FILENO;
+use seq::Apart;
 use seq::Seq;
 
 // The bytes of a line, its line feed with it.
@@ -20,9 +22,14 @@ const PAIR: usize = 17;
 // The column of the order.
 const ORDER: usize = 45;
 
+// Stands for an order where the crate seq has none.
+const NO_ORDER: u8 = b'?';
+
 // What a line shows.
 enum Found {
     Alike,
+    // all is alike but the order, of which there is none here
+    Far,
     // only the order is another
     Parts,
     Differs,
@@ -34,41 +41,31 @@ struct Tally {
     compared: u64,
     differing: u64,
     parting: u64,
+    far: u64,
 }
 
 impl Tally {
-    // A bad line compares nothing, and counts as differing so that it is not passed over.
     fn with(self, found: Found) -> Self
-        requires { ⌜ (self .compared < 2 ^ 63) × (self .differing < 2 ^ 63) × (self .parting < 2 ^ 63) ⌝ }
+        requires { ⌜ (self .compared < 2 ^ 63) × (self .differing < 2 ^ 63) × (self .parting < 2 ^ 63) × (self .far < 2 ^ 63) ⌝ }
         ensures { λ r. ⌜ r .compared ≤ self .compared + 1 ⌝ }
         ensures { λ r. ⌜ r .differing ≤ self .differing + 1 ⌝ }
         ensures { λ r. ⌜ r .parting ≤ self .parting + 1 ⌝ }
+        ensures { λ r. ⌜ r .far ≤ self .far + 1 ⌝ }
     {
-        let compared = self.compared;
-        let differing = self.differing;
-        let parting = self.parting;
+        let mut out = self;
+        out.compared = self.compared + 1;
         match found {
-            Found::Alike => Tally {
-                compared: compared + 1,
-                differing,
-                parting,
-            },
-            Found::Parts => Tally {
-                compared: compared + 1,
-                differing,
-                parting: parting + 1,
-            },
-            Found::Differs => Tally {
-                compared: compared + 1,
-                differing: differing + 1,
-                parting,
-            },
-            Found::Bad => Tally {
-                compared,
-                differing: differing + 1,
-                parting,
-            },
+            Found::Alike => {}
+            Found::Far => out.far = self.far + 1,
+            Found::Parts => out.parting = self.parting + 1,
+            Found::Differs => out.differing = self.differing + 1,
+            // It compares nothing, and counts as differing so that it is not passed over.
+            Found::Bad => {
+                out.compared = self.compared;
+                out.differing = self.differing + 1;
+            }
         }
+        out
     }
 }
 
@@ -120,16 +117,33 @@ fn is_whole(line: &[u8]) -> bool {
     true
 }
 
+// A word of a line read as signed: `!m` is −1 − m. Rattle's `as` refuses a cast that changes the value.
+fn signed(word: u32) -> i32 {
+    if word < 0x8000_0000 {
+        word as i32
+    } else {
+        !((0xFFFF_FFFF - word) as i32)
+    }
+}
+
+// Whether the crate seq says the line's distance, and "far" where that is 2^30 or more either way.
+fn says(apart: Apart, distance: i32) -> bool {
+    let is_far = distance <= -0x4000_0000 || 0x4000_0000 <= distance;
+    match apart {
+        Apart::By(d) => !is_far && d == distance,
+        Apart::Far => is_far,
+    }
+}
+
 // Whether the line has the sum, the difference and the distance that the crate seq finds.
 fn computes_alike(line: &[u8]) -> bool {
     let a = Seq(number(line, 0));
     let b = number(line, 1);
     let sum = a.add(b);
     let difference = a.sub(b);
-    let distance = a.distance(Seq(b));
-    sum.0 == number(line, 2)
-        && difference.0 == number(line, 3)
-        && distance == seq::as_signed(number(line, 4))
+    sum.eq(Seq(number(line, 2)))
+        && difference.eq(Seq(number(line, 3)))
+        && says(a.distance(Seq(b)), signed(number(line, 4)))
 }
 
 // How the line's first number stands to its second by the crate seq, as a line has it.
@@ -138,10 +152,12 @@ fn order_here(line: &[u8]) -> u8 {
     let b = Seq(number(line, 1));
     if a.is_before(b) {
         b'<'
-    } else if a.distance(b) == 0 {
+    } else if b.is_before(a) {
+        b'>'
+    } else if a.eq(b) {
         b'='
     } else {
-        b'>'
+        NO_ORDER
     }
 }
 
@@ -152,8 +168,11 @@ fn examine(line: &[u8]) -> Found {
     if !computes_alike(line) {
         return Found::Differs;
     }
-    if order_here(line) == byte_at(line, ORDER) {
+    let order = order_here(line);
+    if order == byte_at(line, ORDER) {
         Found::Alike
+    } else if order == NO_ORDER {
+        Found::Far
     } else {
         Found::Parts
     }
@@ -170,26 +189,28 @@ fn write_pair(line: &[u8]) {
 }
 
 fn write_order(order: u8) {
-    if order == b'<' {
-        write(b" before");
-    } else if order == b'=' {
-        write(b" equal");
-    } else {
-        write(b" after");
+    match order {
+        b'<' => write(b" before"),
+        b'=' => write(b" equal"),
+        b'>' => write(b" after"),
+        _ => write(b" far"),
     }
+}
+
+fn write_orders(line: &[u8]) {
+    write_pair(line);
+    write_order(order_here(line));
+    write(b" here,");
+    write_order(byte_at(line, ORDER));
+    write(b" there\n");
 }
 
 // Writes what a line shows, unless all is alike: "here" is the crate seq, "there" the original.
 fn report(line: &[u8], found: Found) {
     match found {
         Found::Alike => {}
-        Found::Parts => {
-            write_pair(line);
-            write_order(order_here(line));
-            write(b" here,");
-            write_order(byte_at(line, ORDER));
-            write(b" there\n");
-        }
+        Found::Far => write_orders(line),
+        Found::Parts => write_orders(line),
         Found::Differs => {
             write_pair(line);
             write(b" differs\n");
@@ -224,6 +245,7 @@ fn compare_all(text: &[u8]) -> Tally {
         compared: 0,
         differing: 0,
         parting: 0,
+        far: 0,
     };
     let mut at: usize = 0;
     while at < text.len() {
@@ -246,4 +268,5 @@ fn main() {
     write_count(tally.compared, b" pairs compared\n");
     write_count(tally.differing, b" differ in sum, difference or distance\n");
     write_count(tally.parting, b" part in their order\n");
+    write_count(tally.far, b" are far here\n");
 }

@@ -7,7 +7,7 @@ use Rattle.vectors.proofs.compare_all.Statement.{statement}
 use Rattle.vectors.proofs.compare_all.Tie as tie
 
 abbrev Inv-loop : tie.InvT-loop
-Inv-loop text tally₀ at₀ tally at = (tally .compared ≤ at) × (tally .differing ≤ at) × (tally .parting ≤ at)
+Inv-loop text tally₀ at₀ tally at = (tally .compared ≤ at) × (tally .differing ≤ at) × (tally .parting ≤ at) × (tally .far ≤ at)
 
 abbrev μ-loop : tie.MeasureT-loop
 μ-loop text tally₀ at₀ tally at = length text - at

@@ -11,8 +11,8 @@ Inv-loop out₀ at rx end₀ n₀ k₀ expected out end n k = Unit {0}
 abbrev μ-loop : tie.MeasureT-loop
 μ-loop out₀ at rx end₀ n₀ k₀ expected out end n k = CELLS - k
 
-since-requires : tie.Need-since-requires Inv-loop μ-loop
-since-requires c κs = search needs
+past-requires : tie.Need-past-requires Inv-loop μ-loop
+past-requires c κs = search needs
 
 loop-holds : tie.Need-loop-holds Inv-loop μ-loop
 loop-holds c = search needs
@@ -50,7 +50,7 @@ cells-spec =
     (tie.spec
     Inv-loop
     μ-loop
-    since-requires
+    past-requires
     loop-holds
     cast-i
     mul-cell

@@ -1,90 +1,70 @@
--- The number is new to the table, or its row is there.
+-- A far number is told, any other entered by its distance.
 use mathlib.Core.Path.{sym, _∙_, ap}
 use native.Mathlib.Omega.{arith}
 use denote.Ref.{now}
 use borrow.Author.Needs.{needs}
-use Rattle.comparing.specs.Rows.{position-within, found-within}
-use Rattle.comparing.specs.Cells.{rows-length}
-use Rattle.comparing.specs.Table.{earliest, tableOf, entered-new, entered-again}
+use mir.Syntax.{w32}
+use mir.ValLaws.{toZ-ofZ}
+use Rattle.seq.specs.Distance.{by-small}
+use Rattle.comparing.specs.Ranks.{rankBy}
+use Rattle.comparing.specs.Table.{tableOf, enteredAt, enteredBy, entered}
 use Rattle.comparing.proofs.table.enter.Statement.{statement}
 use Rattle.comparing.proofs.table.enter.Tie as tie
+
+distance-requires : tie.Need-distance-requires
+distance-requires c κs = search needs
+
+enum-known-d : tie.Need-enum-known-d
+enum-known-d c = search needs
 
 rank-requires : tie.Need-rank-requires
 rank-requires c κs = search needs
 
-far-at-requires : tie.Need-far-at-requires
-far-at-requires c κs = search needs
-
-earliest-requires : tie.Need-earliest-requires
-earliest-requires c κs = search needs
-
-position-requires : tie.Need-position-requires
-position-requires c κs = search needs
-
-held-at-requires : tie.Need-held-at-requires
-held-at-requires c κs = search needs
+enter-at-requires : tie.Need-enter-at-requires
+enter-at-requires c κs = search needs
 
 enum-told : tie.Need-enum-told
 enum-told c = search needs
 
-add-requires : tie.Need-add-requires
-add-requires c κs =
-    let s = c .before .before .before .before .before .before .before .before .before .before .before .before .before in
-    let rows = tableOf (s .args .before) (now (s .args .cells)) .rows in
-    let n = rows-length (s .args .before .count) (now (s .args .cells)) (omega (arith, s .pre .0, s .pre .1 .0)) in
-    let i = c .before .before .before .before .before .position .ensures in
-    (s .pre .0, (s .pre .1 .0, omega (arith, position-within (c .before .before .before .before .before .before .before .before .before .rank .result) rows)))
-
-enum-known-held : tie.Need-enum-known-held
-enum-known-held c = search needs
-
-repeat-requires : tie.Need-repeat-requires
-repeat-requires c κs =
-    let s = c .before .before .before .before .before .before .before .before .before .before .before .before .before .before in
-    let rows = tableOf (s .args .before) (now (s .args .cells)) .rows in
-    let n = rows-length (s .args .before .count) (now (s .args .cells)) (omega (arith, s .pre .0, s .pre .1 .0)) in
-    let held = sym (c .before .before .held .given .1) ∙ c .before .before .before .before .held-at .ensures in
-    (s .pre .0, (s .pre .1 .0, omega (arith, found-within (c .before .before .before .before .before .before .before .before .before .before .rank .result) _ _ (c .before .before .before .before .before .before .position .result) rows held)))
+earliest-requires : tie.Need-earliest-requires
+earliest-requires c κs = search needs
 
 same-length : tie.Need-same-length
 same-length c = search needs
 
 returns : tie.Need-returns
+unfolding entered
 returns c =
-    let s = c .before .before .before .before .before .before .before .before .before .before .before .before .before .before .before .before in
-    let a = s .args in
+    let k = c .before .before .before .before in
+    let g = k .before .before in
+    let j = g .before .before in
+    let a = j .before .before .before .before .args in
     let t = tableOf (a .before) (now (a .cells)) in
-    let told = c .before .before .before .before .before .before .before .before .before .before .earliest .ensures ∙ ap (earliest (a .before .far)) (c .before .before .before .before .before .before .before .before .before .before .before .far-at .ensures) in
-    let held = sym (c .before .before .before .before .enum-told .given .1) ∙ c .before .before .before .before .before .before .held-at .ensures in
-    (c .before .before .add .ensures .0 ∙ entered-new (now (a .input)) (a .start .0) t (a .m) (c .before .before .before .before .before .before .before .before .before .before .before .before .rank .result) (c .before .before .before .before .before .before .before .before .position .result) (c .before .before .before .before .before .before .before .before .before .before .earliest .result) (c .before .before .before .before .before .before .before .before .before .before .before .before .rank .ensures) (c .before .before .before .before .before .before .before .before .position .ensures) told held, c .before .before .add .ensures .1)
-
-same-length-2 : tie.Need-same-length-2
-same-length-2 c = search needs
+    let d = g .d .given .0 .0 in
+    let e = sym (j .distance .ensures) ∙ g .d .given .1 in
+    let read = toZ-ofZ w32 d (record { sfits = omega (arith, by-small (a .m .number .0) (a .start .0) d e) }) in
+    (c .before .before .enter-at .ensures .0 ∙ ap (λ q. enteredAt (now (a .input)) q (a .m) t) (k .rank .ensures ∙ ap rankBy read) ∙ sym (ap (λ x. enteredBy x (now (a .input)) t (a .m)) e), c .before .before .enter-at .ensures .1)
 
 returns-2 : tie.Need-returns-2
+unfolding entered
 returns-2 c =
-    let s = c .before .before .before .before .before .before .before .before .before .before .before .before .before .before .before .before .before in
+    let j = c .before .before .before in
+    let s = j .before .before .before .before in
     let a = s .args in
     let t = tableOf (a .before) (now (a .cells)) in
-    let far = c .before .before .before .before .before .before .before .before .before .before .before .earliest .result in
-    let told = c .before .before .before .before .before .before .before .before .before .before .before .earliest .ensures ∙ ap (earliest (a .before .far)) (c .before .before .before .before .before .before .before .before .before .before .before .before .far-at .ensures) in
-    let held = sym (c .before .before .before .before .before .held .given .1) ∙ c .before .before .before .before .before .before .before .held-at .ensures in
-    (ap (λ l. record { rows = l; far = far; many = t .many }) (c .before .before .repeat .ensures) ∙ entered-again (now (a .input)) (a .start .0) t (a .m) (c .before .before .before .before .before .before .before .before .before .before .before .before .before .rank .result) (c .before .before .before .before .before .before .before .before .before .position .result) far (c .before .before .before .before .before .before .before .before .before .before .before .before .before .rank .ensures) (c .before .before .before .before .before .before .before .before .before .position .ensures) told _ _ held, s .pre .1 .0)
+    let e = sym (j .distance .ensures) ∙ c .before .enum-told .given .1 in
+    (ap (λ far. record { rows = t .rows; far = far; many = t .many }) (c .earliest .ensures) ∙ sym (ap (λ x. enteredBy x (now (a .input)) t (a .m)) e), s .pre .1 .0)
 
 pub enter-spec : {M : Type 1} → statement M
 enter-spec =
     tie.close
     (tie.spec
+    distance-requires
+    enum-known-d
     rank-requires
-    far-at-requires
-    earliest-requires
-    position-requires
-    held-at-requires
+    enter-at-requires
     enum-told
-    add-requires
-    enum-known-held
-    repeat-requires
+    earliest-requires
     same-length
     returns
-    same-length-2
     returns-2)

@@ -4,12 +4,12 @@ use borrow.Author.Needs.{needs}
 use Rattle.engine.proofs.cells.near_oldest.Statement.{statement}
 use Rattle.engine.proofs.cells.near_oldest.Tie as tie
 
-since-requires : tie.Need-since-requires
-since-requires c κs = search needs
+past-requires : tie.Need-past-requires
+past-requires c κs = search needs
 
 returns : tie.Need-returns
 unfolding nearOldest
-returns c = simp (c .since .ensures)
+returns c = simp (c .past .ensures)
 
 pub near-oldest-spec : {M : Type 1} → statement M
-near-oldest-spec = tie.close (tie.spec since-requires returns)
+near-oldest-spec = tie.close (tie.spec past-requires returns)

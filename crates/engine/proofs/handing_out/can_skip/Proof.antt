@@ -1,13 +1,16 @@
 -- Not yet at the next expected number, and nothing there.
 use Rattle.engine.specs.HandingOut.{canSkip}
-use borrow.Author.Tests.{eq-eqb, ne-eqb}
+use mathlib.Core.Path.{sym, _∙_}
 use borrow.Author.Needs.{needs}
 use Rattle.engine.proofs.handing_out.can_skip.Statement.{statement}
 use Rattle.engine.proofs.handing_out.can_skip.Tie as tie
 
+eq-requires : tie.Need-eq-requires
+eq-requires c κs = search needs
+
 returns : tie.Need-returns
 unfolding canSkip
-returns c = simp (eq-eqb _ _ (c .if1 .taken))
+returns c = simp (sym (c .before .eq .ensures) ∙ c .if1 .taken)
 
 cell-of-requires : tie.Need-cell-of-requires
 cell-of-requires c κs = search needs
@@ -17,7 +20,7 @@ is-full-requires c κs = search needs
 
 returns-2 : tie.Need-returns-2
 unfolding canSkip
-returns-2 c = simp (ne-eqb _ _ (c .before .before .if1 .left), c .is-full .ensures, c .before .cell-of .ensures)
+returns-2 c = simp (sym (c .before .before .before .eq .ensures) ∙ c .before .before .if1 .left, c .is-full .ensures, c .before .cell-of .ensures)
 
 pub can-skip-spec : {M : Type 1} → statement M
-can-skip-spec = tie.close (tie.spec returns cell-of-requires is-full-requires returns-2)
+can-skip-spec = tie.close (tie.spec eq-requires returns cell-of-requires is-full-requires returns-2)

@@ -1,20 +1,23 @@
 -- With the oldest number at the next expected one, nothing is ready.
 use Rattle.engine.specs.HandingOut.{readyOf}
-use borrow.Author.Tests.{eq-eqb, ne-eqb}
+use mathlib.Core.Path.{sym, _∙_}
 use borrow.Author.Needs.{needs}
 use Rattle.engine.proofs.handing_out.oldest_ready.Statement.{statement}
 use Rattle.engine.proofs.handing_out.oldest_ready.Tie as tie
 
+eq-requires : tie.Need-eq-requires
+eq-requires c κs = search needs
+
 returns : tie.Need-returns
 unfolding readyOf
-returns c = simp (eq-eqb _ _ (c .if1 .taken))
+returns c = simp (sym (c .before .eq .ensures) ∙ c .if1 .taken)
 
 cell-of-requires : tie.Need-cell-of-requires
 cell-of-requires c κs = search needs
 
 returns-2 : tie.Need-returns-2
 unfolding readyOf
-returns-2 c = simp (ne-eqb _ _ (c .before .if1 .left), c .cell-of .ensures)
+returns-2 c = simp (sym (c .before .before .eq .ensures) ∙ c .before .if1 .left, c .cell-of .ensures)
 
 pub oldest-ready-spec : {M : Type 1} → statement M
-oldest-ready-spec = tie.close (tie.spec returns cell-of-requires returns-2)
+oldest-ready-spec = tie.close (tie.spec eq-requires returns cell-of-requires returns-2)

@@ -13,6 +13,9 @@ length-ok-requires c κs = search needs
 status-ok-requires : tie.Need-status-ok-requires
 status-ok-requires c κs = search needs
 
+eq-requires : tie.Need-eq-requires
+eq-requires c κs = search needs
+
 both-requires : tie.Need-both-requires
 both-requires c κs = search needs
 
@@ -21,7 +24,7 @@ both-requires-2 c κs = search needs
 
 returns : tie.Need-returns
 unfolding packetOk
-returns c = simp (c .both2 .ensures, c .before .both .ensures, c .before .before .before .before .status-ok .ensures, c .before .before .before .before .before .length-ok .ensures)
+returns c = simp (c .both2 .ensures, c .before .both .ensures, c .before .before .eq .ensures, c .before .before .before .status-ok .ensures, c .before .before .before .before .length-ok .ensures)
 
 pub packet-ok-spec : {M : Type 1} → statement M
 packet-ok-spec =
@@ -30,6 +33,7 @@ packet-ok-spec =
     cast-length-ok
     length-ok-requires
     status-ok-requires
+    eq-requires
     both-requires
     both-requires-2
     returns)

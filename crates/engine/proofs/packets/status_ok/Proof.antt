@@ -28,6 +28,9 @@ enum-told c = search needs
 enum-told-2 : tie.Need-enum-told-2
 enum-told-2 c = search needs
 
+eq-requires : tie.Need-eq-requires
+eq-requires c κs = search needs
+
 returns : tie.Need-returns
 unfolding statusOk
 returns c = simp (c .before .before .before .before .before .before .before .status .given .1, c .both2 .ensures, c .before .both .ensures, c .before .before .before .flushed-ok .ensures, c .before .before .before .before .lives-in .ensures)
@@ -38,7 +41,7 @@ returns-2 c = simp (c .enum-told .given .1)
 
 returns-3 : tie.Need-returns-3
 unfolding statusOk
-returns-3 c = simp (c .before .before .enum-told2 .given .1)
+returns-3 c = simp (c .eq .ensures, c .before .enum-told2 .given .1)
 
 pub status-ok-spec : {M : Type 1} → statement M
 status-ok-spec =
@@ -52,6 +55,7 @@ status-ok-spec =
     both-requires-2
     enum-told
     enum-told-2
+    eq-requires
     returns
     returns-2
     returns-3)

@@ -15,8 +15,8 @@ Inv-loop rx t₀ expected at₀ k₀ t at k =
 abbrev μ-loop : tie.MeasureT-loop
 μ-loop rx t₀ expected at₀ k₀ t at k = 64 - k
 
-since-requires : tie.Need-since-requires Inv-loop μ-loop
-since-requires c κs = tt
+past-requires : tie.Need-past-requires Inv-loop μ-loop
+past-requires c κs = tt
 
 cast-expected : tie.Need-cast-expected Inv-loop μ-loop
 cast-expected c = omega arith
@@ -26,7 +26,7 @@ cast-at c = omega arith
 
 loop-holds : tie.Need-loop-holds Inv-loop μ-loop
 unfolding cellTallyOf
-loop-holds c = (omega arith, omega arith, simp (c .before .since .ensures))
+loop-holds c = (omega arith, omega arith, simp (c .before .past .ensures))
 
 mul-cell : tie.Need-mul-cell Inv-loop μ-loop
 mul-cell c = omega arith
@@ -50,7 +50,7 @@ loop-again : tie.Need-loop-again Inv-loop μ-loop
 loop-again c =
     let rx = c .before .before .before .before .before .before .before .before .before .args .t1 in
     let l = c .before .before .before .before .loop in
-    let e = c .before .before .before .before .before .before .since .result in
+    let e = c .before .before .before .before .before .before .past .result in
     let k : 64 - l .k - 1 ≡ 64 - (l .k + 1) = omega arith in (
       rw (c .next-cell .ensures) (next-cell-lt 64 (l .at) (omega arith)),
       omega arith,
@@ -62,7 +62,7 @@ returns : tie.Need-returns Inv-loop μ-loop
 returns c =
     let rx = c .before .before .before .before .before .before .args .t1 in
     let l = c .before .loop in
-    sym (cell-tally-none 64 (rx .«rxed_reliable») (l .at) (64 - l .k) (l .k) (c .before .before .before .since .result) (l .t) (omega arith)) ∙ l .inv .2
+    sym (cell-tally-none 64 (rx .«rxed_reliable») (l .at) (64 - l .k) (l .k) (c .before .before .before .past .result) (l .t) (omega arith)) ∙ l .inv .2
 
 pub cells-tallied-spec : {M : Type 1} → statement M
 cells-tallied-spec =
@@ -70,7 +70,7 @@ cells-tallied-spec =
     (tie.spec
     Inv-loop
     μ-loop
-    since-requires
+    past-requires
     cast-expected
     cast-at
     loop-holds

@@ -1,4 +1,4 @@
--- The gates, in the order of their numbers.
+-- The gates, in the order of the definition.
 use Rattle.engine.specs.Receiving.{receiveVerdict}
 use borrow.Author.Needs.{needs}
 use Rattle.engine.proofs.receiving.receive_verdict.Statement.{statement}
@@ -7,8 +7,8 @@ use Rattle.engine.proofs.receiving.receive_verdict.Tie as tie
 is-repeat-requires : tie.Need-is-repeat-requires
 is-repeat-requires c κs = search needs
 
-since-requires : tie.Need-since-requires
-since-requires c κs = search needs
+past-requires : tie.Need-past-requires
+past-requires c κs = search needs
 
 either-requires : tie.Need-either-requires
 either-requires c κs = search needs
@@ -49,38 +49,44 @@ gate-requires-4 c κs = search needs
 gate-requires-5 : tie.Need-gate-requires-5
 gate-requires-5 c κs = search needs
 
-length-ok-requires : tie.Need-length-ok-requires
-length-ok-requires c κs = search needs
+is-near-requires : tie.Need-is-near-requires
+is-near-requires c κs = search needs
 
 gate-requires-6 : tie.Need-gate-requires-6
 gate-requires-6 c κs = search needs
 
-slot-ok-requires : tie.Need-slot-ok-requires
-slot-ok-requires c κs = search needs
+length-ok-requires : tie.Need-length-ok-requires
+length-ok-requires c κs = search needs
 
 gate-requires-7 : tie.Need-gate-requires-7
 gate-requires-7 c κs = search needs
 
+slot-ok-requires : tie.Need-slot-ok-requires
+slot-ok-requires c κs = search needs
+
 gate-requires-8 : tie.Need-gate-requires-8
 gate-requires-8 c κs = search needs
-
-is-sound-requires : tie.Need-is-sound-requires
-is-sound-requires c κs = search needs
 
 gate-requires-9 : tie.Need-gate-requires-9
 gate-requires-9 c κs = search needs
 
+is-sound-requires : tie.Need-is-sound-requires
+is-sound-requires c κs = search needs
+
+gate-requires-10 : tie.Need-gate-requires-10
+gate-requires-10 c κs = search needs
+
 returns : tie.Need-returns
 unfolding receiveVerdict
 returns c =
-    simp (c .gate9 .ensures, c .before .is-sound .ensures, c .before .before .gate8 .ensures, c .before .before .before .gate7 .ensures, c .before .before .before .before .slot-ok .ensures, c .before .before .before .before .before .gate6 .ensures, c .before .before .before .before .before .before .length-ok .ensures, c .before .before .before .before .before .before .before .gate5 .ensures, c .before .before .before .before .before .before .before .before .gate4 .ensures, c .before .before .before .before .before .before .before .before .before .gate3 .ensures, c .before .before .before .before .before .before .before .before .before .before .gate2 .ensures, c .before .before .before .before .before .before .before .before .before .before .before .gate .ensures, c .before .before .before .before .before .before .before .before .before .before .before .before .either4 .ensures, c .before .before .before .before .before .before .before .before .before .before .before .before .before .before .count .ensures, c .before .before .before .before .before .before .before .before .before .before .before .before .before .before .before .either3 .ensures, c .before .before .before .before .before .before .before .before .before .before .before .before .before .before .before .before .sum-fits .ensures, c .before .before .before .before .before .before .before .before .before .before .before .before .before .before .before .before .before .before .row-of .ensures, c .before .before .before .before .before .before .before .before .before .before .before .before .before .before .before .before .before .before .before .either2 .ensures, c .before .before .before .before .before .before .before .before .before .before .before .before .before .before .before .before .before .before .before .before .near-oldest .ensures, c .before .before .before .before .before .before .before .before .before .before .before .before .before .before .before .before .before .before .before .before .before .either .ensures, c .before .before .before .before .before .before .before .before .before .before .before .before .before .before .before .before .before .before .before .before .before .before .since .ensures, c .before .before .before .before .before .before .before .before .before .before .before .before .before .before .before .before .before .before .before .before .before .before .before .is-repeat .ensures)
+    simp (c .gate10 .ensures, c .before .is-sound .ensures, c .before .before .gate9 .ensures, c .before .before .before .gate8 .ensures, c .before .before .before .before .slot-ok .ensures, c .before .before .before .before .before .gate7 .ensures, c .before .before .before .before .before .before .length-ok .ensures, c .before .before .before .before .before .before .before .gate6 .ensures, c .before .before .before .before .before .before .before .before .is-near .ensures, c .before .before .before .before .before .before .before .before .before .gate5 .ensures, c .before .before .before .before .before .before .before .before .before .before .gate4 .ensures, c .before .before .before .before .before .before .before .before .before .before .before .gate3 .ensures, c .before .before .before .before .before .before .before .before .before .before .before .before .gate2 .ensures, c .before .before .before .before .before .before .before .before .before .before .before .before .before .gate .ensures, c .before .before .before .before .before .before .before .before .before .before .before .before .before .before .either4 .ensures, c .before .before .before .before .before .before .before .before .before .before .before .before .before .before .before .before .count .ensures, c .before .before .before .before .before .before .before .before .before .before .before .before .before .before .before .before .before .either3 .ensures, c .before .before .before .before .before .before .before .before .before .before .before .before .before .before .before .before .before .before .sum-fits .ensures, c .before .before .before .before .before .before .before .before .before .before .before .before .before .before .before .before .before .before .before .before .row-of .ensures, c .before .before .before .before .before .before .before .before .before .before .before .before .before .before .before .before .before .before .before .before .before .either2 .ensures, c .before .before .before .before .before .before .before .before .before .before .before .before .before .before .before .before .before .before .before .before .before .before .near-oldest .ensures, c .before .before .before .before .before .before .before .before .before .before .before .before .before .before .before .before .before .before .before .before .before .before .before .either .ensures, c .before .before .before .before .before .before .before .before .before .before .before .before .before .before .before .before .before .before .before .before .before .before .before .before .past .ensures, c .before .before .before .before .before .before .before .before .before .before .before .before .before .before .before .before .before .before .before .before .before .before .before .before .before .is-repeat .ensures)
 
 pub receive-verdict-spec : {M : Type 1} → statement M
 receive-verdict-spec =
     tie.close
     (tie.spec
     is-repeat-requires
-    since-requires
+    past-requires
     either-requires
     near-oldest-requires
     either-requires-2
@@ -94,11 +100,13 @@ receive-verdict-spec =
     gate-requires-3
     gate-requires-4
     gate-requires-5
-    length-ok-requires
+    is-near-requires
     gate-requires-6
-    slot-ok-requires
+    length-ok-requires
     gate-requires-7
+    slot-ok-requires
     gate-requires-8
-    is-sound-requires
     gate-requires-9
+    is-sound-requires
+    gate-requires-10
     returns)

@@ -33,8 +33,8 @@ rows-ok-requires c κs = search needs
 distinct-requires : tie.Need-distinct-requires
 distinct-requires c κs = search needs
 
-since-requires : tie.Need-since-requires
-since-requires c κs = search needs
+past-requires : tie.Need-past-requires
+past-requires c κs = search needs
 
 both-requires : tie.Need-both-requires
 both-requires c κs = search needs
@@ -95,7 +95,7 @@ returns-2 c =
     let size = s .rx .«rxed_reliable_size» in
     let u = c .before .before .before .before .before .before .before .before .before .before .before .before .before .before .before .before .before .before .before .before .before .before .before .before .before .before .before .cells-tallied .ensures in
     let bytes = c .before .before .before .before .before .before .before .before .before .both6 .ensures ∙ ap (λ x. eqb (x .size) size && leb size (s .rx .«recv_buffer»)) u in
-    let near = c .before .before .before .before .before .before .before .both8 .ensures ∙ and-eq (ap (λ x. leb x 64) (c .before .before .before .before .before .before .before .before .before .before .before .before .before .before .before .before .before .before .before .before .before .before .before .since .ensures)) (c .before .before .before .before .before .before .before .before .both7 .ensures) in
+    let near = c .before .before .before .before .before .before .before .both8 .ensures ∙ and-eq (ap (λ x. leb x 64) (c .before .before .before .before .before .before .before .before .before .before .before .before .before .before .before .before .before .before .before .before .before .before .before .past .ensures)) (c .before .before .before .before .before .before .before .before .both7 .ensures) in
     let receiving = c .before .before .before .before .before .both10 .ensures ∙ and-eq (ap (λ x. x .ok) u) (c .before .before .before .before .before .before .both9 .ensures ∙ and-eq bytes near) in
     let rows = c .before .before .before .before .before .before .before .before .before .before .before .before .before .before .before .before .before .before .before .before .before .before .before .before .before .rows-ok .ensures ∙ ap (λ x. rowsFrom (s .links) (x .on) (s .time) 0 8) t in
     let alone = c .before .before .before .both11 .ensures ∙ and-eq (c .before .before .before .before .before .before .before .before .before .before .before .before .before .before .before .before .before .before .before .before .before .before .before .before .distinct .ensures ∙ ap (λ r. distinctBelow r 8) (c .before .before .before .before .before .before .before .before .before .before .before .before .before .before .before .before .before .before .before .before .before .before .before .before .before .before .before .before .before .before .of .ensures)) refl in
@@ -114,7 +114,7 @@ found-sound-spec =
     first-ok-requires
     rows-ok-requires
     distinct-requires
-    since-requires
+    past-requires
     both-requires
     both-requires-2
     both-requires-3

@@ -4,8 +4,8 @@ use borrow.Author.Needs.{needs}
 use Rattle.engine.proofs.table.in_table.Statement.{statement}
 use Rattle.engine.proofs.table.in_table.Tie as tie
 
-since-requires : tie.Need-since-requires
-since-requires c κs = search needs
+past-requires : tie.Need-past-requires
+past-requires c κs = search needs
 
 cast-back : tie.Need-cast-back
 cast-back c = search needs
@@ -15,7 +15,7 @@ both-requires c κs = search needs
 
 returns : tie.Need-returns
 unfolding inTable
-returns c = simp (c .both .ensures, c .before .before .since .ensures)
+returns c = simp (c .both .ensures, c .before .before .past .ensures)
 
 pub in-table-spec : {M : Type 1} → statement M
-in-table-spec = tie.close (tie.spec since-requires cast-back both-requires returns)
+in-table-spec = tie.close (tie.spec past-requires cast-back both-requires returns)

@@ -1,7 +1,7 @@
 -- As many turns as are left take from there to the same state.
 use mathlib.Core.Path.{_≡_, refl, sym, _∙_, ap}
 use native.Mathlib.Omega.{arith}
-use borrow.Author.Tests.{not-true, not-false}
+use borrow.Author.Tests.{eqb-true, not-true, not-false}
 use Rattle.engine.specs.Sizes.{CELLS}
 use Rattle.engine.specs.Turns.{turn-on, turn-off, turn-out}
 use Rattle.replaying.specs.Taken.{no-message}
@@ -18,10 +18,13 @@ abbrev μ-loop : tie.MeasureT-loop
 loop-holds : tie.Need-loop-holds Inv-loop μ-loop
 loop-holds c = refl
 
+eq-requires : tie.Need-eq-requires Inv-loop μ-loop
+eq-requires c κs = tt
+
 returns : tie.Need-returns Inv-loop μ-loop
 returns c =
     let l = c .before .before .before .before .loop in
-    turn-off hasMessage afterMessage (l .left) (l .out) _ (l .inv) (no-message (l .out) (c .if1 .taken))
+    turn-off hasMessage afterMessage (l .left) (l .out) _ (l .inv) (no-message (l .out) (eqb-true _ _ (sym (c .before .eq .ensures) ∙ c .if1 .taken)))
 
 take-requires : tie.Need-take-requires Inv-loop μ-loop
 take-requires c κs = tt
@@ -59,6 +62,7 @@ take-ready-spec =
     Inv-loop
     μ-loop
     loop-holds
+    eq-requires
     returns
     take-requires
     is-message-requires

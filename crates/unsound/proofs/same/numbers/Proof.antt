@@ -25,6 +25,9 @@ mul-y c = search needs
 array-copy-out-y : tie.Need-array-copy-out-y Inv-loop μ-loop
 array-copy-out-y c = search needs
 
+eq-requires : tie.Need-eq-requires Inv-loop μ-loop
+eq-requires c κs = search needs
+
 returns : tie.Need-returns Inv-loop μ-loop
 returns c = search needs
 
@@ -51,6 +54,7 @@ numbers-spec =
     array-copy-out-x
     mul-y
     array-copy-out-y
+    eq-requires
     returns
     add-i
     loop-less

@@ -1,6 +1,6 @@
--- By whether there is a mark, and whether it is at the acked number or before it.
-use Rattle.link.specs.Limit.{markAckedAs}
+-- By whether there is a mark, and whether the acked number is before it.
 use mathlib.Core.Path.{_∙_}
+use Rattle.link.specs.Limit.{markAckedAs}
 use borrow.Author.Needs.{needs}
 use Rattle.link.proofs.row.LinkRow.mark_acked.Statement.{statement}
 use Rattle.link.proofs.row.LinkRow.mark_acked.Tie as tie
@@ -11,15 +11,15 @@ enum-told c = search needs
 enum-known-limit : tie.Need-enum-known-limit
 enum-known-limit c = search needs
 
-at-or-before-requires : tie.Need-at-or-before-requires
-at-or-before-requires c κs = search needs
-
-mark-requires : tie.Need-mark-requires
-mark-requires c κs = search needs
+is-before-requires : tie.Need-is-before-requires
+is-before-requires c κs = search needs
 
 returns : tie.Need-returns
 unfolding markAckedAs
-returns c = c .mark .ensures ∙ simp (c .before .before .before .before .limit .given .1, ← c .before .before .at-or-before .ensures, c .before .if1 .taken)
+returns c = simp (c .before .before .before .limit .given .1, ← c .before .is-before .ensures, c .if1 .taken)
+
+mark-requires : tie.Need-mark-requires
+mark-requires c κs = search needs
 
 returns-2 : tie.Need-returns-2
 unfolding markAckedAs
@@ -27,7 +27,7 @@ returns-2 c = simp (c .enum-told .given .1)
 
 returns-3 : tie.Need-returns-3
 unfolding markAckedAs
-returns-3 c = simp (c .before .before .before .limit .given .1, ← c .before .at-or-before .ensures, c .if1 .left)
+returns-3 c = c .mark .ensures ∙ simp (c .before .before .before .before .limit .given .1, ← c .before .before .is-before .ensures, c .before .if1 .left)
 
 pub mark-acked-spec : {M : Type 1} → statement M
 mark-acked-spec =
@@ -35,8 +35,8 @@ mark-acked-spec =
     (tie.spec
     enum-told
     enum-known-limit
-    at-or-before-requires
-    mark-requires
+    is-before-requires
     returns
+    mark-requires
     returns-2
     returns-3)

@@ -1,8 +1,8 @@
 -- The supplied difference wraps as `minus` does.
 use borrow.Author.Needs.{needs}
 use Rattle.seq.specs.Numbers.{minus}
-use Rattle.seq.proofs.Seq.since.Statement.{statement}
-use Rattle.seq.proofs.Seq.since.Tie as tie
+use Rattle.seq.proofs.Seq.difference.Statement.{statement}
+use Rattle.seq.proofs.Seq.difference.Tie as tie
 
 wrapping-sub-u32-requires : tie.Need-wrapping-sub-u32-requires
 wrapping-sub-u32-requires c κs = search needs
@@ -11,5 +11,5 @@ returns : tie.Need-returns
 unfolding minus
 returns c = search needs
 
-pub since-spec : {M : Type 1} → statement M
-since-spec = tie.close (tie.spec wrapping-sub-u32-requires returns)
+pub difference-spec : {M : Type 1} → statement M
+difference-spec = tie.close (tie.spec wrapping-sub-u32-requires returns)
