@@ -2,33 +2,13 @@
 -- refused with 22. Assumes nothing.
 use mathlib.Core.Path.{_≡_, sym, ap₂, _∙_}
 use mathlib.Core.Logic.{_≢_}
-use mathlib.Core.Bool.{Bool, true, false, _||_, false≢true}
-use mathlib.Core.List.{[]}
+use mathlib.Core.Bool.{true, true≢false}
 use Prim.Native.Nat.{ℕ}
 use native.Mathlib.Omega.{arith}
-use lib.Dec.{eqb, leb, ltb}
 use lib.ListN.{length}
-use Rattle.seq.specs.Numbers.{USABLE_INTERVAL}
-use Rattle.seq.specs.Distance.{near, past, near-counted}
-use Rattle.msg.specs.declared.reliable.ReliableMsg.{ReliableMsg}
-use Rattle.refusal.specs.declared.Refusal.{Refusal}
-use Rattle.refusal.specs.declared.verdict.Verdict.{Verdict}
-use Rattle.refusal.specs.declared.verdict.Verdict.the-variants.{Pass}
-use Rattle.refusal.specs.Refusals.{numberOf, refuse}
-use Rattle.refusal.specs.Answers.{toldBy}
-use Rattle.refusal.specs.Verdicts.{gateBy}
-use Rattle.link.specs.Sizes.{ACKS}
-use Rattle.engine.specs.declared.state.State.{State}
-use Rattle.engine.specs.Gates.{timedVerdict}
-use Rattle.engine.specs.Receiving.{consumedOk, receiveVerdict}
-use Rattle.engine.specs.Decide.{soundb}
-use Rattle.engine.specs.Rows.{rowOf, slotOk, timeOk}
-use Rattle.engine.specs.Tally.{lengthOk}
-use Rattle.engine.specs.Cells.{nearOldest, isRepeat}
-use Rattle.engine.specs.Totals.{fits}
-use Rattle.engine.specs.Sizes.{CELLS, RECEIVED_BYTES}
-use Rattle.engine.specs.Acking.{ackVerdict}
+use Rattle.seq.specs.Distance.{near, near-counted}
 use Rattle.laws.specs.Calls as calls
+use Rattle.laws.specs.FarRefused.{receive-only-far, ack-only-far}
 use Rattle.ends.specs.World.{Packet, World, swap, holds, Brought, BroughtAck, Timely, TimelyAck, Run, Fresh}
 use Rattle.ends.specs.Inv.{way, Inv}
 use Rattle.ends.specs.Theorem.{Joined, turned, joined-after, joined-fresh}
@@ -60,45 +40,12 @@ near-next W i n late =
     ap₂ near (sym (late .acked .numbered) ∙ label .number-is) (i .txi .next-is)
     ∙ near-counted (W .start) (p .index) (length (W .a .given)) (late .timely) (omega (arith, label .inside))
 
--- ---- no gate says 22 but its own, and that one is open
-
-record Not22 (v : Verdict) : Type 0 where
-  says : toldBy v [] .number ≢ 22
-
-other-gate : (ok : Bool) (e : Refusal) (rest : Verdict) → numberOf e ≢ 22 → Not22 rest → Not22 (gateBy ok e rest)
-other-gate true e rest other h = h
-other-gate false e rest other h = record { says = other }
-
-its-gate : (ok : Bool) (e : Refusal) (rest : Verdict) → ok ≡ true → Not22 rest → Not22 (gateBy ok e rest)
-its-gate true e rest is h = h
-its-gate false e rest is h = absurd (false≢true is)
-
-receive-clear : (s : State) (store slot : ℕ) (msg : ReliableMsg) (n len : ℕ) → near n (s .rx .«rx_seq» .0) ≡ true → Not22 (receiveVerdict s store slot msg n len)
-unfolding receiveVerdict
-receive-clear s store slot msg n len close =
-    let again = isRepeat CELLS (s .rx) n in
-    other-gate (soundb s) (refuse 1 tt) _ (λ z. omega (arith, z))
-    (other-gate (eqb store RECEIVED_BYTES) (refuse 2 tt) _ (λ z. omega (arith, z))
-    (other-gate (slotOk s slot) (refuse 4 tt) _ (λ z. omega (arith, z))
-    (other-gate (lengthOk msg len) (refuse 7 tt) _ (λ z. omega (arith, z))
-    (its-gate (near n (s .rx .«rx_seq» .0)) (refuse 22 tt) _ close
-    (other-gate (again || leb (past n (s .rx .«rx_seq» .0)) USABLE_INTERVAL) (refuse 11 tt) _ (λ z. omega (arith, z))
-    (other-gate (again || nearOldest CELLS (s .rx) n) (refuse 12 tt) _ (λ z. omega (arith, z))
-    (other-gate (ltb (rowOf s slot .«ack_count») ACKS) (refuse 13 tt) _ (λ z. omega (arith, z))
-    (other-gate (again || fits (s .rx .«rxed_reliable_size») len (s .rx .«recv_buffer»)) (refuse 14 tt) _ (λ z. omega (arith, z))
-    (other-gate (again || consumedOk msg (s .tx .«txed_unconsumed»)) (refuse 15 tt) Pass (λ z. omega (arith, z)) (record { says = λ z. omega (arith, z) }))))))))))
-
-ack-clear : (s : State) (slot time n : ℕ) → near n (s .tx .«tx_seq» .0) ≡ true → Not22 (ackVerdict s slot time n)
-unfolding ackVerdict timedVerdict
-ack-clear s slot time n close =
-    other-gate (soundb s) (refuse 1 tt) _ (λ z. omega (arith, z))
-    (other-gate (timeOk s time) (refuse 3 tt) _ (λ z. omega (arith, z))
-    (other-gate (slotOk s slot) (refuse 4 tt) _ (λ z. omega (arith, z)) (its-gate (near n (s .tx .«tx_seq» .0)) (refuse 22 tt) Pass close (record { says = λ z. omega (arith, z) }))))
+-- ---- so that neither is refused with 22
 
 clear : (W : World) → Joined W → Clear W
 clear W j = record {
-  receive = λ slot p brought timely. receive-clear (W .a .state) _ slot (p .msg .kind) (p .number) _ (near-expected W (j .two) p brought timely) .says;
-  ack = λ slot time n brought late. ack-clear (W .a .state) slot time n (near-next W (j .one) n late) .says;
+  receive = λ slot p brought timely e. true≢false (sym (near-expected W (j .two) p brought timely) ∙ receive-only-far (W .a .state) _ slot (p .msg .kind) (p .number) _ e .far);
+  ack = λ slot time n brought late e. true≢false (sym (near-next W (j .one) n late) ∙ ack-only-far (W .a .state) slot time n e .far);
 }
 
 pub none-far : NoneFar

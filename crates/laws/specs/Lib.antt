@@ -5,6 +5,7 @@ pub mod Calls
 pub mod Good
 pub mod CellEffects
 pub mod PacketEffects
+pub mod FarRefused
 pub mod FlushKept
 pub mod Learnt
 pub mod LinksKept
