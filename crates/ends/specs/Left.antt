@@ -12,7 +12,6 @@ use lib.Seq.{getD-set-same, getD-set-other, set-set}
 use borrow.Author.Tests.{eqb-true, lt-ltb}
 use borrow.Table.Steps.{cases}
 use Rattle.seq.specs.declared.Seq.{Seq}
-use Rattle.seq.specs.Numbers.{plus}
 use Rattle.seq.specs.Distance.{past}
 use Rattle.msg.specs.declared.reliable.ReliableMsg.{ReliableMsg}
 use Rattle.refusal.specs.declared.verdict.Verdict.the-variants.{Pass}
@@ -28,7 +27,7 @@ use Rattle.engine.specs.declared.state.SentReliableStatus.the-variants.{Sent, R
 use Rattle.engine.specs.declared.state.SentReliable.{SentReliable}
 use Rattle.engine.specs.declared.state.Held.{Held}
 use Rattle.engine.specs.declared.state.State.{State}
-use Rattle.engine.specs.Packets.{noPacket, firstOf, packets, isReceived, isQueued}
+use Rattle.engine.specs.Packets.{noPacket, packets, isReceived, isQueued}
 use Rattle.engine.specs.Sound.{packetAt}
 use Rattle.engine.specs.Received.{noCell}
 use Rattle.engine.specs.Queue.{requeued}
@@ -39,7 +38,8 @@ use Rattle.engine.specs.Links.{lowestIn}
 use Rattle.engine.specs.Unconfirming.{unconfirmed, unconfirmedState, removedState}
 use Rattle.engine.specs.Flushing.{flushed, flushedState}
 use Rattle.engine.specs.Sending.{toldRx, sentState}
-use Rattle.engine.specs.Resending.{number-back, resentState, ResendPassed}
+use Rattle.engine.specs.InTable.{packet-back}
+use Rattle.engine.specs.Resending.{resentState, ResendPassed}
 use Rattle.engine.specs.Acking.{ackedRow, ackedState}
 use Rattle.engine.specs.Receiving.{effectTx, repeatedState, receivedState}
 use Rattle.engine.specs.HandingOut.{takenState, takenAckState}
@@ -224,9 +224,7 @@ module _ (h : Holding) (good : Good (h .state)) where
   pub number-place : (i n : ℕ) → i < s .tx .«txed_count» → packetAt s i .seq .0 ≡ n → place (s .tx) n ≡ i
   unfolding place
   number-place i n l e =
-      let number : plus (firstOf (s .tx)) i ≡ n = sym (ap (λ (q : Seq). q .0) (good .sound .consecutive i l)) ∙ e in
-      let back = ap (past (s .tx .«tx_seq» .0)) (sym number) ∙ number-back (s .tx .«tx_seq» .0) (s .tx .«txed_count») i (good .shaped .next-u32) (good .sound .packet-count) l in
-      omega (arith, back)
+      omega (arith, ap (past (s .tx .«tx_seq» .0)) (sym e) ∙ packet-back s (good .shaped) (good .sound) i l)
 
   -- a packet that is resent was queued, and so not Received
   queued-unreceived : (st : SentReliableStatus) → isQueued st ≡ true → isReceived st ≡ false

@@ -7,8 +7,9 @@ use native.Mathlib.Omega.{arith}
 use lib.Dec.{leb}
 use lib.ListN.{length, getD}
 use borrow.Author.Tests.{leb-true}
+use Rattle.seq.specs.declared.Seq.{Seq}
 use Rattle.seq.specs.Numbers.{seqOf, plus, minus}
-use Rattle.seq.specs.Distance.{past, past-near}
+use Rattle.seq.specs.Distance.{past, past-near, past-ahead}
 use mathlib.Core.List.{List}
 use Rattle.engine.specs.declared.state.SentReliable.{SentReliable}
 use Rattle.engine.specs.declared.state.Sending.{Sending}
@@ -43,6 +44,14 @@ unfolding plus minus
 number-past t count back c h =
     let e : t + (2 ^ 32 - back) ≡ t + (2 ^ 32 - count) + (count - back) = omega arith in
     ap (λ k. k % 2 ^ 32) e ∙ sym (mod-add-mod (t + (2 ^ 32 - count)) (2 ^ 32) (count - back))
+
+-- and back: the number i past the first of `count` is `count − i` before the next
+number-back : (t count i : ℕ) → t < 2 ^ 32 → count ≤ PACKETS → i < count → past t (plus (minus t count) i) ≡ count - i
+unfolding plus minus
+number-back t count i ht c h =
+    let n = plus (minus t count) i in
+    let e : minus t n ≡ count - i = omega arith in
+    past-ahead t n (omega (arith, e)) ∙ e
 
 cell-wraps : (t k : ℕ) → minus t k % PACKETS ≡ (t + (2 ^ 32 - k)) % PACKETS
 unfolding minus
@@ -92,6 +101,12 @@ table-packets tx ps long few full =
 -- ---- what a sound state says
 
 module _ (s : State) (shaped : Shaped s) (sound : Sound s) where
+  -- a packet's number is as many before the next one as there are packets from its place on
+  pub packet-back : (i : ℕ) → i < s .tx .«txed_count» → past (s .tx .«tx_seq» .0) (packetAt s i .seq .0) ≡ s .tx .«txed_count» - i
+  packet-back i h =
+      ap (λ (q : Seq). past (s .tx .«tx_seq» .0) (q .0)) (sound .consecutive i h)
+      ∙ number-back (s .tx .«tx_seq» .0) (s .tx .«txed_count») i (shaped .next-u32) (sound .packet-count) h
+
   -- a packet of the table has at most 1,024 bytes
   pub packet-short : (n : ℕ) → n < 2 ^ 32 → inTable (s .tx) n ≡ true → lookedAt (s .tx) n .len ≤ DATA_BYTES
   unfolding place lookedAt

@@ -4,15 +4,14 @@
 use mathlib.Core.Path.{_≡_, refl, sym, ap, ap₂, _∙_}
 use mathlib.Core.Bool.{Bool, true, false, not, _&&_, _||_, or-true}
 use mathlib.Core.List.{List, [], _∷_}
-use Prim.Native.Nat.{ℕ, zero, suc, _+_, _-_, _%_, _^_, _≤_, _<_}
+use Prim.Native.Nat.{ℕ, zero, suc, _+_, _-_, _%_, _^_, _<_}
 use native.Mathlib.Omega.{arith}
 use lib.Dec.{eqb}
 use lib.ListN.{length, getD, set}
 use borrow.Author.Tests.{eqb-true, eq-eqb, le-leb}
 use borrow.Table.Steps.{cases}
 use Rattle.seq.specs.declared.Seq.{Seq}
-use Rattle.seq.specs.Numbers.{plus, minus}
-use Rattle.seq.specs.Distance.{past, past-ahead}
+use Rattle.seq.specs.Distance.{past}
 use Rattle.msg.specs.Reliable.{kindOf, countOf}
 use Rattle.refusal.specs.Answers.{Told, success, refused}
 use Rattle.refusal.specs.declared.verdict.Verdict.{Verdict}
@@ -33,7 +32,7 @@ use Rattle.engine.specs.Rows.{rowOf, row-of}
 use Rattle.engine.specs.Decide.{soundb, sound}
 use Rattle.engine.specs.Gates.{timedVerdict, AtTime, timed-passed}
 use Rattle.engine.specs.Sound.{Sound, Shaped, packetAt}
-use Rattle.engine.specs.InTable.{placed, packet-short, looked-cell, looked-number, row-small}
+use Rattle.engine.specs.InTable.{placed, packet-back, packet-short, looked-cell, looked-number, row-small}
 use Rattle.engine.specs.declared.resending.ResendAnswer.{ResendAnswer}
 use Rattle.engine.specs.declared.resending.ResendAnswer.the-variants.{Message, No}
 use Rattle.engine.specs.declared.resending.ResendResult.{ResendResult}
@@ -104,14 +103,6 @@ listed-at (p ∷ ps) n e =
     (λ u. let f = listed-at ps n (simp (t, u) at e) in (suc (f .0), omega (arith, f .1), f .2, f .3)))
     (λ t. let f = listed-at ps n (simp t at e) in (suc (f .0), omega (arith, f .1), f .2, f .3))
 
--- over bare numbers: the number i past the first of `count` before t, and back
-pub number-back : (t count i : ℕ) → t < 2 ^ 32 → count ≤ PACKETS → i < count → past t (plus (minus t count) i) ≡ count - i
-unfolding plus minus
-number-back t count i ht c h =
-    let n = plus (minus t count) i in
-    let e : minus t n ≡ count - i = omega arith in
-    past-ahead t n (omega (arith, e)) ∙ e
-
 module _ (s : State) (n : ℕ) (shaped : Shaped s) (fine : Sound s) (u32 : n < 2 ^ 32) where
   -- a listed number is in the table, and its packet is queued ..
   pub listed-queued : isListed (queue (s .tx)) n ≡ true → (inTable (s .tx) n ≡ true) × (isQueued (lookedAt (s .tx) n .status) ≡ true)
@@ -119,9 +110,7 @@ module _ (s : State) (n : ℕ) (shaped : Shaped s) (fine : Sound s) (u32 : n < 2
   listed-queued e =
       let f = listed-at (packets (s .tx)) n (ap (λ q. isListed q n) (sym (fine .queued)) ∙ e) in
       let few : f .0 < s .tx .«txed_count» = omega (arith, f .1, window-length PACKETS noPacket (s .tx .«txed_packets») (firstOf (s .tx) % PACKETS) (s .tx .«txed_count»)) in
-      let number : plus (firstOf (s .tx)) (f .0) ≡ n = sym (ap (λ (q : Seq). q .0) (fine .consecutive (f .0) few)) ∙ f .3 in
-      let back : past (s .tx .«tx_seq» .0) n ≡ s .tx .«txed_count» - f .0 =
-      ap (past (s .tx .«tx_seq» .0)) (sym number) ∙ number-back (s .tx .«tx_seq» .0) (s .tx .«txed_count») (f .0) (shaped .next-u32) (fine .packet-count) few in
+      let back : past (s .tx .«tx_seq» .0) n ≡ s .tx .«txed_count» - f .0 = ap (past (s .tx .«tx_seq» .0)) (sym (f .3)) ∙ packet-back s shaped fine (f .0) few in
       let here : s .tx .«txed_count» - past (s .tx .«tx_seq» .0) n ≡ f .0 = omega (arith, back) in
       let b = past (s .tx .«tx_seq» .0) n in
       (join (le-leb 1 b (omega (arith, back))) (le-leb b (s .tx .«txed_count») (omega (arith, back))), ap (λ i. isQueued (getD (packets (s .tx)) i noPacket .status)) here ∙ f .2)

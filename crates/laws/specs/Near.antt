@@ -1,17 +1,15 @@
 -- Document 02 [5]: inside a sound state no two numbers are far apart. Every distance that a call asks for there is told: the ack's back of a
 -- packet's number is 1 to 64, the next expected number is 0 to 64 past the oldest, and what a cell holds 0 to 63. Assumes nothing.
-use mathlib.Core.Path.{_≡_, sym, ap, _∙_}
+use mathlib.Core.Path.{_≡_, ap, _∙_}
 use Prim.Native.Nat.{ℕ, _-_, _≤_, _<_}
 use native.Mathlib.Omega.{arith}
 use lib.IntN.{pos}
-use Rattle.seq.specs.declared.Seq.{Seq}
 use Rattle.seq.specs.declared.Apart.the-variants.{By}
 use Rattle.seq.specs.Numbers.{plus}
 use Rattle.seq.specs.Distance.{distanceOf, past, past-told, past-plus}
 use Rattle.engine.specs.declared.state.State.{State}
-use Rattle.engine.specs.Packets.{firstOf}
 use Rattle.engine.specs.Received.{expectedAt}
-use Rattle.engine.specs.Resending.{number-back}
+use Rattle.engine.specs.InTable.{packet-back}
 use Rattle.engine.specs.Sound.{packetAt}
 use Rattle.engine.specs.Sizes.{PACKETS, CELLS}
 use Rattle.laws.specs.Good.{Good}
@@ -22,8 +20,7 @@ module _ (s : State) (good : Good s) where
       let t = s .tx .«tx_seq» .0 in
       let count = s .tx .«txed_count» in
       let n = packetAt s i .seq .0 in
-      let number : plus (firstOf (s .tx)) i ≡ n = sym (ap (λ (q : Seq). q .0) (good .sound .consecutive i h)) in
-      let back : past t n ≡ count - i = ap (past t) (sym number) ∙ number-back t count i (good .shaped .next-u32) (good .sound .packet-count) h in
+      let back : past t n ≡ count - i = packet-back s (good .shaped) (good .sound) i h in
       (past-told t n (omega (arith, back, good .sound .packet-count)) ∙ ap (λ d. By (pos d)) back, omega (arith, good .sound .packet-count))
 
   pub expected-near : (distanceOf (s .rx .«rx_seq» .0) (s .rx .«rx_oldest» .0) ≡ By (pos (expectedAt (s .rx)))) × (expectedAt (s .rx) ≤ CELLS)

@@ -29,12 +29,12 @@ use Rattle.engine.specs.Packets.{noPacket, firstOf, packets, isReceived, isQueu
 use Rattle.engine.specs.Queue.{requeued}
 use Rattle.engine.specs.Rows.{rowOf}
 use Rattle.engine.specs.Table.{inTable, place, lookedAt, withPacket, withTable}
-use Rattle.engine.specs.InTable.{cells-divide, number-past, placed, table-packets, looked-number}
+use Rattle.engine.specs.InTable.{packet-back, cells-divide, number-past, placed, table-packets, looked-number}
 use Rattle.engine.specs.Sound.{packetAt}
 use Rattle.engine.specs.Unconfirming.{unconfirmedPacket, unconfirmedState}
 use Rattle.engine.specs.Flushing.{flushedPacket, flushedState}
 use Rattle.engine.specs.Sending.{sentTx}
-use Rattle.engine.specs.Resending.{number-back, resentState}
+use Rattle.engine.specs.Resending.{resentState}
 use Rattle.engine.specs.Acking.{settled, receivedTx, settledTxAs, sweepFrom, sweepOf, sweptTx, ackedTx, ackedState, acked-count}
 use Rattle.engine.specs.Fields.{newPacket, newFlight, withStatus}
 use Rattle.engine.specs.Sizes.{PACKETS}
@@ -157,8 +157,7 @@ module _ (s : State) (good : Good s) where
       let next = s .tx .«tx_seq» .0 in
       let count = s .tx .«txed_count» in
       let few : i < count = omega (arith, packets-count (s .tx)) in
-      let number : plus (firstOf (s .tx)) i ≡ n = sym (ap (λ (q : Seq). q .0) (good .sound .consecutive i few)) ∙ eqb-true _ _ e in
-      let back : past next n ≡ count - i = ap (past next) (sym number) ∙ number-back next count i (good .shaped .next-u32) (good .sound .packet-count) few in
+      let back : past next n ≡ count - i = ap (past next) (sym (eqb-true _ _ e)) ∙ packet-back s (good .shaped) (good .sound) i few in
       (join (le-leb 1 (past next n) (omega (arith, back))) (le-leb (past next n) count (omega (arith, back))), omega (arith, back))
 
   module _ (n : ℕ) (u32 : n < 2 ^ 32) where
