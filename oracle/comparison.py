@@ -11,7 +11,7 @@ import sys
 import tempfile
 
 from generator import script
-from model import WRAP, Model
+from model import WRAP, Model, parse
 
 ROOT = os.path.dirname(os.path.dirname(os.path.abspath(__file__)))
 DRIVER = os.path.join(ROOT, "target", "oracle", "driver")
@@ -107,8 +107,8 @@ class Difference:
 
 
 class Tally:
-    """What was run: calls by name, accepted ones, refusals by number; what the accepted deadlines, the questions for a Consumed and the far
-    numbers met, as the model saw it; and what the original answers to calls that the port refused with 22."""
+    """What was run: calls by name, accepted ones, refusals by number; what the accepted deadlines, the questions for a Consumed, the receive
+    tables and the far numbers met, as the model saw it; and what the original answers to calls that the port refused with 22."""
 
     def __init__(self):
         self.calls = collections.Counter()
@@ -116,6 +116,7 @@ class Tally:
         self.refusals = collections.Counter()
         self.deadlines = collections.Counter()
         self.dues = collections.Counter()
+        self.tables = collections.Counter()
         self.fars = collections.Counter()
         self.asked = collections.Counter()
 
@@ -130,6 +131,8 @@ class Tally:
                 self.accepted[name] += 1
             else:
                 self.refusals[first] += 1
+            if first == "2" or (name, first) == ("fresh", "21"):
+                self.tables["%s refused with %s" % (name, first)] += 1
 
     def merge(self, other):
         self.calls.update(other.calls)
@@ -137,6 +140,7 @@ class Tally:
         self.refusals.update(other.refusals)
         self.deadlines.update(other.deadlines)
         self.dues.update(other.dues)
+        self.tables.update(other.tables)
         self.fars.update(other.fars)
         self.asked.update(other.asked)
 
@@ -152,7 +156,8 @@ class Tally:
             ", ".join("%s: %d" % item for item in self.deadlines.items()) or "none",
             ", ".join("%s: %d" % item for item in self.dues.items()) or "none",
         )
-        for name, counts in (("far numbers", self.fars), ("what the original answers to what was refused with 22", self.asked)):
+        listed = {"receive tables": self.tables, "far numbers": self.fars, "what the original answers to what was refused with 22": self.asked}
+        for name, counts in listed.items():
             lines = ["    %s: %d" % item for item in sorted(counts.items()) if item[1]]
             told += "\n".join(["\n%s:" % name, *lines]) if lines else ""
         return told
@@ -173,24 +178,35 @@ def asked_by_itself(sides, lines, port):
     return zip(names, sides.asked(scripts)) if scripts else []
 
 
-def compare(sides, seeds, calls, mode="near"):
+def joined(scripts):
+    """The scripts' lines as those of one script, and the part of each. A lend of the records holds for the next `fresh` too, so that before
+    each script but the first stands the lend that its `fresh` needs."""
+    lines, parts = [], []
+    for one in scripts:
+        if lines:
+            _, (_, _, cells) = parse(one[0])
+            lines.append("lend records %d" % cells)
+        parts.append(slice(len(lines), len(lines) + len(one)))
+        lines += one
+    return lines, parts
+
+
+def compare(sides, seeds, calls, mode="near", cells=None):
     """Runs the seeds' scripts as one; answers the tally and each seed's first difference from the original and from the model."""
-    scripts = [script(mode, seed, calls) for seed in seeds]
-    lines = [line for one in scripts for line in one.lines]
+    scripts = [script(mode, seed, calls, cells) for seed in seeds]
+    lines, parts = joined([one.lines for one in scripts])
     port, original = sides.answers(lines)
     tally = Tally()
-    tally.add(lines, port)
-    for one in scripts:
+    for one, part in zip(scripts, parts):
+        tally.add(one.lines, port[part])
         tally.deadlines.update(one.deadlines)
         tally.dues.update(one.dues)
+        tally.tables.update(one.tables)
         tally.fars.update(one.fars)
     if mode == "far":
         tally.asked.update("%s, answered %s" % one for one in asked_by_itself(sides, lines, port))
     differences = []
-    at = 0
-    for seed, one in zip(seeds, scripts):
-        part = slice(at, at + len(one.lines))
-        at += len(one.lines)
+    for seed, one, part in zip(seeds, scripts, parts):
         for whom, other in (("original", original[part]), ("model", one.answers)):
             place = first_difference(port[part], other)
             if place is not None:
@@ -209,13 +225,9 @@ def both(sides, whom, lines):
 
 def which_differ(sides, whom, scripts):
     """Which of the scripts show a difference. Each starts over with its own `fresh`, so that one run serves all."""
-    port, other = both(sides, whom, [line for one in scripts for line in one])
-    answers, at = [], 0
-    for one in scripts:
-        part = slice(at, at + len(one))
-        at += len(one)
-        answers.append(port[part] != other[part])
-    return answers
+    lines, parts = joined(scripts)
+    port, other = both(sides, whom, lines)
+    return [port[part] != other[part] for part in parts]
 
 
 def first_that_differs(sides, whom, scripts):

@@ -1,7 +1,8 @@
 """Scripts of calls, each from a seed: oracle/generate writes one, oracle/compare runs many.
 
-The model goes along, so that a script can aim at what its state makes interesting: the wrap, a full table, the window's edge, a
-buffer exactly full, repeats, late acks, a deadline's bounds; in scripts with far numbers the edge of far. Its answers come with the script.
+The model goes along, so that a script can aim at what its state makes interesting: the wrap, a full table, the window's edge at each cell
+count, a buffer exactly full, repeats, late acks, a deadline's bounds; in scripts with far numbers the edge of far. Its answers come with the
+script.
 """
 
 import collections
@@ -9,20 +10,21 @@ import random
 
 from model import (
     ACKS,
-    CELLS,
+    CELL_COUNTS,
     CONSUMED,
     DATA,
     FAR,
-    MOST_BUFFER,
+    LEAST_CELLS,
+    MOST_CELLS,
     MOST_DATA,
     MOST_FACTOR,
+    MOST_LENT,
     MOST_TIME,
     PACKETS,
     RECEIVE_CLOSE,
     RECEIVE_FINISH,
     SEND_FINISH,
     SENT,
-    STORE,
     TOO_LARGE,
     USABLE_INTERVAL,
     WRAP,
@@ -42,13 +44,27 @@ NEAR = 2**29 - 1
 # The edge of far, and the farthest of all: how far, either way, and how the tally names it.
 EDGES = {FAR - 1: "2^30 - 1", FAR: "2^30", FAR + 1: "2^30 + 1", 2**31 - 1: "2^31 - 1", 2**31: "2^31"}
 
-# A dump comes at least this often.
+# A dump comes at least this often; where many messages are ready or held, in proportion less often, since it writes each.
 DUMP_EVERY = 10
+MANY = 64
 
 # Where the original's order turns, and the wrap itself.
 TURNS = (0, 2**30 - 1, 2**31, 3 * (2**30 - 1), 3 * 2**30)
 
-BUFFERS = (1, 2, 9, 10, 11, 19, 20, 100, 1023, 1024, 1025, 2048, 6553, 65535)
+BUFFERS = (1, 2, 9, 10, 11, 19, 20, 100, 1023, 1024, 1025, 2048, 6553, 65535, 65536, 65537, 131071, 131072)
+
+# The cell counts of scripts that aren't told theirs, and how often.
+SOME_CELLS = (64, 128, 4096, 65536, *CELL_COUNTS)
+HOW_OFTEN = (60, 12, 8, 8, *[1] * len(CELL_COUNTS))
+BAD_CELLS = (0, 1, 2, 32, 63, 65, 96, 127, 192, 320, 1000, 65535, 65537, 98304, 131072, 2**31, WRAP - 64, WRAP - 1)
+
+# The window's edge, and how the tally names it: how far a number is from the first past the window.
+WINDOW = {-1: "the window's last number", 0: "the first past the window", 1: "the second past the window"}
+# A message that is no repeat, in the tally.
+NEW = "new messages"
+
+# The most messages of a tenth of the receive buffer: a larger tenth isn't aimed at.
+TENTH_MESSAGES = 16
 
 # Products of deadline factors. The round trip that each brings to 2^64 is within 2^56.
 FACTORS_TOGETHER = (256, 257, 999, 1000, 1000**2, 999 * 1000**2, 1000**3)
@@ -71,7 +87,10 @@ MOODS = {
     "deadlines": {"deadline": 120, "send": 10, "flush": 6, "unconfirm": 4, "resend": 12, "ack": 8, "add": 6, "remove": 3, "pong": 2},
     "slow": {"slow": 32, "add": 12, "remove": 8, "block": 10, "confirm": 10, "unconfirm": 6, "pong": 6, "ping": 7, "deadline": 6},
     "messages": {"read": 50, "write": 50},
-    "odd": {"junk": 20, "lend": 6, "fresh": 1, "wrong_slot": 20, "wrong_time": 20, "send": 10, "receive": 10},
+    "stall": {"stall": 1.5, "receive_edge": 12, "receive_again": 8, "show": 6, "take": 10, "takeack": 14, "hand_out": 1},
+    "gaps": {"gap": 2, "skip": 1, "receive_edge": 20, "receive_again": 8, "take": 20, "takeack": 20, "due": 2},
+    "round": {"round": 1.2, "receive_edge": 10, "receive": 10, "hand_out": 2, "takeack": 10, "send_consumed": 4},
+    "odd": {"junk": 20, "lend": 9, "fresh": 4, "wrong_slot": 20, "wrong_time": 20, "send": 10, "receive": 10},
 }
 # What scripts with far numbers have besides, each as often as three of the others.
 FAR_MOODS = {
@@ -135,6 +154,23 @@ def reader(end):
     return {"closed, none untold": not due, "closed, due": due, "closed, due at a tenth or less": due and end.untold <= tenth}
 
 
+def table(before, end, words, answer):
+    """What a receive or a take met in the receive table, for the tally. Given what was there before: the next expected number, the one that
+    refusal 12 counts from and how many messages were held."""
+    rx, oldest, held = before
+    moved = (end.rx - rx) % WRAP
+    if words[0] == "take":
+        return {"takes that passed over more than 64": (end.oldest() - oldest) % WRAP > MANY}
+    past = (int(words[3]) - oldest) % WRAP - end.cells
+    return {
+        "receives of %s, answered %s" % (WINDOW.get(past), answer): past in WINDOW and answer in ("0", "12"),
+        "receives with more than 64 ready": answer == "0" and len(end.ready) > MANY,
+        "receives with more than 64 held": answer == "0" and len(end.held) > MANY,
+        "receives that made more than 64 ready": moved > MANY,
+        NEW: len(end.held) + moved > held,
+    }
+
+
 def edge(a, b):
     """At which edge of far a stands from b, in words; none elsewhere."""
     ahead = (a - b) % WRAP
@@ -144,18 +180,23 @@ def edge(a, b):
 
 
 class Script:
-    """A script in the making: its lines, the model's answers, and what its deadlines, its questions for a Consumed and its far numbers met."""
+    """A script in the making: its lines, the model's answers, and what its deadlines, its questions for a Consumed, its far numbers and its
+    receive table met. A cell count that is given is that of every accepted fresh."""
 
-    def __init__(self, seed, calls, numbers=NEAR_ONLY):
-        self.random = random.Random("farthingkeg %d %d" % (seed, numbers))
+    def __init__(self, seed, calls, numbers=NEAR_ONLY, cells=None):
+        self.random = random.Random("farthingkeg %d %d %d" % (seed, numbers, cells or 0))
         self.calls = calls
         self.numbers = numbers
+        self.cells = cells
         self.moods = list(MOODS) if numbers == NEAR_ONLY else list(MOODS) + 3 * list(FAR_MOODS)
         self.lines = []
         self.answers = []
         self.deadlines = collections.Counter()
         self.dues = collections.Counter()
         self.fars = collections.Counter()
+        self.tables = collections.Counter()
+        # The cells that were used since the last accepted fresh.
+        self.used = set()
         # The places of accepted acks and resends that met a mark far from their number.
         self.far_marks = []
         self.since_dump = 0
@@ -178,17 +219,32 @@ class Script:
         else:
             self.put(" ".join(map(str, words)))
         self.since_dump += 1
-        if self.since_dump >= DUMP_EVERY - 1 or self.chance(0.06):
+        many = 1 + (len(self.end.ready) + len(self.end.held)) // MANY
+        if self.since_dump >= (DUMP_EVERY - 1) * many or self.chance(0.06 / many):
             self.put("dump")
             self.since_dump = 0
 
     def put(self, line):
+        before = (self.end.rx, self.end.oldest(), len(self.end.held)) if self.end else None
         self.lines.append(line)
         self.answers.append(self.model.answer(line))
-        if line.startswith("deadline ") and self.answers[-1].startswith("0"):
-            self.deadlines.update(met(self.end, *map(int, line.split(" ")[1:])))
-        if line == "due" and self.answers[-1].startswith("0"):
+        words, answer = line.split(" "), self.answers[-1].split(" ")[0]
+        if words[0] == "deadline" and answer == "0":
+            self.deadlines.update(met(self.end, *map(int, words[1:])))
+        if line == "due" and answer == "0":
             self.dues.update(reader(self.end))
+        if words[0] in ("receive", "take") and answer != "?":
+            self.note_table(table(before, self.end, words, answer), words)
+        if words[0] == "fresh" and answer == "0":
+            self.used = set()
+            self.tables["accepted with %d cells" % self.end.cells] += 1
+
+    def note_table(self, facts, words):
+        self.tables.update(facts)
+        if facts.get(NEW):
+            cell = int(words[3]) % self.end.cells
+            self.tables["new messages in a cell used before"] += cell in self.used
+            self.used.add(cell)
 
     def put_judged(self, words):
         """Puts a call with a number, and notes how far that is from what it is judged against and from the link's mark. Unless the script
@@ -269,20 +325,28 @@ class Script:
     # The script.
 
     def begin(self):
+        cells = self.cells or self.random.choices(SOME_CELLS, HOW_OFTEN)[0]
         self.start = self.pick(
             (WRAP - self.below(200)) % WRAP,
             (self.random.choice(TURNS) - self.below(200)) % WRAP,
-            self.pick(0, 1, 63, 64),
+            self.pick(0, 1, cells - 1, cells),
             self.below(WRAP),
         )
-        buffer = self.pick(MOST_BUFFER, MOST_BUFFER, self.random.choice(BUFFERS), 1 + self.below(MOST_BUFFER))
+        most = cells * MOST_DATA
+        buffer = self.pick(most, most, min(self.random.choice(BUFFERS), most), 1 + self.below(most))
         self.style = self.random.choices(("small", "mixed", "large"), (70, 28, 2))[0]
         # The ends of sending and of reading are final, so that most scripts meet them late or never.
         self.finish_from = self.below(2 * self.calls)
         self.close_from = self.below(2 * self.calls)
-        self.call("fresh", self.start, buffer)
+        if self.end and self.end.lent.get("records", cells) != cells:
+            self.call("lend", "records", cells)
+        self.fresh(self.start, buffer, cells)
         for _ in range(self.pick(1, 2, 2, 3, 8)):
             self.step_add()
+
+    def fresh(self, start, buffer, cells):
+        """64 cells are often not said."""
+        self.call("fresh", start, buffer, *([] if cells == LEAST_CELLS and self.chance(0.5) else [cells]))
 
     def mood(self):
         names, sums = WEIGHTS[self.random.choice(self.moods)]
@@ -443,7 +507,7 @@ class Script:
         self.receive(self.end.rx + self.pick(0, 0, 0, 0, 1, 2, self.below(8)))
 
     def step_receive_edge(self):
-        edge = self.end.oldest() + CELLS
+        edge = self.end.oldest() + self.end.cells
         end = self.end.rx + USABLE_INTERVAL
         self.receive(self.pick(edge - 2, edge - 1, edge - 1, edge, edge + 1, self.end.rx, end - 1, end, end + 1, end + self.below(2**20)))
 
@@ -451,7 +515,7 @@ class Script:
         held = list(self.end.held)
         if held and self.chance(0.4):
             return self.receive(self.random.choice(held))
-        self.receive(self.end.rx - 1 - self.pick(0, 1, self.below(80), CELLS, ACKS))
+        self.receive(self.end.rx - 1 - self.pick(0, 1, self.below(80), self.end.cells, ACKS))
 
     def step_receive_far(self):
         """A far number, or one that just isn't; at times with what is refused before that, 2, 4 and 7, or after it, 13, 14 and 15."""
@@ -469,10 +533,11 @@ class Script:
             for _ in range(ACKS - len(self.end.links[slot].acks)):
                 self.receive(self.end.rx - 1, DATA, slot, 0)
         elif how == 13:
-            self.call("lend", "received", STORE - 1)
+            name = self.pick("received", "records")
+            self.call("lend", name, self.end.length_of(name) - 1)
         self.call("receive", slot, kind, self.far_number(self.end.rx), count, data)
         if how == 13:
-            self.call("lend", "received", STORE)
+            self.call("lend", name, self.end.length_of(name))
 
     def step_receive_consumed(self):
         self.receive(self.end.rx, CONSUMED)
@@ -485,6 +550,67 @@ class Script:
             self.receive(self.end.rx - self.pick(0, 1, 1, 1, 2), slot=slot)
         for _ in range(self.pick(0, 1, 40)):
             self.call("takeack", slot)
+
+    # The receive table, which may have more than 64 cells.
+
+    def some_messages(self):
+        """How many messages a step has: a few, or more than 64 cells hold, but not more than fit and never most of the script."""
+        most = self.end.cells + 1
+        return min(self.pick(2 + self.below(20), MANY + 1, MANY + self.below(80), most - 2, most), most, 3 + self.calls // 12)
+
+    def arrive(self, number, kind=None):
+        """A message that nothing but the window's edge refuses, where a link is live: a waiting ack is taken where there are 64, and the data
+        fits the receive buffer."""
+        if kind is None:
+            kind = self.random.choices((DATA, CONSUMED, SEND_FINISH, RECEIVE_CLOSE), (82, 8, 5, 5))[0]
+        live = self.live()
+        slot = self.random.choice(live) if live else 0
+        if live and len(self.end.links[slot].acks) == ACKS:
+            self.call("takeack", slot)
+        size = min(self.size(), self.end.buffer - self.end.untaken) if kind == DATA else 0
+        self.call("receive", slot, kind, number % WRAP, 0, self.data(size))
+
+    def step_stall(self):
+        """Messages one after the other and none is taken, as while the reader's disk stalls."""
+        for _ in range(self.some_messages()):
+            self.arrive(self.end.rx)
+
+    def step_gap(self):
+        """The next expected message comes last, and what is behind it becomes ready at once; at times the window's last cell is in use too."""
+        first = self.end.rx
+        numbers = [first + n for n in range(1, self.some_messages())]
+        if self.chance(0.5):
+            self.random.shuffle(numbers)
+        if self.chance(0.5):
+            numbers.insert(self.below(len(numbers) + 1), self.end.oldest() + self.end.cells - 1)
+        for number in [*numbers, first]:
+            self.arrive(number)
+
+    def step_skip(self):
+        """Data, then messages that aren't handed out: taking the Data passes over them, and the window's edge moves as far."""
+        for _ in range(min(len(self.end.ready), MANY)):
+            self.call("take")
+        self.arrive(self.end.rx, DATA)
+        for _ in range(self.some_messages()):
+            self.arrive(self.end.rx, self.pick(CONSUMED, RECEIVE_CLOSE))
+        if self.chance(0.5):
+            self.arrive(self.end.rx + self.pick(0, 1), self.pick(DATA, SEND_FINISH))
+        self.arrive(self.end.oldest() + self.end.cells)
+        self.call("take")
+        for past in self.random.sample((-1, 0, 1), 3):
+            self.arrive(self.end.oldest() + self.end.cells + past)
+
+    def step_round(self):
+        """Goes on through the table: what is received is taken, so that cells are used again."""
+        for _ in range(self.some_messages()):
+            self.arrive(self.end.rx)
+            if self.chance(0.3):
+                self.call("show")
+            self.call("take")
+
+    def step_hand_out(self):
+        for _ in range(min(len(self.end.ready) + 1, self.some_messages())):
+            self.step_take()
 
     def receive(self, number, kind=None, slot=None, exactly=None):
         if kind is None:
@@ -531,6 +657,8 @@ class Script:
     def step_tenth(self):
         """Takes exactly a tenth of the receive buffer, or nothing of a closed reader's, when a Consumed is just not due, and then a byte more."""
         slot = self.slot()
+        if len(self.end.ready) > MANY or self.end.due_above() > TENTH_MESSAGES * MOST_DATA:
+            return
         for _ in range(len(self.end.ready)):
             self.call("take")
         if self.end.untold:
@@ -612,18 +740,46 @@ class Script:
     # What is refused before anything is looked at, and what is no call.
 
     def step_fresh(self):
-        if self.chance(0.8):
-            self.call("fresh", self.number(), self.pick(0, MOST_BUFFER + 1, WRAP - 1))
-        elif self.chance(0.2) and len(self.lines) + 100 < self.calls:
+        if self.chance(0.9):
+            self.refused_fresh()
+        elif self.chance(0.4) and len(self.lines) + 100 < self.calls:
             self.begin()
 
+    def refused_fresh(self):
+        """21 for the receive buffer, for the cell count or for both; where another number of records is lent, 2, but only after 21."""
+        lent = self.end.lent.get("records")
+        cells = self.random.choice([count for count in CELL_COUNTS if count != lent])
+        most = cells * MOST_DATA
+        buffer = self.pick(1, most, 1 + self.below(most))
+        why = self.pick("buffer", "cells", "both", "cells" if lent is None else "records")
+        if why in ("buffer", "both"):
+            buffer = self.pick(0, most + 1, most + 1, WRAP - 1)
+        elif why == "cells":
+            # What an accepted count would bear, so that it is the count that is refused.
+            buffer = self.pick(1, LEAST_CELLS, buffer)
+        if why in ("cells", "both"):
+            cells = self.random.choice(BAD_CELLS)
+        self.fresh(self.number(), buffer, cells)
+
+    def wrong_length(self, name):
+        """A length that the store, or the record space, must not be lent with: next to the right one, or right at another cell count."""
+        right = self.end.length_of(name)
+        unit = right // self.end.cells
+        others = (LEAST_CELLS * unit, self.random.choice(CELL_COUNTS) * unit, MOST_CELLS * unit)
+        lengths = (0, 1, right - 1, right + 1, right // 2, right * 2, self.end.cells, *others, MOST_LENT[name])
+        return self.random.choice([length for length in lengths if length != right and length <= MOST_LENT[name]])
+
     def step_lend(self):
-        name = self.pick("sent", "received")
-        self.call("lend", name, self.pick(0, 1, STORE - 1, STORE + 1))
+        """One of the three with a wrong length, over some calls and, at times, over a refused fresh, which leaves it so."""
+        name = self.pick("sent", "received", "records")
+        self.call("lend", name, self.wrong_length(name))
+        steps = (self.step_send, self.step_receive, self.step_show, self.step_receive_again, self.step_take, self.step_ack, self.step_deadline)
         for _ in range(1 + self.below(4)):
-            names = ("step_send", "step_receive", "step_show", "step_receive_again", "step_take", "step_ack", "step_deadline")
-            getattr(self, self.random.choice(names))()
-        self.call("lend", name, STORE)
+            self.random.choice(steps)()
+        if self.chance(0.4):
+            self.refused_fresh()
+            self.random.choice(steps[:5])()
+        self.call("lend", name, self.end.length_of(name))
 
     def step_wrong_slot(self):
         slot = self.pick(*[slot for slot in range(12) if slot not in self.live()], 255)
@@ -637,7 +793,7 @@ class Script:
         number = self.near(self.end.tx - 1)
         self.call(
             *self.pick(
-                ("remove", slot) if slot >= CELLS or slot not in self.live() else ("ping", slot, time),
+                ("remove", slot) if slot not in self.live() else ("ping", slot, time),
                 ("confirm", slot),
                 ("unconfirm", slot) if slot not in self.live() else ("pong", slot, time),
                 ("block", slot, 1),
@@ -658,6 +814,42 @@ class Script:
         self.call(self.random.choice(JUNK))
 
 
+class Full(Script):
+    """A script that fills the receive table to its last cell, over and over, and takes what was filled: at times in any order and the next
+    expected message last, so that all become ready at once; at times one after the other."""
+
+    def begin(self):
+        self.cells = self.cells or LEAST_CELLS
+        self.start = self.pick(0, WRAP - self.below(self.cells), self.below(WRAP)) % WRAP
+        self.style = "small"
+        self.fresh(self.start, self.cells * MOST_DATA, self.cells)
+        for identity in range(4):
+            self.call("add", identity, 0, "-", 0, 0)
+
+    def mood(self):
+        first = self.end.rx
+        numbers = [first + n for n in range(self.cells)]
+        if self.chance(0.7):
+            behind = numbers[1:]
+            self.random.shuffle(behind)
+            numbers = [*behind, first]
+        few = self.chance(0.3)
+        for number in numbers:
+            self.arrive(number, self.pick(CONSUMED, RECEIVE_CLOSE) if few and self.chance(0.98) else None)
+        self.edge()
+        for _ in range(len(self.end.ready)):
+            self.call("take")
+            if self.chance(0.02):
+                self.call("show")
+                self.edge()
+        self.call("take")
+
+    def edge(self):
+        """Past the window's last cell, and at times in it."""
+        for past in self.random.sample((-1, 0, 1), self.pick(1, 2)):
+            self.arrive(self.end.oldest() + self.cells + past)
+
+
 class Trips:
     """A script of round trips and elapsed times of every size up to 2^56, each pair with both formulas' near edges."""
 
@@ -666,6 +858,7 @@ class Trips:
         self.deadlines = collections.Counter()
         self.dues = collections.Counter()
         self.fars = collections.Counter()
+        self.tables = collections.Counter()
         self.far_marks = []
         self.lines = []
         while len(self.lines) + 5 <= calls:
@@ -680,9 +873,11 @@ class Trips:
         return min(self.random.randrange(2 ** self.random.randrange(1, 58)), MOST_TIME)
 
 
-def script(mode, seed, calls):
-    """A script of that mode: near, far, marks, or trips."""
-    return Trips(seed, calls) if mode == "trips" else Script(seed, calls, MODES[mode])
+def script(mode, seed, calls, cells=None):
+    """A script of that mode: near, far, marks, full, or trips, which has one size. Each accepted fresh has these cells, or what its seed gives."""
+    if mode == "trips":
+        return Trips(seed, calls)
+    return Full(seed, calls, cells=cells) if mode == "full" else Script(seed, calls, MODES[mode], cells)
 
 
 # Lines that are no calls.
@@ -726,11 +921,19 @@ JUNK = (
     "remove",
     "remove 0 0",
     "lend sent 65538",
+    "lend received 67108866",
+    "lend records 65538",
+    "lend records 4294967296",
+    "lend record 64",
     "lend kept 65536",
     "lend sent",
     "fresh 0",
     "fresh 4294967296 1",
     "fresh 0 4294967296",
+    "fresh 0 1 4294967296",
+    "fresh 0 1 -",
+    "fresh 0 1 064",
+    "fresh 0 1 64 64",
     "read",
     "read 0",
     "read xx",

@@ -1,5 +1,5 @@
 #!/usr/bin/env python3
-"""Document 01 and requests [1], [4], [5], [9] and [11] of 02 as a model: answers the scripted calls of CALLS.md. Written from these papers alone.
+"""Document 01 and requests [1], [4], [5], [8], [9] and [11] of 02 as a model: answers the scripted calls of CALLS.md. Written from these papers alone.
 
     python3 oracle/model.py < SCRIPT
     python3 oracle/model.py --sound < SCRIPT     also asks after every call that the state is sound
@@ -7,6 +7,7 @@
 Nothing here is taken from the crates or from the original; oracle/compare holds all three against each other.
 """
 
+import collections
 import re
 import sys
 
@@ -17,11 +18,12 @@ MOST_FACTOR = 1000
 TOO_LARGE = 2**64
 SLOTS = 8
 PACKETS = 64
-CELLS = 64
 ACKS = 64
 MOST_DATA = 1024
-STORE = CELLS * MOST_DATA
-MOST_BUFFER = 65536
+SENT_STORE = PACKETS * MOST_DATA
+# 64 cells times a power of two, up to 65,536 (02, [8]).
+CELL_COUNTS = tuple(64 * 2**n for n in range(11))
+LEAST_CELLS, MOST_CELLS = CELL_COUNTS[0], CELL_COUNTS[-1]
 USABLE_INTERVAL = 65536
 # From here on, either way, two numbers are far from each other.
 FAR = 2**30
@@ -113,11 +115,14 @@ class Message:
 
 
 class End:
-    """A state with its two stores."""
+    """A state with its two stores. What a record says of a cell is the message that is ready or held there."""
 
-    def __init__(self, start, buffer):
-        if not 1 <= buffer <= MOST_BUFFER:
+    def __init__(self, start, buffer, cells, records):
+        if cells not in CELL_COUNTS or not 1 <= buffer <= cells * MOST_DATA:
             raise Refused(21)
+        if records != cells:
+            raise Refused(2)
+        self.cells = cells
         self.links = [None] * SLOTS
         self.tx = start
         self.packets = []
@@ -130,20 +135,26 @@ class End:
         self.closed = False
         self.open = True
         self.rx = start
-        self.ready = []
+        self.ready = collections.deque()
         self.held = {}
         self.untaken = 0
         self.untold = 0
         self.buffer = buffer
         self.time = 0
-        self.sent = bytearray(STORE)
-        self.kept = bytearray(STORE)
-        self.lent = {"sent": STORE, "received": STORE}
+        self.sent = bytearray(SENT_STORE)
+        # The received store by its cells, each from its first use on: the largest store has 64 MiB.
+        self.kept = {}
+        # The lengths that a `lend` has set; all else is lent as it must be.
+        self.lent = {}
 
     # What several calls ask.
 
-    def need_store(self, name):
-        if self.lent[name] != STORE:
+    def length_of(self, name):
+        """The length that a store, or the record space, must be lent with."""
+        return {"sent": SENT_STORE, "received": self.cells * MOST_DATA, "records": self.cells}[name]
+
+    def need_lent(self, *names):
+        if any(self.lent.get(name, self.length_of(name)) != self.length_of(name) for name in names):
             raise Refused(2)
 
     def need_time(self, time):
@@ -225,7 +236,7 @@ class End:
     # Sending.
 
     def send(self, slot, time, kind, count, data):
-        self.need_store("sent")
+        self.need_lent("sent")
         self.need_time(time)
         link = self.live(slot)
         self.need_data(kind, data)
@@ -239,7 +250,7 @@ class End:
         if len(self.packets) == PACKETS:
             raise Refused(10)
         number = self.tx
-        at = number % CELLS * MOST_DATA
+        at = number % PACKETS * MOST_DATA
         self.sent[at : at + length] = data
         self.packets.append(Packet(number, slot, link.identity, time, kind, count, length))
         self.tx = (number + 1) % WRAP
@@ -352,7 +363,7 @@ class End:
     # Receiving and handing out.
 
     def receive(self, slot, kind, number, count, data):
-        self.need_store("received")
+        self.need_lent("received", "records")
         link = self.live(slot)
         self.need_data(kind, data)
         length = len(data)
@@ -360,7 +371,7 @@ class End:
         new = offset >= 0 and number not in self.held
         if new and offset > USABLE_INTERVAL:
             raise Refused(11)
-        if new and not is_past(number, self.oldest(), 0, CELLS - 1):
+        if new and not is_past(number, self.oldest(), 0, self.cells - 1):
             raise Refused(12)
         if len(link.acks) == ACKS:
             raise Refused(13)
@@ -371,8 +382,7 @@ class End:
         link.acks.append(number)
         if not new:
             return
-        at = number % CELLS * MOST_DATA
-        self.kept[at : at + length] = data
+        self.kept.setdefault(number % self.cells, bytearray(MOST_DATA))[:length] = data
         self.held[number] = Message(number, kind, count, length)
         if kind == DATA:
             self.untaken += length
@@ -389,12 +399,13 @@ class End:
             self.rx = (self.rx + 1) % WRAP
 
     def show(self):
-        self.need_store("received")
+        self.need_lent("received", "records")
         if not self.ready:
             raise Refused(19)
         return self.kept_bytes(self.ready[0])
 
     def take(self):
+        self.need_lent("records")
         if not self.ready:
             raise Refused(19)
         message = self.ready[0]
@@ -403,7 +414,7 @@ class End:
                 raise Refused(9)
             self.untaken -= message.length
             self.untold += message.length
-        return self.ready.pop(0)
+        return self.ready.popleft()
 
     def take_ack(self, slot):
         link = self.live(slot)
@@ -423,19 +434,22 @@ class End:
     # What is shown.
 
     def sent_bytes(self, packet):
-        at = packet.number % CELLS * MOST_DATA
+        at = packet.number % PACKETS * MOST_DATA
         return self.sent[at : at + packet.length]
 
     def kept_bytes(self, message):
-        at = message.number % CELLS * MOST_DATA
-        return self.kept[at : at + message.length]
+        return self.kept[message.number % self.cells][: message.length]
+
+    def messages(self):
+        """The ready messages, oldest first, and then the held ones in the order of their numbers."""
+        return [*self.ready, *self.held_in_order()]
 
     def held_in_order(self):
         return [self.held[n] for n in sorted(self.held, key=lambda n: distance(n, self.rx))]
 
     def dump(self):
         out = [
-            "end %d %d %d %d %d %d %d %d %d %d %d %d %d"
+            "end %d %d %d %d %d %d %d %d %d %d %d %d %d %d"
             % (
                 self.tx,
                 self.unacked,
@@ -450,6 +464,7 @@ class End:
                 self.buffer,
                 self.time,
                 self.open,
+                self.cells,
             )
         ]
         for slot, link in enumerate(self.links):
@@ -478,15 +493,14 @@ class End:
             out.append("packet %d %s %s" % (p.number, p.status, what))
         if self.queue:
             out.append(" ".join(["queue", *map(str, self.queue)]))
-        held = self.held_in_order()
         out += ["ready %d %d %d" % (m.number, m.kind, m.length) for m in self.ready]
-        out += ["held %d %d %d %d" % (m.number, m.kind, m.count, m.length) for m in held]
+        out += ["held %d %d %d %d" % (m.number, m.kind, m.count, m.length) for m in self.held_in_order()]
         for p in self.packets:
             if p.status != RECEIVED and p.length:
-                out.append("sent %d %s" % (p.number % CELLS, self.sent_bytes(p).hex()))
-        for m in self.ready + held:
+                out.append("sent %d %s" % (p.number % PACKETS, self.sent_bytes(p).hex()))
+        for m in self.messages():
             if m.length:
-                out.append("kept %d %s" % (m.number % CELLS, self.kept_bytes(m).hex()))
+                out.append("kept %d %s" % (m.number % self.cells, self.kept_bytes(m).hex()))
         return out
 
     def sound(self):
@@ -496,7 +510,7 @@ class End:
         received = [p for p in self.packets if p.status == RECEIVED]
         live = [(slot, link) for slot, link in enumerate(self.links) if link]
         identities = [link.identity for _, link in live]
-        messages = self.ready + list(self.held.values())
+        messages = self.messages()
         since = [distance(m.number, self.oldest()) for m in self.ready]
         times = [p.time for p in sent] + [p.flushed for p in sent if p.flushed is not None]
         times += [link.ping for _, link in live if link.ping is not None]
@@ -512,10 +526,10 @@ class End:
             and self.untaken == sum(m.length for m in messages if m.kind == DATA) <= self.buffer
             and len(set(identities)) == len(identities)
             and all(m.kind in (DATA, SEND_FINISH) and before(m.number, self.rx) for m in self.ready)
-            and all(is_past(m.number, self.oldest(), 0, CELLS - 1) for m in messages)
+            and all(is_past(m.number, self.oldest(), 0, self.cells - 1) for m in messages)
             and since == sorted(set(since))
             and all(before(self.rx, number) for number in self.held)
-            and is_past(self.rx, self.oldest(), 0, CELLS)
+            and is_past(self.rx, self.oldest(), 0, self.cells)
             and all(time <= self.time for time in times)
             and len(self.packets) <= PACKETS
             and all(len(link.acks) <= ACKS and link.roundtrip <= MOST_TIME for _, link in live)
@@ -523,6 +537,8 @@ class End:
             and all(p.length <= MOST_DATA for p in self.packets)
             and all(m.length <= MOST_DATA for m in messages)
             and self.time <= MOST_TIME
+            and self.cells in CELL_COUNTS
+            and 1 <= self.buffer <= self.cells * MOST_DATA
         )
 
 
@@ -580,7 +596,8 @@ def write_message(room, message):
 # The words of a line.
 
 MOST_BYTES = 2048
-MOST_LENT = STORE + 1
+# One more than the longest that is right.
+MOST_LENT = {"sent": SENT_STORE + 1, "received": MOST_CELLS * MOST_DATA + 1, "records": MOST_CELLS + 1}
 PLAIN = re.compile(r"0|[1-9][0-9]{0,19}").fullmatch
 HEX = re.compile(r"(?:[0-9a-f]{2})+").fullmatch
 
@@ -619,8 +636,8 @@ def reliable(kind):
     return kind
 
 
-def store(word):
-    if word not in ("sent", "received"):
+def lendable(word):
+    if word not in MOST_LENT:
         raise NotACall
     return word
 
@@ -637,7 +654,7 @@ WORDS.update({kind: [] for kind in HANDSHAKES + ALONE})
 WORDS.update({REFUSED: [reason], CONSUMED: [u32, u32], TEST_DATA: [u32], SET_BLOCK: [flag]})
 
 CALLS = {
-    "fresh": [u32, u32],
+    "fresh": [u32, u32, u32],
     "add": [u64, u64, time_or_none, flag, flag],
     "remove": [u8],
     "confirm": [u8],
@@ -660,7 +677,7 @@ CALLS = {
     "slow": [number_below(SLOTS + 2)],
     "dump": [],
     "read": [data],
-    "lend": [store, number_below(MOST_LENT + 1)],
+    "lend": [lendable, u32],
 }
 STATELESS = ("fresh", "read", "write")
 
@@ -674,6 +691,8 @@ def parse(line):
         return name, [number_below(MOST_BYTES + 1)(words[0]), parse_message(words[1:])]
     if name == "slow" and not words:
         words = [str(SLOTS)]
+    if name == "fresh" and len(words) == 2:
+        words.append(str(LEAST_CELLS))
     types = CALLS.get(name)
     if types is None or len(types) != len(words):
         raise NotACall
@@ -681,6 +700,8 @@ def parse(line):
     if name == "send" and args[2] != CONSUMED and args[3] != 0:
         raise NotACall
     if name == "receive" and args[1] != CONSUMED and args[3] != 0:
+        raise NotACall
+    if name == "lend" and args[1] > MOST_LENT[args[0]]:
         raise NotACall
     return name, args
 
@@ -722,7 +743,8 @@ class Model:
         """What stands after the 0, each part with what parts it from the one before."""
         end = self.end
         if name == "fresh":
-            self.end = End(*args)
+            start, buffer, cells = args
+            self.end = End(start, buffer, cells, end.lent.get("records", cells) if end else cells)
         elif name == "lend":
             end.lent[args[0]] = args[1]
         elif name == "read":

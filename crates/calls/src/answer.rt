@@ -2,7 +2,6 @@
 use crate::out;
 use crate::out::Buffer;
 use engine::AddAnswer;
-use engine::CELLS;
 use engine::ConfirmTimeout;
 use engine::DATA_BYTES;
 use engine::Due;
@@ -18,10 +17,8 @@ use msg::ReliableMsg;
 use refusal::Refusal;
 use seq::Seq;
 
-// Number n uses cell n mod this of the sent store, and of the received one.
+// Number n uses cell n mod this of the sent store.
 pub const PACKET_ROUND: u32 = PACKETS as u32;
-
-pub const CELL_ROUND: u32 = CELLS as u32;
 
 // The answer to what is not a call of the table.
 pub fn unknown(out: &mut Buffer, at: usize) -> usize {

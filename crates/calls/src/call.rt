@@ -12,7 +12,9 @@ use crate::words::Limit;
 use crate::words::Number;
 use crate::words::Words;
 use crate::words::word;
-use engine::RECEIVED_BYTES;
+use engine::DATA_BYTES;
+use engine::LEAST_CELLS;
+use engine::MOST_CELLS;
 use engine::SENT_BYTES;
 use engine::SLOTS;
 use link::AckTimeout;
@@ -33,7 +35,6 @@ pub enum Plain {
     Pong(u8, u64),
     Mark(u8, u32),
     Ack(u8, u64, u32),
-    Take,
     TakeAck(u8),
     Due,
     Close,
@@ -42,20 +43,22 @@ pub enum Plain {
     Slow(usize),
     LendSent(usize),
     LendReceived(usize),
+    LendRecords(usize),
 }
 
-// A call on a state and its stores. Of `send` and `receive` the bytes are in the payload buffer, and the call says how many.
+// A call on a state and its stores, the records among them. Of `send` and `receive` the bytes are in the payload buffer, and the call says how many.
 pub enum Stored {
     Send(u8, u64, ReliableMsg, usize),
     Resend(u8, u64, u32),
     Receive(u8, ReliableMsg, u32, usize),
     Show,
+    Take,
     Dump,
 }
 
 // A call of the table; of `read` the bytes are in the payload buffer too.
 pub enum Call {
-    Fresh(u32, u32),
+    Fresh(u32, u32, u32),
     Read(usize),
     Write(usize, LinkMsg),
     OnState(Plain),
@@ -71,17 +74,19 @@ enum Settings {
 // The bytes that `write` may have room for.
 const MOST_ROOM: u64 = 2048;
 
-// The lengths that the stores may be lent with: up to a byte more than the engine takes.
+// The lengths that the stores and the records may be lent with: up to one more than the engine takes at the most cells.
 pub const MOST_SENT_LENT: usize = SENT_BYTES + 1;
 
-pub const MOST_RECEIVED_LENT: usize = RECEIVED_BYTES + 1;
+pub const MOST_RECEIVED_LENT: usize = MOST_CELLS as usize * DATA_BYTES + 1;
+
+pub const MOST_RECORDS_LENT: usize = MOST_CELLS as usize + 1;
 
 fn alone(name: &[u8]) -> Call {
     if check::same(name, b"show") {
         return Call::OnStores(Stored::Show);
     }
     if check::same(name, b"take") {
-        return Call::OnState(Plain::Take);
+        return Call::OnStores(Stored::Take);
     }
     if check::same(name, b"due") {
         return Call::OnState(Plain::Due);
@@ -142,14 +147,21 @@ fn short(name: &[u8], a: &[u8], payload: &mut [u8]) -> Call {
     }
 }
 
-fn fresh(a: &[u8], b: &[u8]) -> Call {
+fn fresh(a: &[u8], b: &[u8], cells: u32) -> Call {
     let Number::Is(start) = words::number_of(a) else {
         return Call::Unknown;
     };
     let Number::Is(buffer) = words::number_of(b) else {
         return Call::Unknown;
     };
-    Call::Fresh(start, buffer)
+    Call::Fresh(start, buffer, cells)
+}
+
+fn fresh_of_cells(a: &[u8], b: &[u8], c: &[u8]) -> Call {
+    match words::number_of(c) {
+        Number::Is(cells) => fresh(a, b, cells),
+        Number::Bad => Call::Unknown,
+    }
 }
 
 fn lend_sent(length: &[u8]) -> Call {
@@ -166,12 +178,22 @@ fn lend_received(length: &[u8]) -> Call {
     }
 }
 
+fn lend_records(length: &[u8]) -> Call {
+    match text::read_decimal(length, MOST_RECORDS_LENT as u64) {
+        Decimal::Number(n) => Call::OnState(Plain::LendRecords(n as usize)),
+        Decimal::Bad => Call::Unknown,
+    }
+}
+
 fn lend(store: &[u8], length: &[u8]) -> Call {
     if check::same(store, b"sent") {
         return lend_sent(length);
     }
     if check::same(store, b"received") {
         return lend_received(length);
+    }
+    if check::same(store, b"records") {
+        return lend_records(length);
     }
     Call::Unknown
 }
@@ -219,7 +241,7 @@ fn slotted_pair(name: &[u8], slot: u8, b: &[u8]) -> Call {
 // A call of three words, other than `write`.
 fn pair(name: &[u8], a: &[u8], b: &[u8]) -> Call {
     if check::same(name, b"fresh") {
-        return fresh(a, b);
+        return fresh(a, b, LEAST_CELLS);
     }
     if check::same(name, b"lend") {
         return lend(a, b);
@@ -230,7 +252,7 @@ fn pair(name: &[u8], a: &[u8], b: &[u8]) -> Call {
     }
 }
 
-// A call of four words, other than `write`.
+// A call of four words that has a slot, a time and a number.
 fn timed_number(name: &[u8], a: &[u8], b: &[u8], c: &[u8]) -> Call {
     let Byte::Is(slot) = words::byte_of(a) else {
         return Call::Unknown;
@@ -248,6 +270,14 @@ fn timed_number(name: &[u8], a: &[u8], b: &[u8], c: &[u8]) -> Call {
         return Call::OnStores(Stored::Resend(slot, time, n));
     }
     Call::Unknown
+}
+
+// A call of four words, other than `write`.
+fn triple(name: &[u8], a: &[u8], b: &[u8], c: &[u8]) -> Call {
+    if check::same(name, b"fresh") {
+        return fresh_of_cells(a, b, c);
+    }
+    timed_number(name, a, b, c)
 }
 
 fn add_flags(id: u64, trip: u64, max: MaxPing, d: &[u8], e: &[u8]) -> Call {
@@ -396,7 +426,7 @@ pub fn parse(line: &[u8], payload: &mut [u8]) -> Call {
         1 => alone(name),
         2 => short(name, a, payload),
         3 => pair(name, a, b),
-        4 => timed_number(name, a, b, word(line, w, 3)),
+        4 => triple(name, a, b, word(line, w, 3)),
         6 => long(name, line, w, payload),
         7 => deadline(name, line, w),
         _ => Call::Unknown,

@@ -1,6 +1,5 @@
 // The lines of `dump`.
 use crate::answer;
-use crate::answer::CELL_ROUND;
 use crate::answer::PACKET_ROUND;
 use crate::out;
 use crate::out::Buffer;
@@ -37,8 +36,8 @@ fn seq(out: &mut Buffer, at: usize, seq: Seq) -> usize {
     out::next(out, at, seq.0 as u64)
 }
 
-fn total(out: &mut Buffer, at: usize, bytes: u32) -> usize {
-    out::next(out, at, bytes as u64)
+fn total(out: &mut Buffer, at: usize, n: u32) -> usize {
+    out::next(out, at, n as u64)
 }
 
 // The sending half's part of the first line.
@@ -68,7 +67,8 @@ fn first_line(out: &mut Buffer, at: usize, s: State) -> usize {
     let c = receiving(out, b, rx);
     let d = out::next(out, c, s.time);
     let e = flag(out, d, s.read_open);
-    out::end(out, e)
+    let f = total(out, e, rx.cells);
+    out::end(out, f)
 }
 
 fn max_ping(out: &mut Buffer, at: usize, max: MaxPing) -> usize {
@@ -252,16 +252,38 @@ fn waiting(out: &mut Buffer, at: usize, n: Seq, held_here: Held, is_ready: bool)
     }
 }
 
-// The receive cells from the oldest number on: first the ready messages, then the held ones.
-fn cells(out: &mut Buffer, at: usize, rx: Receiving) -> usize {
+// How many cells are in use. A sound state has no more than it has cells.
+fn in_use(rx: Receiving) -> u32 {
+    let used = rx.rx_end.past(rx.rx_oldest);
+    if used <= rx.cells { used } else { 0 }
+}
+
+// The number's cell of so many. A state with none is not reached.
+fn cell_of(n: Seq, cells: u32) -> u32 {
+    if cells == 0 {
+        return 0;
+    }
+    n.0 % cells
+}
+
+// What the number's record says.
+fn held_at(n: Seq, cells: u32, records: &[u64]) -> Held {
+    let i = cell_of(n, cells) as usize;
+    if i < records.len() {
+        return engine::held_of(records[i]);
+    }
+    Held::Nothing
+}
+
+// The cells in use, from the oldest number on: first the ready messages, then the held ones.
+fn cells(out: &mut Buffer, at: usize, rx: Receiving, records: &[u64]) -> usize {
     let mut end = at;
     let mut n = rx.rx_oldest;
     let mut k: u32 = 0;
+    let used = in_use(rx);
     let expected = rx.rx_seq.past(rx.rx_oldest);
-    while k < CELL_ROUND {
-        let i = (n.0 % CELL_ROUND) as usize;
-        let cell = rx.rxed_reliable[i];
-        let held_here = cell.held;
+    while k < used {
+        let held_here = held_at(n, rx.cells, records);
         end = waiting(out, end, n, held_here, k < expected);
         n = n.add(1);
         k += 1;
@@ -302,29 +324,35 @@ fn sent_cells(out: &mut Buffer, at: usize, tx: Sending, store: &[u8]) -> usize {
     end
 }
 
-fn kept_cell(out: &mut Buffer, at: usize, n: Seq, held_here: Held, store: &[u8]) -> usize {
+fn kept_cell(out: &mut Buffer, at: usize, cell: u32, held_here: Held, store: &[u8]) -> usize {
     match held_here {
         Held::Nothing => at,
-        Held::Message(_, len) => cell_bytes(out, at, b"kept", store, n.0 % CELL_ROUND, len),
+        Held::Message(_, len) => cell_bytes(out, at, b"kept", store, cell, len),
     }
 }
 
-fn kept_cells(out: &mut Buffer, at: usize, rx: Receiving, store: &[u8]) -> usize {
+fn kept_cells(out: &mut Buffer, at: usize, rx: Receiving, store: &[u8], records: &[u64]) -> usize {
     let mut end = at;
     let mut n = rx.rx_oldest;
     let mut k: u32 = 0;
-    while k < CELL_ROUND {
-        let i = (n.0 % CELL_ROUND) as usize;
-        let cell = rx.rxed_reliable[i];
-        let held_here = cell.held;
-        end = kept_cell(out, end, n, held_here, store);
+    let used = in_use(rx);
+    while k < used {
+        let held_here = held_at(n, rx.cells, records);
+        end = kept_cell(out, end, cell_of(n, rx.cells), held_here, store);
         n = n.add(1);
         k += 1;
     }
     end
 }
 
-pub fn all(out: &mut Buffer, at: usize, s: State, sent: &[u8], received: &[u8]) -> usize {
+pub fn all(
+    out: &mut Buffer,
+    at: usize,
+    s: State,
+    sent: &[u8],
+    received: &[u8],
+    records: &[u64],
+) -> usize {
     let rows = s.links;
     let tx = s.tx;
     let rx = s.rx;
@@ -333,8 +361,8 @@ pub fn all(out: &mut Buffer, at: usize, s: State, sent: &[u8], received: &[u8]) 
     let c = links(out, b, rows);
     let d = packets(out, c, tx);
     let e = queue(out, d, tx);
-    let f = cells(out, e, rx);
+    let f = cells(out, e, rx, records);
     let g = sent_cells(out, f, tx, sent);
-    let h = kept_cells(out, g, rx, received);
+    let h = kept_cells(out, g, rx, received, records);
     out::put(out, h, b".\n")
 }

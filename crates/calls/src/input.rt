@@ -4,9 +4,8 @@ use crate::out;
 use crate::out::Buffer;
 use crate::run;
 use crate::run::Payload;
-use crate::run::ReceivedStore;
+use crate::run::Records;
 use crate::run::SentStore;
-use crate::session;
 use crate::session::Session;
 use crate::words::first;
 use libc::STDIN_FILENO;
@@ -24,11 +23,12 @@ fn answer(
     line: &[u8],
     payload: &mut Payload,
     sent: &mut SentStore,
-    received: &mut ReceivedStore,
+    received: &mut [u8],
+    records: &mut Records,
     out: &mut Buffer,
 ) -> Session {
     let called = call::parse(line, payload);
-    run::run(s, called, payload, sent, received, out)
+    run::run(s, called, payload, sent, received, records, out)
 }
 
 // The present line is whole.
@@ -37,7 +37,8 @@ fn end_line(
     line: &[u8],
     payload: &mut Payload,
     sent: &mut SentStore,
-    received: &mut ReceivedStore,
+    received: &mut [u8],
+    records: &mut Records,
     out: &mut Buffer,
 ) -> Session {
     let kept = s.kept;
@@ -45,7 +46,15 @@ fn end_line(
     if s.is_long {
         return run::unknown(next, out);
     }
-    answer(next, first(line, kept), payload, sent, received, out)
+    answer(
+        next,
+        first(line, kept),
+        payload,
+        sent,
+        received,
+        records,
+        out,
+    )
 }
 
 // Keeps a part of the present line.
@@ -73,47 +82,56 @@ fn pass(
     line: &mut Line,
     payload: &mut Payload,
     sent: &mut SentStore,
-    received: &mut ReceivedStore,
+    received: &mut [u8],
+    records: &mut Records,
     out: &mut Buffer,
 ) -> Session
     requires { ⌜ (at ≤ end) × (end ≤ length (now piece)) ⌝ }
 {
     let kept = keep(s, &piece[at..end], line);
     if end < piece.len() {
-        return end_line(kept, line, payload, sent, received, out);
+        return end_line(kept, line, payload, sent, received, records, out);
     }
     kept
 }
 
+// Answers the rest of a piece, up to its end or to a `fresh` that asks for more cells than there is room for.
 fn lines(
     s: Session,
     piece: &[u8],
     line: &mut Line,
     payload: &mut Payload,
     sent: &mut SentStore,
-    received: &mut ReceivedStore,
+    received: &mut [u8],
+    records: &mut Records,
     out: &mut Buffer,
 ) -> Session {
     let mut next = s;
-    let mut at: usize = 0;
+    let mut at = s.from;
     while at < piece.len() {
+        if next.has_outgrown(received.len()) {
+            return next.answered_to(at);
+        }
         let end = bytes::scan::find(piece, at, piece.len(), b'\n');
-        next = pass(next, piece, at, end, line, payload, sent, received, out);
+        next = pass(
+            next,
+            piece,
+            at,
+            end,
+            line,
+            payload,
+            sent,
+            received,
+            records,
+            out,
+        );
         at = end + 1;
     }
-    next
+    next.answered_to(at)
 }
 
 // Writes out the answers to what was read, so that whoever asks has them before more is read, and reads once.
-fn read_on(
-    s: Session,
-    input: &mut Piece,
-    line: &mut Line,
-    payload: &mut Payload,
-    sent: &mut SentStore,
-    received: &mut ReceivedStore,
-    out: &mut Buffer,
-) -> Session {
+fn read_on(s: Session, input: &mut Piece, out: &mut Buffer) -> Session {
     if !out::write_out(out, s.at) {
         return s.cut_off();
     }
@@ -126,30 +144,60 @@ fn read_on(
     if got == 0 {
         return told.at_end();
     }
-    let n = io::count(got, input);
-    lines(told, first(input, n), line, payload, sent, received, out)
+    told.on_piece(io::count(got, input))
 }
 
-// Reads to the end of the input. A proved loop has to end, and nothing says that the input does, so that the turns are
-// counted down from a number that no run uses up.
-fn read_all(
+// Answers what was read, or, where that is done, reads on.
+fn turn(
+    s: Session,
     input: &mut Piece,
     line: &mut Line,
     payload: &mut Payload,
     sent: &mut SentStore,
-    received: &mut ReceivedStore,
+    received: &mut [u8],
+    records: &mut Records,
     out: &mut Buffer,
 ) -> Session {
-    let mut s = session::start();
+    if s.upto <= s.from {
+        return read_on(s, input, out);
+    }
+    lines(
+        s,
+        first(input, s.upto),
+        line,
+        payload,
+        sent,
+        received,
+        records,
+        out,
+    )
+}
+
+// Reads to the end of the input, or to a `fresh` that asks for more cells than there is room for. A proved loop has to end, and
+// nothing says that the input does, so that the turns are counted down from a number that no run uses up.
+fn read_all(
+    s: Session,
+    input: &mut Piece,
+    line: &mut Line,
+    payload: &mut Payload,
+    sent: &mut SentStore,
+    received: &mut [u8],
+    records: &mut Records,
+    out: &mut Buffer,
+) -> Session {
+    let mut next = s;
     let mut turns = u64::MAX;
     while 0 < turns {
-        if !s.is_open {
-            return s;
+        if !next.is_open {
+            return next;
         }
-        s = read_on(s, input, line, payload, sent, received, out);
+        if next.has_outgrown(received.len()) {
+            return next;
+        }
+        next = turn(next, input, line, payload, sent, received, records, out);
         turns -= 1;
     }
-    s
+    next
 }
 
 // A last line counts without a line feed too.
@@ -158,25 +206,30 @@ fn last_line(
     line: &mut Line,
     payload: &mut Payload,
     sent: &mut SentStore,
-    received: &mut ReceivedStore,
+    received: &mut [u8],
+    records: &mut Records,
     out: &mut Buffer,
 ) -> Session {
     if s.kept == 0 && !s.is_long {
         return s;
     }
-    end_line(s, line, payload, sent, received, out)
+    end_line(s, line, payload, sent, received, records, out)
 }
 
-// Answers every line of standard input.
-pub fn script(
+// Answers every line, to the end of the input or, with more to read then, to a `fresh` that asks for more cells than there is room for.
+pub fn answer_all(
+    s: Session,
     input: &mut Piece,
     line: &mut Line,
     payload: &mut Payload,
     sent: &mut SentStore,
-    received: &mut ReceivedStore,
+    received: &mut [u8],
+    records: &mut Records,
     out: &mut Buffer,
-) {
-    let s = read_all(input, line, payload, sent, received, out);
-    let end = last_line(s, line, payload, sent, received, out);
-    out::flush(out, end.at);
+) -> Session {
+    let end = read_all(s, input, line, payload, sent, received, records, out);
+    if end.is_open {
+        return end;
+    }
+    last_line(end, line, payload, sent, received, records, out)
 }

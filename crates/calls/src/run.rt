@@ -1,11 +1,13 @@
 // Runs each call, and prints what it answers.
 use crate::answer;
 use crate::call::Call;
-use crate::call::MOST_RECEIVED_LENT;
+use crate::call::MOST_RECORDS_LENT;
 use crate::call::MOST_SENT_LENT;
 use crate::call::Plain;
 use crate::call::Stored;
 use crate::dump;
+use crate::lending;
+use crate::lending::within;
 use crate::message;
 use crate::out;
 use crate::out::Buffer;
@@ -13,6 +15,7 @@ use crate::rows;
 use crate::session::Session;
 use crate::words::first;
 use engine::Changed;
+use engine::DATA_BYTES;
 use engine::Outcome;
 use link::AckTimeout;
 use link::MaxPing;
@@ -22,10 +25,10 @@ use msg::ReliableMsg;
 use msg::Written;
 use seq::Seq;
 
-// The stores, each with the byte more that may be lent.
+// The sent store and the records, each with the one more that may be lent. The received store has room for the cells of the state.
 pub type SentStore = [u8; MOST_SENT_LENT];
 
-pub type ReceivedStore = [u8; MOST_RECEIVED_LENT];
+pub type Records = [u64; MOST_RECORDS_LENT];
 
 // The bytes of a call, and the buffer that `write` writes to.
 pub type Payload = [u8; 2048];
@@ -45,24 +48,37 @@ fn changed(s: Session, result: Changed, out: &mut Buffer) -> Session {
     s.with(state, at)
 }
 
-// An accepted `fresh` starts over with stores of zero bytes.
+// How many records a `fresh` is lent: as many as it asks for, unless a `lend` said how many. Where it asks for more than there are, it is
+// lent all, and refused before they are counted.
+fn lent_to_fresh(s: Session, cells: u32) -> usize {
+    if s.are_records_set {
+        s.records
+    } else {
+        cells as usize
+    }
+}
+
+// An accepted `fresh` starts over with stores of zero bytes: of the received one, the bytes of its cells.
 fn fresh(
     s: Session,
     start: u32,
     buffer: u32,
+    cells: u32,
     sent: &mut SentStore,
-    received: &mut ReceivedStore,
+    received: &mut [u8],
+    records: &mut [u64],
     out: &mut Buffer,
 ) -> Session {
-    let result = engine::fresh(Seq(start), buffer);
+    let count = within(lent_to_fresh(s, cells), records.len());
+    let result = engine::fresh(Seq(start), buffer, cells, &mut records[0..count]);
     let outcome = result.outcome;
     let state = result.state;
     let at = answer::outcome(out, s.at, outcome);
     match outcome {
         Outcome::Done => {
             *sent = [0; MOST_SENT_LENT];
-            *received = [0; MOST_RECEIVED_LENT];
-            s.over(state, at)
+            lending::clear_first(received, cells as usize * DATA_BYTES);
+            s.over(state, cells, at)
         }
         Outcome::No(_) => s.to(at),
     }
@@ -139,11 +155,8 @@ fn send(
     sent: &mut [u8],
     out: &mut Buffer,
 ) -> Session {
-    let lent = s.sent;
+    let lent = within(s.sent, sent.len());
     let before = s.state;
-    if sent.len() < lent {
-        return unknown(s, out);
-    }
     let result = engine::send(before, &mut sent[0..lent], slot, time, msg, payload);
     let answer = result.answer;
     let state = result.state;
@@ -167,32 +180,37 @@ fn receive(
     n: u32,
     payload: &[u8],
     received: &mut [u8],
+    records: &mut [u64],
     out: &mut Buffer,
 ) -> Session {
-    let lent = s.received;
+    let lent = within(s.received, received.len());
+    let count = within(s.records, records.len());
     let state = s.state;
-    if received.len() < lent {
-        return unknown(s, out);
-    }
-    changed(
-        s,
-        engine::receive(state, &mut received[0..lent], slot, msg, Seq(n), payload),
-        out,
-    )
+    let result = engine::receive(
+        state,
+        &mut received[0..lent],
+        &mut records[0..count],
+        slot,
+        msg,
+        Seq(n),
+        payload,
+    );
+    changed(s, result, out)
 }
 
-fn show(s: Session, received: &[u8], out: &mut Buffer) -> Session {
-    let lent = s.received;
+fn show(s: Session, received: &[u8], records: &[u64], out: &mut Buffer) -> Session {
     let state = s.state;
-    let store = first(received, lent);
-    let answer = engine::showing(state, store);
-    let at = answer::shown(out, s.at, answer, engine::show(state, store));
+    let store = first(received, s.received);
+    let lent = lending::first_records(records, s.records);
+    let answer = engine::showing(state, store, lent);
+    let at = answer::shown(out, s.at, answer, engine::show(state, store, lent));
     s.to(at)
 }
 
-fn take(s: Session, out: &mut Buffer) -> Session {
+fn take(s: Session, records: &mut [u64], out: &mut Buffer) -> Session {
+    let count = within(s.records, records.len());
     let before = s.state;
-    let result = engine::take(before);
+    let result = engine::take(before, &mut records[0..count]);
     let answer = result.answer;
     let state = result.state;
     let at = answer::taken(out, s.at, answer);
@@ -236,9 +254,9 @@ fn slow(s: Session, n: usize, out: &mut Buffer) -> Session {
     s.to(at)
 }
 
-fn dump(s: Session, sent: &[u8], received: &[u8], out: &mut Buffer) -> Session {
+fn dump(s: Session, sent: &[u8], received: &[u8], records: &[u64], out: &mut Buffer) -> Session {
     let state = s.state;
-    let at = dump::all(out, s.at, state, sent, received);
+    let at = dump::all(out, s.at, state, sent, received, records);
     s.to(at)
 }
 
@@ -303,6 +321,14 @@ fn lend_received(s: Session, length: usize, out: &mut Buffer) -> Session {
     next
 }
 
+fn lend_records(s: Session, length: usize, out: &mut Buffer) -> Session {
+    let at = answer::done(out, s.at);
+    let mut next = s.to(at);
+    next.records = length;
+    next.are_records_set = true;
+    next
+}
+
 // A call on a state that uses no store.
 fn on_state(s: Session, call: Plain, out: &mut Buffer) -> Session {
     match call {
@@ -324,7 +350,6 @@ fn on_state(s: Session, call: Plain, out: &mut Buffer) -> Session {
         Plain::Pong(slot, time) => pong(s, slot, time, out),
         Plain::Mark(slot, n) => mark(s, slot, n, out),
         Plain::Ack(slot, time, n) => ack(s, slot, time, n, out),
-        Plain::Take => take(s, out),
         Plain::TakeAck(slot) => take_ack(s, slot, out),
         Plain::Due => due(s, out),
         Plain::Close => close(s, out),
@@ -332,6 +357,7 @@ fn on_state(s: Session, call: Plain, out: &mut Buffer) -> Session {
         Plain::Slow(n) => slow(s, n, out),
         Plain::LendSent(n) => lend_sent(s, n, out),
         Plain::LendReceived(n) => lend_received(s, n, out),
+        Plain::LendRecords(n) => lend_records(s, n, out),
     }
 }
 
@@ -341,7 +367,8 @@ fn on_stores(
     call: Stored,
     payload: &[u8],
     sent: &mut SentStore,
-    received: &mut ReceivedStore,
+    received: &mut [u8],
+    records: &mut Records,
     out: &mut Buffer,
 ) -> Session {
     match call {
@@ -354,10 +381,12 @@ fn on_stores(
             n,
             first(payload, len),
             received,
+            records,
             out,
         ),
-        Stored::Show => show(s, received, out),
-        Stored::Dump => dump(s, sent, received, out),
+        Stored::Show => show(s, received, records, out),
+        Stored::Take => take(s, records, out),
+        Stored::Dump => dump(s, sent, received, records, out),
     }
 }
 
@@ -375,11 +404,12 @@ fn on_begun_stores(
     call: Stored,
     payload: &[u8],
     sent: &mut SentStore,
-    received: &mut ReceivedStore,
+    received: &mut [u8],
+    records: &mut Records,
     out: &mut Buffer,
 ) -> Session {
     if s.begun {
-        on_stores(s, call, payload, sent, received, out)
+        on_stores(s, call, payload, sent, received, records, out)
     } else {
         unknown(s, out)
     }
@@ -390,15 +420,25 @@ pub fn run(
     call: Call,
     payload: &mut Payload,
     sent: &mut SentStore,
-    received: &mut ReceivedStore,
+    received: &mut [u8],
+    records: &mut Records,
     out: &mut Buffer,
 ) -> Session {
     match call {
-        Call::Fresh(start, buffer) => fresh(s, start, buffer, sent, received, out),
+        Call::Fresh(start, buffer, cells) => fresh(
+            s,
+            start,
+            buffer,
+            cells,
+            sent,
+            received,
+            records,
+            out,
+        ),
         Call::Read(n) => read(s, first(payload, n), out),
         Call::Write(room, msg) => write_filled(s, room, msg, payload, out),
         Call::OnState(plain) => on_begun(s, plain, out),
-        Call::OnStores(stored) => on_begun_stores(s, stored, payload, sent, received, out),
+        Call::OnStores(stored) => on_begun_stores(s, stored, payload, sent, received, records, out),
         Call::Unknown => unknown(s, out),
     }
 }

@@ -2,11 +2,12 @@
 // An item is a line of twelve bytes, a letter and two numbers of four hexadecimal digits: `p` for a piece, with its length and the
 // buffer's, and then the piece's bytes; `c` closes the session; `b` drops it unclosed. After both another session begins. Each call writes
 // how many bytes it used and how many it wrote, and then its text.
-use engine::RECEIVED_BYTES;
 use libc::STDIN_FILENO;
 use libc::STDOUT_FILENO;
 use recording::MAX_LINE;
+use replaying::CELLS;
 use replaying::LINE_TEXT;
+use replaying::RECEIVED_BYTES;
 use replaying::Session;
 use replaying::begin;
 use replaying::close;
@@ -55,11 +56,12 @@ fn show_counts(used: usize, wrote: usize) {
 fn feed_one(
     session: Session,
     store: &mut [u8],
+    records: &mut [u64],
     line: &mut [u8; MAX_LINE],
     piece: &[u8],
     out: &mut [u8],
 ) -> Session {
-    let fed = feed(session, store, line, piece, out);
+    let fed = feed(session, store, records, line, piece, out);
     show_counts(fed.used, fed.wrote);
     io::write_all(STDOUT_FILENO, &out[..fed.wrote]);
     fed.session
@@ -69,6 +71,7 @@ fn feed_one(
 fn feed_next(
     session: Session,
     store: &mut [u8],
+    records: &mut [u64],
     line: &mut [u8; MAX_LINE],
     length: usize,
     room: usize,
@@ -79,13 +82,13 @@ fn feed_next(
     let mut piece = [0u8; PIECE];
     let mut out = [0u8; BUFFER];
     let n = io::read_full(STDIN_FILENO, &mut piece[..length]);
-    feed_one(session, store, line, &piece[..n], &mut out[..room])
+    feed_one(session, store, records, line, &piece[..n], &mut out[..room])
 }
 
 // The end of a session.
-fn close_one(session: Session, store: &mut [u8], line: &[u8; MAX_LINE]) {
+fn close_one(session: Session, store: &mut [u8], records: &mut [u64], line: &[u8; MAX_LINE]) {
     let mut text = [0u8; LINE_TEXT];
-    let closed = close(session, store, line, &mut text);
+    let closed = close(session, store, records, line, &mut text);
     show_counts(0, closed.wrote);
     io::write_all(STDOUT_FILENO, &text[..closed.wrote]);
 }
@@ -96,7 +99,12 @@ struct Turn {
     is_more: bool,
 }
 
-fn next_item(session: Session, store: &mut [u8], line: &mut [u8; MAX_LINE]) -> Turn {
+fn next_item(
+    session: Session,
+    store: &mut [u8],
+    records: &mut [u64],
+    line: &mut [u8; MAX_LINE],
+) -> Turn {
     let mut item = [0u8; 12];
     let got = io::read_full(STDIN_FILENO, &mut item);
     if got < 12 {
@@ -109,29 +117,29 @@ fn next_item(session: Session, store: &mut [u8], line: &mut [u8; MAX_LINE]) -> T
     let room = number(item[7], item[8], item[9], item[10], BUFFER);
     match item[0] {
         b'p' => Turn {
-            session: feed_next(session, store, line, length, room),
+            session: feed_next(session, store, records, line, length, room),
             is_more: true,
         },
         b'c' => {
-            close_one(session, store, line);
+            close_one(session, store, records, line);
             Turn {
-                session: begin(),
+                session: begin(records),
                 is_more: true,
             }
         }
         _ => Turn {
-            session: begin(),
+            session: begin(records),
             is_more: true,
         },
     }
 }
 
 // A proved loop has to end, so this one counts its turns down, from a number that no run uses up.
-fn take_items(store: &mut [u8], line: &mut [u8; MAX_LINE]) {
-    let mut session = begin();
+fn take_items(store: &mut [u8], records: &mut [u64], line: &mut [u8; MAX_LINE]) {
+    let mut session = begin(records);
     let mut turns = u64::MAX;
     while turns > 0 {
-        let turn = next_item(session, store, line);
+        let turn = next_item(session, store, records, line);
         if !turn.is_more {
             return;
         }
@@ -142,6 +150,7 @@ fn take_items(store: &mut [u8], line: &mut [u8; MAX_LINE]) {
 
 fn main() {
     let mut store = [0u8; RECEIVED_BYTES];
+    let mut records = [0u64; CELLS];
     let mut line = [0u8; MAX_LINE];
-    take_items(&mut store, &mut line);
+    take_items(&mut store, &mut records, &mut line);
 }

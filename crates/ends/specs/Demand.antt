@@ -11,7 +11,7 @@ use Rattle.refusal.specs.Refusals.{refuse}
 use Rattle.engine.specs.declared.state.SentReliableStatus.{SentReliableStatus}
 use Rattle.engine.specs.declared.state.SentReliableStatus.the-variants.{Sent, Received, ResendQueued}
 use Rattle.engine.specs.declared.answer.Outcome.the-variants as outcomes
-use Rattle.engine.specs.Received.{isReadyKind}
+use Rattle.engine.specs.Records.{isReadyKind}
 use Rattle.engine.specs.Table.{packetOf}
 use Rattle.engine.specs.Acking.{ackOf}
 use Rattle.engine.specs.declared.handing_out.HandOut.the-variants as handouts
@@ -52,7 +52,7 @@ Complete W = Emptied W → (i : ℕ) → i < length (W .a .given) → Accepted W
 
 -- the stronger end: with nothing left to take, what b handed out is all that a was given
 abbrev pub AllOut : World → Type 0
-AllOut W = Emptied W → takeOf (W .b .state) .answer ≡ handouts.No (refuse 19 tt) → W .b .out ≡ handed (W .a .given)
+AllOut W = Emptied W → takeOf (W .b .state) (W .b .records) .answer ≡ handouts.No (refuse 19 tt) → W .b .out ≡ handed (W .a .given)
 
 -- the status of the packet of message i
 abbrev pub statusOf : World → ℕ → SentReliableStatus

@@ -14,10 +14,10 @@ use Rattle.engine.specs.declared.state.SentReliable.{SentReliable}
 use Rattle.engine.specs.declared.state.Held.{Held}
 use Rattle.engine.specs.declared.state.Held.the-variants.{Message}
 use Rattle.engine.specs.Packets.{noPacket, packets, isReceived}
-use Rattle.engine.specs.Received.{isFull, isReadyKind}
-use Rattle.engine.specs.Cells.{cellOf}
+use Rattle.engine.specs.Records.{isFull, isReadyKind}
+use Rattle.engine.specs.Received.{tableOf, cellOf}
 use Rattle.engine.specs.Rows.{rowOf}
-use Rattle.engine.specs.Sizes.{PACKETS, CELLS, DATA_BYTES}
+use Rattle.engine.specs.Sizes.{PACKETS, DATA_BYTES}
 use Rattle.ends.specs.World.{Msg, Packet, World, AckFor}
 use Rattle.ends.specs.Demand.{noMsg, handed, IsAccepted, Labelled}
 use Rattle.ends.specs.Store.{cellBytes}
@@ -84,6 +84,7 @@ pub record Way : Type 0 where
   pub msgs : List Packet
   pub receiver : State
   pub received : List ℕ
+  pub records : List ℕ
   pub out : List Msg
   pub accepted : List Packet
   pub acks : List ℕ
@@ -98,22 +99,31 @@ way W = record {
   msgs = W .ab .msgs;
   receiver = W .b .state;
   received = W .b .received;
+  records = W .b .records;
   out = W .b .out;
   accepted = W .b .accepted;
   acks = W .ba .acks;
 }
 
-abbrev pub HasAt : Way → ℕ → ℕ → ℕ → Type 0
-HasAt w e o j = Has CELLS (w .start) (cellOf CELLS (w .receiver .rx)) e o j
+-- what the cell of a number holds at the receiving end, of N cells
+abbrev pub cellsOf : ℕ → Way → ℕ → Held
+cellsOf N w = cellOf N (tableOf (w .receiver .rx) (w .records))
 
-pub record Inv (w : Way) : Type 0 where
+abbrev pub HasAt : ℕ → Way → ℕ → ℕ → ℕ → Type 0
+HasAt N w e o j = Has N (w .start) (cellsOf N w) e o j
+
+pub record InvAt (w : Way) (N : ℕ) : Type 0 where
   pub e : ℕ
   pub o : ℕ
   pub small : (j : ℕ) → j < length (w .given) → length (at (w .given) j .bytes) ≤ DATA_BYTES
-  pub txi : TxI (w .start) (w .given) (w .sender .tx .«tx_seq» .0) (packets (w .sender .tx)) (w .sent) e (HasAt w e o)
-  pub rxi : RxI CELLS (w .start) (w .given) (w .receiver .rx .«rx_seq» .0) (w .receiver .rx .«rx_oldest» .0) (cellOf CELLS (w .receiver .rx)) (w .received) e o
-  pub links : LinkI (w .start) (w .given) (HasAt w e o) (w .msgs) (w .accepted)
+  pub txi : TxI (w .start) (w .given) (w .sender .tx .«tx_seq» .0) (packets (w .sender .tx)) (w .sent) e (HasAt N w e o)
+  pub rxi : RxI N (w .start) (w .given) (w .receiver .rx .«rx_seq» .0) (w .receiver .rx .«rx_oldest» .0) (cellsOf N w) (w .received) e o
+  pub links : LinkI (w .start) (w .given) (HasAt N w e o) (w .msgs) (w .accepted)
   pub out-is : w .out ≡ handed (take o (w .given))
   -- each ack that waits, or that was put on the links, is for a message that was accepted
   pub acked : (n : ℕ) → List·Memᴰ n (w .acks) → AckFor n (w .accepted)
   pub waits : (slot : ℕ) (seq : Seq) → List·Memᴰ seq (waiting (rowOf (w .receiver) slot)) → AckFor (seq .0) (w .accepted)
+
+-- .. of as many cells as the receiving end has
+abbrev pub Inv : Way → Type 0
+Inv w = InvAt w (w .receiver .rx .cells)

@@ -1,7 +1,7 @@
 -- What a call leaves of what demand 3 speaks of. Most calls change statuses of packets and no more; none but Receive adds a waiting ack. And every call of the
 -- list is one of the world's. Assumes nothing.
 use mathlib.Core.Path.{_≡_, refl, sym, ap, subst, _∙_}
-use mathlib.Core.Bool.{Bool, true, false}
+use mathlib.Core.Bool.{Bool, true, false, cond}
 use mathlib.Core.List.{List, [], _∷_, map, List·Memᴰ, List·Memᴰ·not-nil}
 use Prim.Native.Nat.{ℕ, _+_, _%_, _^_, _<_}
 use native.Mathlib.Decide.{ℕ-discrete}
@@ -26,13 +26,14 @@ use Rattle.engine.specs.declared.state.SentReliableStatus.{SentReliableStatus}
 use Rattle.engine.specs.declared.state.SentReliableStatus.the-variants.{Sent, Received, ResendQueued}
 use Rattle.engine.specs.declared.state.SentReliable.{SentReliable}
 use Rattle.engine.specs.declared.state.Held.{Held}
+use Rattle.engine.specs.declared.state.Held.the-variants.{Nothing}
+use Rattle.engine.specs.Records.{heldOf}
 use Rattle.engine.specs.declared.state.State.{State}
 use Rattle.engine.specs.Packets.{noPacket, packets, isReceived, isQueued}
 use Rattle.engine.specs.Sound.{packetAt}
-use Rattle.engine.specs.Received.{noCell}
+use Rattle.engine.specs.Received.{heldAt, isUsed, cellOf}
 use Rattle.engine.specs.Queue.{requeued}
 use Rattle.engine.specs.Table.{place, lookedAt, withPacket, withTable}
-use Rattle.engine.specs.Cells.{isRepeat, cellOf}
 use Rattle.engine.specs.Rows.{rowOf}
 use Rattle.engine.specs.Links.{lowestIn}
 use Rattle.engine.specs.Unconfirming.{unconfirmed, unconfirmedState, removedState}
@@ -41,10 +42,10 @@ use Rattle.engine.specs.Sending.{toldRx, sentState}
 use Rattle.engine.specs.InTable.{packet-back}
 use Rattle.engine.specs.Resending.{resentState, ResendPassed}
 use Rattle.engine.specs.Acking.{ackedRow, ackedState}
-use Rattle.engine.specs.Receiving.{effectTx, repeatedState, receivedState}
+use Rattle.engine.specs.Receiving.{effectTx, repeatedState, effectState, receivedState}
 use Rattle.engine.specs.HandingOut.{takenState, takenAckState}
 use Rattle.engine.specs.Fields.{withRow, withTime, withReader}
-use Rattle.engine.specs.Sizes.{SLOTS, CELLS}
+use Rattle.engine.specs.Sizes.{SLOTS}
 use Rattle.laws.specs.Good.{Good}
 use Rattle.laws.specs.Calls as calls
 use Rattle.laws.specs.Calls.{Holding, withState, next, done, verdict}
@@ -70,7 +71,9 @@ pub record TxLeft (h k : Holding) : Type 0 where
 pub record RxLeft (h k : Holding) : Type 0 where
   pub seq-same : k .state .rx .«rx_seq» ≡ h .state .rx .«rx_seq»
   pub oldest-same : k .state .rx .«rx_oldest» ≡ h .state .rx .«rx_oldest»
-  pub cells-same : k .state .rx .«rxed_reliable» ≡ h .state .rx .«rxed_reliable»
+  pub end-same : k .state .rx .«rx_end» ≡ h .state .rx .«rx_end»
+  pub count-same : k .state .rx .cells ≡ h .state .rx .cells
+  pub records-same : k .records ≡ h .records
   pub received-same : k .received ≡ h .received
 
 -- .. and of the acks that wait
@@ -83,13 +86,20 @@ pub record Left (h k : Holding) : Type 0 where
   pub acks : AcksLeft h k
 
 -- whatever is so of the receiving half stays so
-pub rx-kept : (h k : Holding) → RxLeft h k → (P : ℕ → ℕ → (ℕ → Held) → List ℕ → Type 0)
-    → P (h .state .rx .«rx_seq» .0) (h .state .rx .«rx_oldest» .0) (cellOf CELLS (h .state .rx)) (h .received)
-    → P (k .state .rx .«rx_seq» .0) (k .state .rx .«rx_oldest» .0) (cellOf CELLS (k .state .rx)) (k .received)
-unfolding cellOf
+pub rx-kept : (h k : Holding) → RxLeft h k → (P : ℕ → ℕ → ℕ → (ℕ → Held) → List ℕ → Type 0)
+    → P (h .state .rx .cells) (h .state .rx .«rx_seq» .0) (h .state .rx .«rx_oldest» .0) (cellOf (h .state .rx .cells) (calls.table h)) (h .received)
+    → P (k .state .rx .cells) (k .state .rx .«rx_seq» .0) (k .state .rx .«rx_oldest» .0) (cellOf (k .state .rx .cells) (calls.table k)) (k .received)
+unfolding cellOf isUsed heldAt
 rx-kept h k same P x =
-    subst (λ (t : ℕ × ℕ × (ℕ → Held) × List ℕ). P (t .0) (t .1) (t .2) (t .3))
-    (λ d. (sym (same .seq-same) d .0, sym (same .oldest-same) d .0, λ n. getD (sym (same .cells-same) d) (n % CELLS) noCell .held, sym (same .received-same) d)) x
+    subst (λ (t : ℕ × ℕ × ℕ × (ℕ → Held) × List ℕ). P (t .0) (t .1) (t .2) (t .3) (t .4))
+    (λ d. (
+      sym (same .count-same) d,
+      sym (same .seq-same) d .0,
+      sym (same .oldest-same) d .0,
+      λ n. cond (ltb (past n (sym (same .oldest-same) d .0)) (past (sym (same .end-same) d .0) (sym (same .oldest-same) d .0)))
+          (heldOf (getD (sym (same .records-same) d) (n % sym (same .count-same) d) 0)) Nothing,
+      sym (same .received-same) d,
+    )) x
 
 -- ---- nothing changes
 
@@ -108,7 +118,7 @@ pub read-left : (h : Holding) (reads : Bool) → Left h (withState h (withReader
 unfolding rowOf
 read-left h reads = record {
   tx = record { next-same = refl; sent-same = refl; restates = unchanged (packets (h .state .tx)) };
-  rx = record { seq-same = refl; oldest-same = refl; cells-same = refl; received-same = refl };
+  rx = record { seq-same = refl; oldest-same = refl; end-same = refl; count-same = refl; records-same = refl; received-same = refl };
   acks = λ slot seq m. m;
 }
 
@@ -149,7 +159,7 @@ module _ (s t : State) (slot : ℕ) (row : LinkRow) (eight : length (s .links) �
 pub row-left : (h : Holding) → Good (h .state) → (slot : ℕ) (row : LinkRow) (time : ℕ) → slot < SLOTS → Fewer row (rowOf (h .state) slot) → Left h (withState h (withTime (withRow (h .state) slot row) time))
 row-left h good slot row time small fewer = record {
   tx = record { next-same = refl; sent-same = refl; restates = unchanged (packets (h .state .tx)) };
-  rx = record { seq-same = refl; oldest-same = refl; cells-same = refl; received-same = refl };
+  rx = record { seq-same = refl; oldest-same = refl; end-same = refl; count-same = refl; records-same = refl; received-same = refl };
   acks = rows-left (h .state) (withTime (withRow (h .state) slot row) time) slot row (good .shaped .links-full) small refl fewer;
 }
 
@@ -187,7 +197,7 @@ module _ (h : Holding) (good : Good (h .state)) where
   unfolding unconfirmedState requeued
   unconfirmed-left slot small = record {
     tx = unconfirmed-tx slot;
-    rx = record { seq-same = refl; oldest-same = refl; cells-same = refl; received-same = refl };
+    rx = record { seq-same = refl; oldest-same = refl; end-same = refl; count-same = refl; records-same = refl; received-same = refl };
     acks = rows-left s (unconfirmedState s slot) slot (unconfirmedRow (rowOf s slot)) (good .shaped .links-full) small refl (same-fewer _ _ (unconfirm-acks (rowOf s slot)));
   }
 
@@ -197,7 +207,7 @@ module _ (h : Holding) (good : Good (h .state)) where
       let tx = unconfirmed-tx slot in
       record {
         tx = record { next-same = tx .next-same; sent-same = tx .sent-same; restates = tx .restates };
-        rx = record { seq-same = refl; oldest-same = refl; cells-same = refl; received-same = refl };
+        rx = record { seq-same = refl; oldest-same = refl; end-same = refl; count-same = refl; records-same = refl; received-same = refl };
         acks = rows-left s (removedState s slot) slot emptyRow (good .shaped .links-full) small (set-set (s .links) slot (unconfirmedRow (rowOf s slot)) emptyRow)
             (none-fewer emptyRow (rowOf s slot) refl);
       }
@@ -214,7 +224,7 @@ module _ (h : Holding) (good : Good (h .state)) where
         same = λ i l. flushed-received slot time (getD (packets (s .tx)) i noPacket .status);
       };
     };
-    rx = record { seq-same = refl; oldest-same = refl; cells-same = refl; received-same = refl };
+    rx = record { seq-same = refl; oldest-same = refl; end-same = refl; count-same = refl; records-same = refl; received-same = refl };
     acks = λ k seq m. m;
   }
 
@@ -244,7 +254,7 @@ module _ (h : Holding) (good : Good (h .state)) where
         same = λ i l. cases (eqb (packetAt s i .seq .0) n) (λ t. simp t (sym (unreceived i (omega (arith, packets-count (s .tx))) (eqb-true _ n t)))) (λ t. simp t);
       };
     };
-    rx = record { seq-same = refl; oldest-same = refl; cells-same = refl; received-same = refl };
+    rx = record { seq-same = refl; oldest-same = refl; end-same = refl; count-same = refl; records-same = refl; received-same = refl };
     acks = rows-left s (resentState s slot time n) slot (withUnacked (markResent (rowOf s slot) n) (rowOf s slot .«txed_unacked_data» + lookedAt (s .tx) n .len)) (good .shaped .links-full) (p .timed .at .small) refl
         (same-fewer _ _ (resent-acks (rowOf s slot) n _));
   }
@@ -254,7 +264,7 @@ module _ (h : Holding) (good : Good (h .state)) where
 
   pub sent-rx : (slot time : ℕ) (msg : ReliableMsg) (bytes : List ℕ) → RxLeft h (done (calls.Send slot time msg bytes) h)
   unfolding sentState toldRx
-  sent-rx slot time msg bytes = record { seq-same = refl; oldest-same = refl; cells-same = refl; received-same = refl }
+  sent-rx slot time msg bytes = record { seq-same = refl; oldest-same = refl; end-same = refl; count-same = refl; records-same = refl; received-same = refl }
 
   pub sent-acks : (slot time : ℕ) (msg : ReliableMsg) (bytes : List ℕ) → slot < SLOTS → AcksLeft h (done (calls.Send slot time msg bytes) h)
   unfolding sentState
@@ -264,7 +274,7 @@ module _ (h : Holding) (good : Good (h .state)) where
 
   pub acked-rx : (slot time n : ℕ) → RxLeft h (done (calls.Ack slot time n) h)
   unfolding ackedState
-  acked-rx slot time n = record { seq-same = refl; oldest-same = refl; cells-same = refl; received-same = refl }
+  acked-rx slot time n = record { seq-same = refl; oldest-same = refl; end-same = refl; count-same = refl; records-same = refl; received-same = refl }
 
   pub acked-acks-left : (slot time n : ℕ) → slot < SLOTS → AcksLeft h (done (calls.Ack slot time n) h)
   unfolding ackedState
@@ -272,10 +282,10 @@ module _ (h : Holding) (good : Good (h .state)) where
       rows-left s (ackedState s slot time n) slot (ackedRow s slot time n) (good .shaped .links-full) small refl (same-fewer _ _ (acked-acks s slot time n))
 
   pub received-tx : (slot : ℕ) (msg : ReliableMsg) (n : ℕ) (bytes : List ℕ) → TxLeft h (done (calls.Receive slot msg n bytes) h)
-  unfolding repeatedState receivedState effectTx
+  unfolding repeatedState effectState receivedState effectTx
   received-tx slot msg n bytes =
       let same = unchanged (packets (s .tx)) in
-      cases (isRepeat CELLS (s .rx) n)
+      cases (calls.again h n)
       (λ t. simp t (record { next-same = refl; sent-same = refl; restates = same }))
       (λ t. simp t (record { next-same = refl; sent-same = refl; restates = same }))
 

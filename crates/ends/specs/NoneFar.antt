@@ -44,7 +44,7 @@ near-next W i n late =
 
 clear : (W : World) → Joined W → Clear W
 clear W j = record {
-  receive = λ slot p brought timely e. true≢false (sym (near-expected W (j .two) p brought timely) ∙ receive-only-far (W .a .state) _ slot (p .msg .kind) (p .number) _ e .far);
+  receive = λ slot p brought timely e. true≢false (sym (near-expected W (j .two) p brought timely) ∙ receive-only-far (W .a .state) _ (W .a .records) slot (p .msg .kind) (p .number) _ e .far);
   ack = λ slot time n brought late e. true≢false (sym (near-next W (j .one) n late) ∙ ack-only-far (W .a .state) slot time n e .far);
 }
 

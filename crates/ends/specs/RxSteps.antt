@@ -4,27 +4,26 @@ use mathlib.Core.Path.{_≡_, refl, sym, _∙_, ap, ap₂, subst}
 use mathlib.Core.Bool.{true, false, cond}
 use mathlib.Core.Logic.{_⊎_, inl, inr}
 use mathlib.Core.List.{List, [], _∷_, _++_, append-nil}
-use Prim.Native.Nat.{ℕ, zero, suc, _+_, _-_, _*_, _%_, _≤_, _<_}
+use Prim.Native.Nat.{ℕ, zero, suc, _+_, _-_, _*_, _≤_, _<_}
 use native.Mathlib.Omega.{arith}
 use native.Mathlib.Numerals.{add-one}
-use native.Mathlib.Nat.{add-mod-right}
 use native.Mathlib.Decide.{decLt}
-use lib.ListN.{length, getD, take}
+use lib.ListN.{length, take}
 use lib.Seq.{take-suc}
 use borrow.Table.Steps.{cases}
 use Rattle.seq.specs.declared.Seq.{Seq}
 use Rattle.seq.specs.Numbers.{plus}
-use Rattle.seq.specs.Laws.{plus-plus, cell-counted}
+use Rattle.seq.specs.Laws.{plus-plus}
 use Rattle.seq.specs.Distance.{past, past-counted}
 use Rattle.msg.specs.declared.reliable.ReliableMsg.{ReliableMsg}
 use Rattle.refusal.specs.Tests.{false-true}
 use Rattle.engine.specs.declared.state.Held.{Held}
 use Rattle.engine.specs.declared.state.Held.the-variants.{Nothing, Message}
-use Rattle.engine.specs.declared.state.Receiving.{Receiving}
-use Rattle.engine.specs.Received.{noCell, expectedAt, isFull, isReadyKind}
-use Rattle.engine.specs.Cells.{cellOf, keptOf}
+use Rattle.engine.specs.CellCount.{CellCount}
+use Rattle.engine.specs.Records.{isFull, isReadyKind, keptOf}
+use Rattle.engine.specs.Received.{RxTable, expectedAt, cellOf}
 use Rattle.engine.specs.Sizes.{DATA_BYTES}
-use Rattle.laws.specs.CellEffects.{CellCount, Passes}
+use Rattle.laws.specs.CellEffects.{Passes}
 use Rattle.ends.specs.World.{Msg}
 use Rattle.ends.specs.Demand.{noMsg, handed}
 use Rattle.ends.specs.Inv.{at, Holds, RxI, Has}
@@ -86,8 +85,8 @@ kept-ready h msg len e = ap (λ x. isFull (keptOf x)) e ∙ cases (isReadyKind m
 -- ---- a cell is changed, and the numbers move on
 
 -- c is what the cells hold after the change, by how far they are past the oldest: each holds its message, and from `from` on just those that are handed out are ready
-module _ (N : ℕ) (count : CellCount N) (s : ℕ) (G : List Msg) (rx rx′ : Receiving) (store store′ : List ℕ) (e o : ℕ)
-    (i : RxI N s G (rx .«rx_seq» .0) (rx .«rx_oldest» .0) (cellOf N rx) store e o) (c : ℕ → Held) (p : Passes N rx rx′ c) (long : length store′ ≡ N * DATA_BYTES)
+module _ (N : ℕ) (count : CellCount N) (s : ℕ) (G : List Msg) (rx rx′ : RxTable) (store store′ : List ℕ) (e o : ℕ)
+    (i : RxI N s G (rx .rx .«rx_seq» .0) (rx .rx .«rx_oldest» .0) (cellOf N rx) store e o) (c : ℕ → Held) (p : Passes N rx rx′ c) (long : length store′ ≡ N * DATA_BYTES)
     (from : ℕ) (within : from ≤ p .gone)
     (right : (k : ℕ) → k < N → isFull (c k) ≡ true → (o + k < length G) × Holds N s store′ (o + k) (c k) (at G (o + k)))
     (lawful : (k : ℕ) → from ≤ k → o + k < e → isFull (c k) ≡ isReadyKind (at G (o + k) .kind)) where
@@ -101,7 +100,7 @@ module _ (N : ℕ) (count : CellCount N) (s : ℕ) (G : List Msg) (rx rx′ : Re
   abbrev then : ℕ → Held
   then k = cellOf N rx′ (plus s (o + k))
 
-  ahead : expectedAt rx ≡ e - o
+  ahead : expectedAt (rx .rx) ≡ e - o
   ahead = rx-ahead i (count .few)
 
   then-ready : (k : ℕ) → o + k < e → then k ≡ c k
@@ -117,23 +116,16 @@ module _ (N : ℕ) (count : CellCount N) (s : ℕ) (G : List Msg) (rx rx′ : Re
   passed-full k l u = p .full k (omega (arith, ahead)) (omega (arith, ahead, i .oe))
 
   passed-in : (k : ℕ) → o + k < e′ → k < N
-  passed-in k u = omega (arith, ahead, p .within, i .oe)
+  passed-in k u = omega (arith, ahead, p .within, p .used, i .oe)
 
-  -- nothing stands before the oldest, nor, N numbers on, in the same cells
+  -- nothing stands before the oldest, nor from the end on
   gone-empty : (k : ℕ) → k < p .gone → isFull (then k) ≡ false
-  gone-empty k l = ap (λ n. isFull (cellOf N rx′ n)) (sym (rx-number i k)) ∙ p .emptied k l
-
-  round : (j : ℕ) → cellOf N rx′ (plus s (j + N)) ≡ cellOf N rx′ (plus s j)
-  unfolding cellOf
-  round j =
-      let far : s + (j + N) ≡ s + j + N = omega arith in
-      ap (λ n. getD (rx′ .«rxed_reliable») n noCell .held)
-      (cell-counted N s (j + N) (count .round) ∙ ap (λ n. n % N) far ∙ add-mod-right (s + j) N ∙ sym (cell-counted N s j (count .round)))
+  gone-empty k l = ap (λ n. isFull (cellOf N rx′ n)) (sym (rx-number i k)) ∙ ap isFull (p .emptied k l)
 
   wrapped : {X : Type 0} (j : ℕ) → o + N ≤ j → j < o′ + N → isFull (cellOf N rx′ (plus s j)) ≡ true → X
   wrapped j l u f =
-      let same : o + (j - o - N) + N ≡ j = omega arith in
-      false-true (sym (gone-empty (j - o - N) (omega arith)) ∙ ap isFull (sym (round (o + (j - o - N)))) ∙ ap (λ n. isFull (cellOf N rx′ (plus s n))) same ∙ f)
+      let same : o + (j - o) ≡ j = omega arith in
+      false-true (sym (ap isFull (p .beyond (j - o) (omega (arith, p .used)) (omega (arith, count .few)))) ∙ ap (λ n. isFull (cellOf N rx′ n)) (rx-number i (j - o)) ∙ ap (λ n. isFull (cellOf N rx′ (plus s n))) same ∙ f)
 
   -- a number from the old oldest on, by how far it is past it
   offset : (P : ℕ → Type 0) (j : ℕ) → o ≤ j → ((k : ℕ) → P (o + k)) → P j
@@ -165,12 +157,12 @@ module _ (N : ℕ) (count : CellCount N) (s : ℕ) (G : List Msg) (rx rx′ : Re
           omega (arith, right k (passed-in k (omega (arith, i .oe))) (passed-full k (omega (arith, i .oe)) (omega (arith, i .oe))) .0, i .oe)
       go (no y) = omega (arith, i .en)
 
-  pub passes-rx : RxI N s G (rx′ .«rx_seq» .0) (rx′ .«rx_oldest» .0) (cellOf N rx′) store′ e′ o′
+  pub passes-rx : RxI N s G (rx′ .rx .«rx_seq» .0) (rx′ .rx .«rx_oldest» .0) (cellOf N rx′) store′ e′ o′
   passes-rx = record {
     exp-is = ap (λ (q : Seq). q .0) (p .expected-is) ∙ ap (λ n. plus n (p .passed)) (i .exp-is) ∙ plus-plus s e (p .passed);
     old-is = ap (λ (q : Seq). q .0) (p .oldest-is) ∙ rx-number i (p .gone);
     oe = omega (arith, ahead, p .behind, i .oe);
-    eo = omega (arith, ahead, p .within, i .oe);
+    eo = omega (arith, ahead, p .within, p .used, i .oe);
     en = given-all;
     store-long = long;
     held = λ j l u f. stands j l u f (decLt j (o + N));

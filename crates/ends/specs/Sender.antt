@@ -24,9 +24,9 @@ use Rattle.engine.specs.declared.sending.SendAnswer.{SendAnswer}
 use Rattle.engine.specs.declared.sending.SendAnswer.the-variants as sends
 use Rattle.engine.specs.declared.resending.ResendAnswer.the-variants as resends
 use Rattle.engine.specs.Packets.{noPacket, packets, isReceived}
-use Rattle.engine.specs.Received.{isFull, expectedAt}
+use Rattle.engine.specs.Records.{isFull}
+use Rattle.engine.specs.Received.{tableOf, expectedAt, cellOf}
 use Rattle.engine.specs.Queue.{requeued}
-use Rattle.engine.specs.Cells.{cellOf}
 use Rattle.engine.specs.Rows.{rowOf}
 use Rattle.engine.specs.Stores.{cellStart, copied}
 use Rattle.engine.specs.Table.{inTable, place, lookedAt}
@@ -34,14 +34,16 @@ use Rattle.engine.specs.InTable.{Placed, placed, looked-number}
 use Rattle.engine.specs.Sending.{sentTx, sentState, sentBy, sendOf, SendPassed}
 use Rattle.engine.specs.Resending.{resentState, resentBy, resendOf, ResendPassed}
 use Rattle.engine.specs.Acking.{settled, receivedTx, settledTxAs, sweptTx, ackedTx, ackedState}
-use Rattle.engine.specs.Sizes.{PACKETS, CELLS, DATA_BYTES}
+use Rattle.engine.specs.Sizes.{PACKETS, DATA_BYTES}
 use Rattle.laws.specs.Good.{Good}
 use Rattle.laws.specs.Calls as calls
 use Rattle.laws.specs.Calls.{Holding, next, done}
 use Rattle.laws.specs.Passed.{next-keeps, answer-keeps, passed}
 use Rattle.laws.specs.PacketsKept.{packets-count}
 use Rattle.laws.specs.PacketEffects.{restated, changeAt, sent-packets, acked-packets, sweeps}
-use Rattle.laws.specs.CellEffects.{Table}
+use Rattle.engine.specs.CellCount.{cell-count}
+use Rattle.engine.specs.Sound.{SoundRecords}
+use Rattle.laws.specs.CellEffects.{table-of}
 use Rattle.ends.specs.World.{Msg, Packet, World, holds, written, newest, TimelyAck, givenBy, putBy, sendAt, putAgainBy, resendAt, receiveAt, takeAt, takeAckAt, Call, Other, Send, Resend, Receive, Acked, Take, TakeAck}
 use Rattle.ends.specs.Demand.{handed, Labelled}
 use Rattle.ends.specs.Inv.{at, Carries, TxI, HasAt, way, Inv}
@@ -87,13 +89,13 @@ module _ (W : World) (i : Inv (way W)) (good : Good (W .a .state)) where
   abbrev then : Holding → World
   then k = written W k (W .a .given) (W .a .out) (W .a .accepted) (W .ab .msgs) (W .ab .acks)
 
-  with-tx : (k : Holding) → TxI (W .start) G (k .state .tx .«tx_seq» .0) (packets (k .state .tx)) (k .sent) (i .e) (HasAt (way W) (i .e) (i .o)) → Inv (way (then k))
+  with-tx : (k : Holding) → TxI (W .start) G (k .state .tx .«tx_seq» .0) (packets (k .state .tx)) (k .sent) (i .e) (HasAt (W .b .state .rx .cells) (way W) (i .e) (i .o)) → Inv (way (then k))
   with-tx k txi = record { e = i .e; o = i .o; small = i .small; txi = txi; rxi = i .rxi; links = i .links; out-is = i .out-is; acked = i .acked; waits = i .waits }
 
   -- statuses change, and no more is Received
-  still-tx : (k : Holding) → TxLeft h k → TxI (W .start) G (k .state .tx .«tx_seq» .0) (packets (k .state .tx)) (k .sent) (i .e) (HasAt (way W) (i .e) (i .o))
+  still-tx : (k : Holding) → TxLeft h k → TxI (W .start) G (k .state .tx .«tx_seq» .0) (packets (k .state .tx)) (k .sent) (i .e) (HasAt (W .b .state .rx .cells) (way W) (i .e) (i .o))
   still-tx k l =
-      subst (λ (t : ℕ × List SentReliable × List ℕ). TxI (W .start) G (t .0) (t .1) (t .2) (i .e) (HasAt (way W) (i .e) (i .o)))
+      subst (λ (t : ℕ × List SentReliable × List ℕ). TxI (W .start) G (t .0) (t .1) (t .2) (i .e) (HasAt (W .b .state .rx .cells) (way W) (i .e) (i .o)))
       (λ d. (sym (l .next-same) d .0, sym (l .restates .is) d, sym (l .sent-same) d))
       (tx-restated (W .start) G _ ps (W .a .sent) (i .e) _ (i .txi) (l .restates .change) (λ k j in-ps q r. i .txi .each k j in-ps q .received (sym (l .restates .same k in-ps) ∙ r)))
 
@@ -106,7 +108,7 @@ module _ (W : World) (i : Inv (way W)) (good : Good (W .a .state)) where
   sent-world answer m k = written W k (givenBy answer G m) (W .a .out) (W .a .accepted) (putBy answer (W .ab .msgs) (length G) m) (W .ab .acks)
 
   -- what was accepted was given
-  has-inside : (j : ℕ) → HasAt (way W) (i .e) (i .o) j → j < length G
+  has-inside : (j : ℕ) → HasAt (W .b .state .rx .cells) (way W) (i .e) (i .o) j → j < length G
   has-inside j (inl l) = omega (arith, i .rxi .en)
   has-inside j (inr x) = i .rxi .held j (omega (arith, i .rxi .oe, x .0)) (x .1) (x .2) .0
 
@@ -117,7 +119,7 @@ module _ (W : World) (i : Inv (way W)) (good : Good (W .a .state)) where
     e = i .e;
     o = i .o;
     small = λ j l. short j l (ℕ-discrete j (length G));
-    txi = subst (λ (qs : List SentReliable). TxI (W .start) (G ++ (m ∷ [])) (plus (S .tx .«tx_seq» .0) 1) qs (copied (W .a .sent) (cellStart PACKETS (S .tx .«tx_seq» .0)) (m .bytes)) (i .e) (HasAt (way W) (i .e) (i .o)))
+    txi = subst (λ (qs : List SentReliable). TxI (W .start) (G ++ (m ∷ [])) (plus (S .tx .«tx_seq» .0) 1) qs (copied (W .a .sent) (cellStart PACKETS (S .tx .«tx_seq» .0)) (m .bytes)) (i .e) (HasAt (W .b .state .rx .cells) (way W) (i .e) (i .o)))
         (sym (sent-packets S good slot (rowOf S slot .«link_id») time (m .kind) (length (m .bytes)) (ok .room .places)))
         (tx-sent (W .start) G (S .tx .«tx_seq» .0) ps (W .a .sent) (i .e) _ (i .txi) m _ (i .small) (omega (arith, packets-count (S .tx), ok .room .places)) (ok .short) refl refl refl refl);
     rxi = rx-grown G m (i .rxi);
@@ -175,7 +177,7 @@ module _ (W : World) (i : Inv (way W)) (good : Good (W .a .state)) where
       inside : k < length ps
       inside = omega (arith, spot .back-low, spot .back-high, packets-count (S .tx))
 
-      carried : Carries (W .start) (W .a .sent) (HasAt (way W) (i .e) (i .o)) j (getD ps k noPacket) (at G j)
+      carried : Carries (W .start) (W .a .sent) (HasAt (W .b .state .rx .cells) (way W) (i .e) (i .o)) j (getD ps k noPacket) (at G j)
       carried = i .txi .each k j inside (omega (arith, i .txi .within))
 
       n-is : n ≡ plus (W .start) j
@@ -201,9 +203,9 @@ module _ (W : World) (i : Inv (way W)) (good : Good (W .a .state)) where
 
   -- ---- Ack
 
-  ack-inv : Table CELLS (W .b .state .rx) → (slot time n : ℕ) → TimelyAck n (W .a) (W .b) → n < 2 ^ 32 → Inv (way (then (done (calls.Ack slot time n) h)))
+  ack-inv : Good (W .b .state) → SoundRecords (calls.table (holds (W .b))) → (slot time n : ℕ) → TimelyAck n (W .a) (W .b) → n < 2 ^ 32 → Inv (way (then (done (calls.Ack slot time n) h)))
   unfolding ackedState sweptTx
-  ack-inv table slot time n timely number =
+  ack-inv other recorded slot time n timely number =
       let change = changeAt n (settled slot) in
       let qs = map (restated change) ps in
       let one : TxI (W .start) G (S .tx .«tx_seq» .0) qs (W .a .sent) (i .e) H = tx-restated (W .start) G _ ps (W .a .sent) (i .e) H (i .txi) change had in
@@ -214,7 +216,7 @@ module _ (W : World) (i : Inv (way W)) (good : Good (W .a .state)) where
       (λ d. (sym (acked-next S slot n) d .0, sym (acked-packets S good slot time n number ∙ sw .left) d)) two)
     where
       H : ℕ → Type 0
-      H = HasAt (way W) (i .e) (i .o)
+      H = HasAt (W .b .state .rx .cells) (way W) (i .e) (i .o)
 
       -- who is Received then was so before, or has the number of a message that was accepted: its own, since that isn't late
       had : (k j : ℕ) → k < length ps → j + length ps ≡ length G + k → isReceived (changeAt n (settled slot) (getD ps k noPacket)) ≡ true → H j
@@ -235,11 +237,12 @@ module _ (W : World) (i : Inv (way W)) (good : Good (W .a .state)) where
       lacks (inl l) = omega arith
       lacks (inr x) =
           let rx = W .b .state .rx in
-          let ahead : expectedAt rx ≡ i .e - i .o = rx-ahead (i .rxi) (omega arith) in
+          let table = table-of (W .b .state) other (W .b .records) recorded in
+          let ahead : expectedAt rx ≡ i .e - i .o = rx-ahead (i .rxi) (cell-count (rx .cells) (other .sound .cell-count) .few) in
           let q : i .o + (i .e - i .o) ≡ i .e = omega (arith, i .rxi .oe) in
           let number : plus (rx .«rx_oldest» .0) (expectedAt rx) ≡ plus (W .start) (i .e) =
           ap (plus (rx .«rx_oldest» .0)) ahead ∙ rx-number (i .rxi) (i .e - i .o) ∙ ap (plus (W .start)) q in
-          false-true (sym (ap isFull (sym (ap (cellOf CELLS rx) number) ∙ table .held (omega (arith, ahead, x .1)))) ∙ x .2)
+          false-true (sym (ap isFull (sym (ap (cellOf (rx .cells) (tableOf rx (W .b .records))) number) ∙ table .held)) ∙ x .2)
 
   -- an ack's number is that of an accepted message
   pub ack-small : {n : ℕ} → TimelyAck n (W .a) (W .b) → n < 2 ^ 32
@@ -249,20 +252,20 @@ module _ (W : World) (i : Inv (way W)) (good : Good (W .a .state)) where
 
   -- ---- every call
 
-  pub sender : Table CELLS (W .b .state .rx) → {X : World} → Call W X → Inv (way X)
+  pub sender : Good (W .b .state) → SoundRecords (calls.table (holds (W .b))) → {X : World} → Call W X → Inv (way X)
   unfolding sendAt sendOf resendAt resendOf receiveAt takeAt takeAckAt
-  sender table (Other c u typed) = still (next c h) (other-left h good c u typed .tx)
-  sender table (Send slot time m) =
+  sender other recorded (Other c u typed) = still (next c h) (other-left h good c u typed .tx)
+  sender other recorded (Send slot time m) =
       let c = calls.Send slot time (m .kind) (m .bytes) in
       answer-keeps c h (λ v. sentBy v S (sentState S slot time (m .kind) (length (m .bytes))) .answer) (λ a k. Inv (way (sent-world a m k)))
       (λ e. send-inv slot time m (passed c h tt good e)) (λ r. i)
-  sender table (Resend slot time n number) =
+  sender other recorded (Resend slot time n number) =
       let c = calls.Resend slot time n in
       answer-keeps c h (λ v. resentBy v S n (resentState S slot time n) .answer) (λ a k. Inv (way (written W k G (W .a .out) (W .a .accepted) (putAgainBy a W n) (W .ab .acks))))
       (λ e. resend-inv slot time n number (passed c h number good e)) (λ r. i)
-  sender table (Receive slot p brought timely) =
+  sender other recorded (Receive slot p brought timely) =
       let c = calls.Receive slot (p .msg .kind) (p .number) (p .msg .bytes) in
       still (next c h) (next-keeps c h (TxLeft h) (tx-same h) (λ e. received-tx h good slot (p .msg .kind) (p .number) (p .msg .bytes)))
-  sender table (Acked slot time n brought timely) = next-keeps (calls.Ack slot time n) h (λ k. Inv (way (then k))) i (λ e. ack-inv table slot time n timely (ack-small timely))
-  sender table Take = still (next calls.Take h) (next-keeps calls.Take h (TxLeft h) (tx-same h) (λ e. taken-tx h good))
-  sender table (TakeAck slot) = still (next (calls.TakeAck slot) h) (next-keeps (calls.TakeAck slot) h (TxLeft h) (tx-same h) (λ e. took-ack-tx h good slot))
+  sender other recorded (Acked slot time n brought timely) = next-keeps (calls.Ack slot time n) h (λ k. Inv (way (then k))) i (λ e. ack-inv other recorded slot time n timely (ack-small timely))
+  sender other recorded Take = still (next calls.Take h) (next-keeps calls.Take h (TxLeft h) (tx-same h) (λ e. taken-tx h good))
+  sender other recorded (TakeAck slot) = still (next (calls.TakeAck slot) h) (next-keeps (calls.TakeAck slot) h (TxLeft h) (tx-same h) (λ e. took-ack-tx h good slot))

@@ -3,7 +3,7 @@
 -- this file, Demand, the list of calls (Calls of the crate `laws`) and those definitions. Assumes nothing.
 use mathlib.Core.Path.{_≡_}
 use mathlib.Core.List.{List, [], _∷_, _++_, List·Memᴰ}
-use Prim.Native.Nat.{ℕ, _+_, _-_, _^_, _<_}
+use Prim.Native.Nat.{ℕ, _+_, _-_, _*_, _^_, _<_}
 use lib.ListN.{length, take, drop}
 use Rattle.seq.specs.Numbers.{plus, minus}
 use Rattle.msg.specs.declared.reliable.ReliableMsg.{ReliableMsg}
@@ -11,7 +11,7 @@ use Rattle.engine.specs.declared.state.State.{State}
 use Rattle.engine.specs.declared.answer.Outcome.{Outcome}
 use Rattle.engine.specs.declared.answer.Outcome.the-variants as outcomes
 use Rattle.engine.specs.Stores.{cellStart}
-use Rattle.engine.specs.Starting.{freshOf}
+use Rattle.engine.specs.Starting.{freshOf, freshRecords}
 use Rattle.engine.specs.declared.sending.SendAnswer.{SendAnswer}
 use Rattle.engine.specs.declared.sending.SendAnswer.the-variants as sends
 use Rattle.engine.specs.declared.resending.ResendAnswer.{ResendAnswer}
@@ -24,7 +24,7 @@ use Rattle.engine.specs.declared.handing_out.HandOut.the-variants as handouts
 use Rattle.engine.specs.declared.handing_out.TakeAck.{TakeAck as AckAnswer}
 use Rattle.engine.specs.declared.handing_out.TakeAck.the-variants as acks
 use Rattle.engine.specs.HandingOut.{shownOf, takeOf, takeAckOf}
-use Rattle.engine.specs.Sizes.{PACKETS, SENT_BYTES, RECEIVED_BYTES}
+use Rattle.engine.specs.Sizes.{PACKETS, DATA_BYTES, SENT_BYTES}
 use Rattle.laws.specs.Calls as calls
 
 -- ---- what there is
@@ -41,11 +41,12 @@ pub record Packet : Type 0 where
   pub number : ℕ
   pub msg : Msg
 
--- an end: its state and its two stores; then what the observer writes down
+-- an end: its state, its two stores and its records; then what the observer writes down
 pub record End : Type 0 where
   pub state : State
   pub sent : List ℕ
   pub received : List ℕ
+  pub records : List ℕ
   -- what its accepted Sends were given, in order
   pub given : List Msg
   -- what it handed out, in order
@@ -75,13 +76,13 @@ swap W = record { start = W .start; a = W .b; b = W .a; ab = W .ba; ba = W .ab }
 
 -- what an end holds
 abbrev pub holds : End → calls.Holding
-holds e = record { state = e .state; sent = e .sent; received = e .received }
+holds e = record { state = e .state; sent = e .sent; received = e .received; records = e .records }
 
 -- the world with what a call left of that, and with what the observer then has written down; b and what it put are left alone
 abbrev pub written : World → calls.Holding → (given out : List Msg) (accepted msgs : List Packet) (acks : List ℕ) → World
 written W h given out accepted msgs acks = record {
   start = W .start;
-  a = record { state = h .state; sent = h .sent; received = h .received; given = given; out = out; accepted = accepted };
+  a = record { state = h .state; sent = h .sent; received = h .received; records = h .records; given = given; out = out; accepted = accepted };
   b = W .b;
   ab = record { msgs = msgs; acks = acks };
   ba = W .ba;
@@ -131,7 +132,7 @@ acceptedBy (outcomes.No r) accepted p = accepted
 
 unfoldable pub receiveAt : World → ℕ → Packet → World
 receiveAt W slot p =
-    let outcome = receiveOf (W .a .state) (length (W .a .received)) slot (p .msg .kind) (p .number) (length (p .msg .bytes)) .outcome in
+    let outcome = receiveOf (W .a .state) (length (W .a .received)) (W .a .records) slot (p .msg .kind) (p .number) (length (p .msg .bytes)) .outcome in
     let call = calls.Receive slot (p .msg .kind) (p .number) (p .msg .bytes) in
     written W (calls.next call (holds (W .a))) (W .a .given) (W .a .out) (acceptedBy outcome (W .a .accepted) p) (W .ab .msgs) (W .ab .acks)
 
@@ -142,7 +143,8 @@ outBy (handouts.No r) out shown = out
 
 unfoldable pub takeAt : World → World
 takeAt W =
-    written W (calls.next calls.Take (holds (W .a))) (W .a .given) (outBy (takeOf (W .a .state) .answer) (W .a .out) (shownOf (W .a .state) (W .a .received))) (W .a .accepted)
+    written W (calls.next calls.Take (holds (W .a))) (W .a .given)
+    (outBy (takeOf (W .a .state) (W .a .records) .answer) (W .a .out) (shownOf (W .a .state) (W .a .received) (W .a .records))) (W .a .accepted)
     (W .ab .msgs) (W .ab .acks)
 
 -- "the taking of an ack": it is put on the links
@@ -207,8 +209,16 @@ pub data Run (W : World) : World → Type 0 where
 
 -- ---- "two fresh ends, started at the same number"
 
-abbrev pub freshEnd : ℕ → ℕ → List ℕ → List ℕ → End
-freshEnd start buffer sent received = record { state = freshOf start buffer .state; sent = sent; received = received; given = []; out = []; accepted = [] }
+abbrev pub freshEnd : (start buffer cells : ℕ) (sent received records : List ℕ) → End
+freshEnd start buffer cells sent received records = record {
+  state = freshOf start buffer cells (length records) .state;
+  sent = sent;
+  received = received;
+  records = freshRecords buffer cells records;
+  given = [];
+  out = [];
+  accepted = [];
+}
 
 abbrev pub silent : Wire
 silent = record { msgs = []; acks = [] }
@@ -216,9 +226,10 @@ silent = record { msgs = []; acks = [] }
 abbrev pub freshWorld : ℕ → End → End → World
 freshWorld start a b = record { start = start; a = a; b = b; ab = silent; ba = silent }
 
--- any number, two settings of the receive buffer that aren't refused, and four stores of 65,536 bytes with any bytes in them
+-- any number; at each end a setting of the receive buffer, a cell count and a record space that aren't refused, whatever the records held; and the two stores of
+-- its size, with any bytes in them
 pub data Fresh : World → Type 0 where
-  fresh : (start buffer-a buffer-b : ℕ) (sent-a received-a sent-b received-b : List ℕ) → start < 2 ^ 32
-      → freshOf start buffer-a .outcome ≡ outcomes.Done → freshOf start buffer-b .outcome ≡ outcomes.Done
-      → length sent-a ≡ SENT_BYTES → length received-a ≡ RECEIVED_BYTES → length sent-b ≡ SENT_BYTES → length received-b ≡ RECEIVED_BYTES
-      → Fresh (freshWorld start (freshEnd start buffer-a sent-a received-a) (freshEnd start buffer-b sent-b received-b))
+  fresh : (start buffer-a cells-a buffer-b cells-b : ℕ) (sent-a received-a records-a sent-b received-b records-b : List ℕ) → start < 2 ^ 32
+      → freshOf start buffer-a cells-a (length records-a) .outcome ≡ outcomes.Done → freshOf start buffer-b cells-b (length records-b) .outcome ≡ outcomes.Done
+      → length sent-a ≡ SENT_BYTES → length received-a ≡ cells-a * DATA_BYTES → length sent-b ≡ SENT_BYTES → length received-b ≡ cells-b * DATA_BYTES
+      → Fresh (freshWorld start (freshEnd start buffer-a cells-a sent-a received-a records-a) (freshEnd start buffer-b cells-b sent-b received-b records-b))

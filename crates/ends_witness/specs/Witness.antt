@@ -1,7 +1,9 @@
 -- The premises of demand 3 can be met, with any bytes in the stores: a run over the wrap with a loss, a reordering, a resend over another
 -- link and a repeat, to a hand-out of all that was given and an empty table. Each step is computed from the engine's own
 -- definitions. Assumes nothing.
-use Rattle.engine.specs.Received.{bytesIn}
+use Rattle.engine.specs.CellCount.{isCellCount}
+use Rattle.engine.specs.Records.{heldAs, heldOf, isRecord, keptRecord}
+use Rattle.engine.specs.Received.{tableOf, heldAt, isUsed, cellOf, bytesIn}
 use Rattle.engine.specs.Packets.{queuedOf, sumOf}
 use mathlib.Core.Path.{_≡_, refl, sym, _∙_, ap, subst}
 use mathlib.Core.Bool.{false, cond}
@@ -19,15 +21,16 @@ use Rattle.engine.specs.declared.state.SentReliableStatus.{SentReliableStatus}
 use Rattle.engine.specs.declared.state.SentReliableStatus.the-variants as statuses
 use Rattle.engine.specs.declared.answer.Outcome.the-variants as outcomes
 use Rattle.engine.specs.Stores.{storeBy, copied, cellStart}
+use Rattle.engine.specs.declared.handing_out.HandOut.{HandOut}
 use Rattle.engine.specs.declared.handing_out.HandOut.the-variants as handouts
-use Rattle.seq.specs.Numbers.{plus, minus, signed}
+use Rattle.seq.specs.Numbers.{seqOf, plus, minus, signed}
 use Rattle.seq.specs.Distance.{distanceOf, near, before, past}
 use Rattle.link.specs.Acks.{ackQueued, waiting, oldestAck, shifted, ackTaken}
 use Rattle.link.specs.Limit.{markedRow, markAckedAs, markResentAs}
 use Rattle.link.specs.Roundtrip.{tripAfter, tripMoved}
 use Rattle.link.specs.Row.{freshRow, emptyRow, unconfirmedRow, withUnacked}
-use Rattle.engine.specs.Decide.{soundb, sound?}
-use Rattle.engine.specs.Starting.{freshTx, freshRx, freshState, freshVerdict, freshOf}
+use Rattle.engine.specs.Decide.{soundb, sound?, records?, recordsb, soundWithb}
+use Rattle.engine.specs.Starting.{freshTx, freshRx, freshState, freshVerdict, freshOf, freshRecords}
 use Rattle.engine.specs.Gates.{slotVerdict, timedVerdict}
 use Rattle.engine.specs.Queue.{requeued}
 use Rattle.engine.specs.Ring.{window, nextCell, refilled}
@@ -40,35 +43,38 @@ use Rattle.engine.specs.Resending.{resendVerdict, resentState, resendOf, isList
 use Rattle.engine.specs.Sending.{totalsOk, sendVerdict, sentTx, toldRx, sentState, sendOf, sendStore}
 use Rattle.engine.specs.Acking.{ackedRow, ackedTx, ackedState, ackVerdict, ackOf, settledRowAs, receivedTx, settledTxAs, sweepFrom, sweepOf, sweptTx}
 use Rattle.engine.specs.Turns.{turns}
-use Rattle.engine.specs.Cells.{cellOf, nearOldest, isRepeat, canAdvance, passedOver}
-use Rattle.engine.specs.Receiving.{receiveVerdict, effectTx, storedRx, repeatedState, receivedState, receiveOf, receiveStore}
-use Rattle.engine.specs.HandingOut.{ackAnswer, takenAckState, takeAckOf, readyOf, handOutBy, showVerdict, showingOf, shownOf, partAs, takeVerdict, canSkip, passedBy, takenRx, takenState, takeOf, takeAckVerdict}
-use Rattle.engine.specs.Sizes.{CELLS, PACKETS}
+use Rattle.engine.specs.Cells.{nearOldest, isRepeat, canAdvance, passedOver, endAfter, openedRecords, putIn}
+use Rattle.engine.specs.Receiving.{messageVerdict, receiveVerdict, effectTx, repeatedState, effectState, receivedState, receiveOf, receiveStore, receiveRecords}
+use Rattle.engine.specs.HandingOut.{ackAnswer, takenAckState, takeAckOf, readyOf, handOutBy, showVerdict, showingOf, shownOf, partAs, takeVerdict, canSkip, passedBy, takenIn, takenState, takeOf, takeRecords, takeAckVerdict}
+use Rattle.engine.specs.Sizes.{PACKETS}
 use Rattle.laws.specs.Calls as calls
 use Rattle.ends.specs.World.{Msg, Packet, World, swap, holds, written, called, givenBy, putBy, sendAt, resendAt, acceptedBy, receiveAt, outBy, takeAt, takeAckAt, freshWorld, freshEnd, BEHIND, TimelyAck, Call, Other, Send, Resend, Receive, Acked, Take, TakeAck, at-a, at-b, Run, here, _then_, Fresh, fresh}
 use Rattle.ends.specs.Demand.{Emptied, SentOver, statusOf, Returned, now, earlier, Open, Stops}
 use Rattle.ends.specs.Theorem.{demand3}
 use Rattle.ends.specs.Store.{cellBytes, copied-here, copied-long}
 
--- ---- the calls that look at a store's length, with the length written down
+-- ---- the calls that look at a store's length, with the length and the cell count written down
 
 sendWith : ℕ → World → ℕ → ℕ → Msg → World
 sendWith n W slot time m =
     let r = sendOf (W .a .state) n slot time (m .kind) (length (m .bytes)) in
     let store = storeBy (sendVerdict (W .a .state) n slot time (m .kind) (length (m .bytes))) (W .a .sent) (copied (W .a .sent) (cellStart PACKETS (W .a .state .tx .«tx_seq» .0)) (m .bytes)) in
-    written W (record { state = r .state; sent = store; received = W .a .received }) (givenBy (r .answer) (W .a .given) m) (W .a .out) (W .a .accepted)
+    written W (record { state = r .state; sent = store; received = W .a .received; records = W .a .records }) (givenBy (r .answer) (W .a .given) m) (W .a .out) (W .a .accepted)
     (putBy (r .answer) (W .ab .msgs) (length (W .a .given)) m) (W .ab .acks)
 
-receiveWith : ℕ → World → ℕ → Packet → World
-receiveWith n W slot p =
-    let r = receiveOf (W .a .state) n slot (p .msg .kind) (p .number) (length (p .msg .bytes)) in
-    let store = storeBy (receiveVerdict (W .a .state) n slot (p .msg .kind) (p .number) (length (p .msg .bytes))) (W .a .received)
-    (cond (isRepeat 64 (W .a .state .rx) (p .number)) (W .a .received) (copied (W .a .received) (cellStart CELLS (p .number)) (p .msg .bytes))) in
-    written W (record { state = r .state; sent = W .a .sent; received = store }) (W .a .given) (W .a .out) (acceptedBy (r .outcome) (W .a .accepted) p) (W .ab .msgs) (W .ab .acks)
+receiveWith : (store cells : ℕ) → World → ℕ → Packet → World
+receiveWith n N W slot p =
+    let s = W .a .state in
+    let r = receiveOf s n (W .a .records) slot (p .msg .kind) (p .number) (length (p .msg .bytes)) in
+    let store = storeBy (receiveVerdict s n (W .a .records) slot (p .msg .kind) (p .number) (length (p .msg .bytes))) (W .a .received)
+    (cond (isRepeat (s .rx .cells) (tableOf (s .rx) (W .a .records)) (p .number)) (W .a .received) (copied (W .a .received) (cellStart N (p .number)) (p .msg .bytes))) in
+    let records = receiveRecords s n (W .a .records) slot (p .msg .kind) (p .number) (length (p .msg .bytes)) in
+    written W (record { state = r .state; sent = W .a .sent; received = store; records = records }) (W .a .given) (W .a .out) (acceptedBy (r .outcome) (W .a .accepted) p) (W .ab .msgs) (W .ab .acks)
 
-takeWith : ℕ → World → World
-takeWith n W =
-    written W (calls.next calls.Take (holds (W .a))) (W .a .given) (outBy (takeOf (W .a .state) .answer) (W .a .out) (partAs (showingOf (W .a .state) n) (W .a .received))) (W .a .accepted)
+takeWith : (store cells : ℕ) → World → World
+takeWith n N W =
+    written W (calls.next calls.Take (holds (W .a))) (W .a .given)
+    (outBy (takeOf (W .a .state) (W .a .records) .answer) (W .a .out) (partAs N (showingOf (W .a .state) n (W .a .records)) (W .a .received))) (W .a .accepted)
     (W .ab .msgs) (W .ab .acks)
 
 send-step : (W : World) (slot time : ℕ) (m : Msg) → length (W .a .sent) ≡ 65536 → Call W (sendWith 65536 W slot time m)
@@ -76,13 +82,13 @@ unfolding sendAt sendStore sendWith
 send-step W slot time m h = subst (λ (n : ℕ). Call W (sendWith n W slot time m)) h (Send slot time m)
 
 receive-step : (W : World) (slot : ℕ) (p : Packet) → length (W .a .received) ≡ 65536 → List·Memᴰ p (W .ba .msgs) → length (W .b .given) < p .index + BEHIND
-    → Call W (receiveWith 65536 W slot p)
+    → W .a .state .rx .cells ≡ 64 → Call W (receiveWith 65536 64 W slot p)
 unfolding receiveAt receiveStore receiveWith
-receive-step W slot p h brought timely = subst (λ (n : ℕ). Call W (receiveWith n W slot p)) h (Receive slot p brought timely)
+receive-step W slot p h brought timely e = subst (λ (k : ℕ × ℕ). Call W (receiveWith (k .0) (k .1) W slot p)) (λ d. (h d, e d)) (Receive slot p brought timely)
 
-take-step : (W : World) → length (W .a .received) ≡ 65536 → Call W (takeWith 65536 W)
+take-step : (W : World) → length (W .a .received) ≡ 65536 → W .a .state .rx .cells ≡ 64 → Call W (takeWith 65536 64 W)
 unfolding takeAt shownOf takeWith
-take-step W h = subst (λ (n : ℕ). Call W (takeWith n W)) h Take
+take-step W h e = subst (λ (k : ℕ × ℕ). Call W (takeWith (k .0) (k .1) W)) (λ d. (h d, e d)) Take
 
 -- the numbers of the acks that wait for a slot, oldest first
 abbrev pub waitingOf : State → ℕ → List ℕ
@@ -94,8 +100,15 @@ sent-unreceived (statuses.Sent flight) slot h e = let z : _≡_ {A = ℕ} 0 1 = 
 sent-unreceived statuses.Received slot h e = h
 sent-unreceived (statuses.ResendQueued link) slot h e = h
 
-fresh-ok : freshOf 4294967295 65536 .outcome ≡ outcomes.Done
-unfolding freshOf freshVerdict
+-- the record spaces, of 64 cells each, before the fresh states: they hold what is no record
+abbrev pub CELLS : ℕ
+CELLS = 64
+
+abbrev pub lent : List ℕ
+lent = replicate CELLS 7
+
+fresh-ok : freshOf 4294967295 65536 CELLS (length lent) .outcome ≡ outcomes.Done
+unfolding freshOf freshVerdict isCellCount
 fresh-ok = refl
 
 -- a byte of data, then the end: their numbers are 2^32 − 1 and 0
@@ -113,7 +126,7 @@ p1 = record { index = 1; number = 0; msg = finish }
 
 -- two fresh ends, just before the wrap, with any bytes in their stores
 abbrev pub begun : List ℕ → List ℕ → List ℕ → List ℕ → World
-begun sent-a received-a sent-b received-b = freshWorld 4294967295 (freshEnd 4294967295 65536 sent-a received-a) (freshEnd 4294967295 65536 sent-b received-b)
+begun sent-a received-a sent-b received-b = freshWorld 4294967295 (freshEnd 4294967295 65536 CELLS sent-a received-a lent) (freshEnd 4294967295 65536 CELLS sent-b received-b lent)
 
 -- what a run from there shows
 pub record Met (sent-a received-a sent-b received-b : List ℕ) : Type 0 where
@@ -140,7 +153,7 @@ pub record Met (sent-a received-a sent-b received-b : List ℕ) : Type 0 where
   pub accepted : ended .b .accepted ≡ p1 ∷ p0 ∷ p1 ∷ []
   -- the table is empty, nothing is left to take, and all that was given was handed out
   pub emptied : Emptied ended
-  pub nothing : takeOf (ended .b .state) .answer ≡ handouts.No (refuse 19 tt)
+  pub nothing : takeOf (ended .b .state) (ended .b .records) .answer ≡ handouts.No (refuse 19 tt)
   pub given : ended .a .given ≡ data-7 ∷ finish ∷ []
   pub out : ended .b .out ≡ data-7 ∷ finish ∷ []
 
@@ -171,7 +184,7 @@ module _ (sa ra sb rb : List ℕ) where
   w6 = sendWith 65536 w5 0 0 finish
 
   w7 : World
-  w7 = swap (receiveWith 65536 (swap w6) 0 p1)
+  w7 = swap (receiveWith 65536 64 (swap w6) 0 p1)
 
   -- a doubts link 0, and resends both over link 1
   w8 : World
@@ -185,16 +198,16 @@ module _ (sa ra sb rb : List ℕ) where
 
   -- both arrive over link 1, the second as a repeat; b hands out both, in order
   w11 : World
-  w11 = swap (receiveWith 65536 (swap w10) 1 p0)
+  w11 = swap (receiveWith 65536 64 (swap w10) 1 p0)
 
   w12 : World
-  w12 = swap (receiveWith 65536 (swap w11) 1 p1)
+  w12 = swap (receiveWith 65536 64 (swap w11) 1 p1)
 
   w13 : World
-  w13 = swap (takeWith 65536 (swap w12))
+  w13 = swap (takeWith 65536 64 (swap w12))
 
   w14 : World
-  w14 = swap (takeWith 65536 (swap w13))
+  w14 = swap (takeWith 65536 64 (swap w13))
 
   -- b takes the two acks that wait for link 1, and they come back to a over it; the ack that waits for link 0 stays
   w15 : World
@@ -225,6 +238,11 @@ module _ (sa ra sb rb : List ℕ) where
     received-11 : w11 .b .received ≡ copied rb 64512 (7 ∷ [])
     received-12 : w12 .b .received ≡ copied rb 64512 (7 ∷ [])
     received-13 : w13 .b .received ≡ copied rb 64512 (7 ∷ [])
+    cells-6 : w6 .b .state .rx .cells ≡ 64
+    cells-10 : w10 .b .state .rx .cells ≡ 64
+    cells-11 : w11 .b .state .rx .cells ≡ 64
+    cells-12 : w12 .b .state .rx .cells ≡ 64
+    cells-13 : w13 .b .state .rx .cells ≡ 64
     given-6 : w6 .a .given ≡ data-7 ∷ finish ∷ []
     given-10 : w10 .a .given ≡ data-7 ∷ finish ∷ []
     given-11 : w11 .a .given ≡ data-7 ∷ finish ∷ []
@@ -247,14 +265,15 @@ module _ (sa ra sb rb : List ℕ) where
     number-1 : 0 ≡ plus (w16 .start) 1
     number-0 : 4294967295 ≡ plus (w16 .start) 0
     accepted-16 : ackOf (w16 .a .state) 1 0 0 .outcome ≡ outcomes.Done
+    copies-16 : length (w16 .ab .msgs) ≡ 4
+
+  record ComputedLast : Type 0 where
     accepted-17 : ackOf (w17 .a .state) 1 0 4294967295 .outcome ≡ outcomes.Done
     table-18 : w18 .a .state .tx .«txed_count» ≡ 0
-    none-16 : takeOf (w16 .b .state) .answer ≡ handouts.No (refuse 19 tt)
-    copies-16 : length (w16 .ab .msgs) ≡ 4
-    out-16 : w16 .b .out ≡ record { kind = msgs.Data; bytes = received-cell } ∷ finish ∷ []
+    none-16 : takeOf (w16 .b .state) (w16 .b .records) .answer ≡ handouts.No (refuse 19 tt)
 
   computed : Computed
-  unfolding plus minus signed distanceOf near before past ackQueued waiting oldestAck shifted ackTaken markedRow markAckedAs markResentAs tripAfter tripMoved freshRow emptyRow unconfirmedRow withUnacked nextCell window sound? queuedOf sumOf bytesIn refilled place lookedAt packetOf withTable isTaken isListed takeAckVerdict soundb freshTx freshRx freshState freshVerdict freshOf slotVerdict timedVerdict requeued rowOf slotOk timeOk inTable withPacket lengthOk lowestEmpty addVerdict addOf unconfirmed unconfirmedState unconfirmOf resendVerdict resentState resendOf totalsOk sendVerdict sentTx toldRx sentState sendOf sendStore ackedRow ackedTx ackedState ackVerdict ackOf settledRowAs receivedTx settledTxAs sweepFrom sweepOf sweptTx cellOf nearOldest isRepeat canAdvance passedOver turns receiveVerdict effectTx storedRx repeatedState receivedState receiveOf receiveStore ackAnswer takenAckState takeAckOf readyOf handOutBy showVerdict showingOf shownOf takeVerdict canSkip passedBy takenRx takenState takeOf resendAt takeAckAt sendWith receiveWith takeWith w0 w1 w2 w3 w4 w5 w6 w7 w8 w9 w10 w11 w12 w13 w14 w15 w16 w17 w18
+  unfolding plus minus signed distanceOf near before past ackQueued waiting oldestAck shifted ackTaken markedRow markAckedAs markResentAs tripAfter tripMoved freshRow emptyRow unconfirmedRow withUnacked nextCell window sound? records? recordsb soundWithb isCellCount queuedOf sumOf bytesIn refilled place lookedAt packetOf withTable isTaken isListed takeAckVerdict soundb freshTx freshRx freshState freshVerdict freshOf freshRecords slotVerdict timedVerdict requeued rowOf slotOk timeOk inTable withPacket lengthOk lowestEmpty addVerdict addOf unconfirmed unconfirmedState unconfirmOf resendVerdict resentState resendOf totalsOk sendVerdict sentTx toldRx sentState sendOf sendStore ackedRow ackedTx ackedState ackVerdict ackOf settledRowAs receivedTx settledTxAs sweepFrom sweepOf sweptTx heldAs heldOf isRecord keptRecord heldAt isUsed cellOf nearOldest isRepeat canAdvance passedOver endAfter openedRecords putIn turns messageVerdict receiveVerdict effectTx repeatedState effectState receivedState receiveOf receiveStore receiveRecords ackAnswer takenAckState takeAckOf readyOf handOutBy showVerdict showingOf shownOf takeVerdict canSkip passedBy takenIn takenState takeOf takeRecords resendAt takeAckAt sendWith receiveWith takeWith w0 w1 w2 w3 w4 w5 w6 w7 w8 w9 w10 w11 w12 w13 w14 w15 w16 w17 w18
   computed = record {
     sent-4 = refl;
     sent-5 = refl;
@@ -263,6 +282,11 @@ module _ (sa ra sb rb : List ℕ) where
     received-11 = refl;
     received-12 = refl;
     received-13 = refl;
+    cells-6 = refl;
+    cells-10 = refl;
+    cells-11 = refl;
+    cells-12 = refl;
+    cells-13 = refl;
     given-6 = refl;
     given-10 = refl;
     given-11 = refl;
@@ -277,7 +301,7 @@ module _ (sa ra sb rb : List ℕ) where
   }
 
   computed-later : ComputedLater
-  unfolding plus minus signed distanceOf near before past ackQueued waiting oldestAck shifted ackTaken markedRow markAckedAs markResentAs tripAfter tripMoved freshRow emptyRow unconfirmedRow withUnacked nextCell window sound? queuedOf sumOf bytesIn refilled place lookedAt packetOf withTable isTaken isListed takeAckVerdict soundb freshTx freshRx freshState freshVerdict freshOf slotVerdict timedVerdict requeued rowOf slotOk timeOk inTable withPacket lengthOk lowestEmpty addVerdict addOf unconfirmed unconfirmedState unconfirmOf resendVerdict resentState resendOf totalsOk sendVerdict sentTx toldRx sentState sendOf sendStore ackedRow ackedTx ackedState ackVerdict ackOf settledRowAs receivedTx settledTxAs sweepFrom sweepOf sweptTx cellOf nearOldest isRepeat canAdvance passedOver turns receiveVerdict effectTx storedRx repeatedState receivedState receiveOf receiveStore ackAnswer takenAckState takeAckOf readyOf handOutBy showVerdict showingOf shownOf takeVerdict canSkip passedBy takenRx takenState takeOf resendAt takeAckAt sendWith receiveWith takeWith w0 w1 w2 w3 w4 w5 w6 w7 w8 w9 w10 w11 w12 w13 w14 w15 w16 w17 w18
+  unfolding plus minus signed distanceOf near before past ackQueued waiting oldestAck shifted ackTaken markedRow markAckedAs markResentAs tripAfter tripMoved freshRow emptyRow unconfirmedRow withUnacked nextCell window sound? records? recordsb soundWithb isCellCount queuedOf sumOf bytesIn refilled place lookedAt packetOf withTable isTaken isListed takeAckVerdict soundb freshTx freshRx freshState freshVerdict freshOf freshRecords slotVerdict timedVerdict requeued rowOf slotOk timeOk inTable withPacket lengthOk lowestEmpty addVerdict addOf unconfirmed unconfirmedState unconfirmOf resendVerdict resentState resendOf totalsOk sendVerdict sentTx toldRx sentState sendOf sendStore ackedRow ackedTx ackedState ackVerdict ackOf settledRowAs receivedTx settledTxAs sweepFrom sweepOf sweptTx heldAs heldOf isRecord keptRecord heldAt isUsed cellOf nearOldest isRepeat canAdvance passedOver endAfter openedRecords putIn turns messageVerdict receiveVerdict effectTx repeatedState effectState receivedState receiveOf receiveStore receiveRecords ackAnswer takenAckState takeAckOf readyOf handOutBy showVerdict showingOf shownOf takeVerdict canSkip passedBy takenIn takenState takeOf takeRecords resendAt takeAckAt sendWith receiveWith takeWith w0 w1 w2 w3 w4 w5 w6 w7 w8 w9 w10 w11 w12 w13 w14 w15 w16 w17 w18
   computed-later = record {
     given-16 = refl;
     acks-16 = refl;
@@ -287,12 +311,34 @@ module _ (sa ra sb rb : List ℕ) where
     number-1 = refl;
     number-0 = refl;
     accepted-16 = refl;
-    accepted-17 = refl;
-    table-18 = refl;
-    none-16 = refl;
     copies-16 = refl;
-    out-16 = refl;
   }
+
+  computed-last : ComputedLast
+  unfolding plus minus signed distanceOf near before past ackQueued waiting oldestAck shifted ackTaken markedRow markAckedAs markResentAs tripAfter tripMoved freshRow emptyRow unconfirmedRow withUnacked nextCell window sound? records? recordsb soundWithb isCellCount queuedOf sumOf bytesIn refilled place lookedAt packetOf withTable isTaken isListed takeAckVerdict soundb freshTx freshRx freshState freshVerdict freshOf freshRecords slotVerdict timedVerdict requeued rowOf slotOk timeOk inTable withPacket lengthOk lowestEmpty addVerdict addOf unconfirmed unconfirmedState unconfirmOf resendVerdict resentState resendOf totalsOk sendVerdict sentTx toldRx sentState sendOf sendStore ackedRow ackedTx ackedState ackVerdict ackOf settledRowAs receivedTx settledTxAs sweepFrom sweepOf sweptTx heldAs heldOf isRecord keptRecord heldAt isUsed cellOf nearOldest isRepeat canAdvance passedOver endAfter openedRecords putIn turns messageVerdict receiveVerdict effectTx repeatedState effectState receivedState receiveOf receiveStore receiveRecords ackAnswer takenAckState takeAckOf readyOf handOutBy showVerdict showingOf shownOf takeVerdict canSkip passedBy takenIn takenState takeOf takeRecords resendAt takeAckAt sendWith receiveWith takeWith w0 w1 w2 w3 w4 w5 w6 w7 w8 w9 w10 w11 w12 w13 w14 w15 w16 w17 w18
+  computed-last = record { accepted-17 = refl; table-18 = refl; none-16 = refl }
+
+  -- what b is answered as it takes both, and what is shown before
+  abbrev first-out : HandOut
+  first-out = handouts.Message msgs.Data (seqOf 4294967295) 1
+
+  abbrev second-out : HandOut
+  second-out = handouts.Message msgs.SendFinish (seqOf 0) 0
+
+  record Handed : Type 0 where
+    none-12 : w12 .b .out ≡ []
+    took-12 : takeOf (w12 .b .state) (w12 .b .records) .answer ≡ first-out
+    shown-12 : showingOf (w12 .b .state) 65536 (w12 .b .records) ≡ first-out
+    took-13 : takeOf (w13 .b .state) (w13 .b .records) .answer ≡ second-out
+    shown-13 : showingOf (w13 .b .state) 65536 (w13 .b .records) ≡ second-out
+
+  handed : Handed
+  unfolding plus minus signed distanceOf near before past ackQueued waiting oldestAck shifted ackTaken markedRow markAckedAs markResentAs tripAfter tripMoved freshRow emptyRow unconfirmedRow withUnacked nextCell window sound? records? recordsb soundWithb isCellCount queuedOf sumOf bytesIn refilled place lookedAt packetOf withTable isTaken isListed takeAckVerdict soundb freshTx freshRx freshState freshVerdict freshOf freshRecords slotVerdict timedVerdict requeued rowOf slotOk timeOk inTable withPacket lengthOk lowestEmpty addVerdict addOf unconfirmed unconfirmedState unconfirmOf resendVerdict resentState resendOf totalsOk sendVerdict sentTx toldRx sentState sendOf sendStore ackedRow ackedTx ackedState ackVerdict ackOf settledRowAs receivedTx settledTxAs sweepFrom sweepOf sweptTx heldAs heldOf isRecord keptRecord heldAt isUsed cellOf nearOldest isRepeat canAdvance passedOver endAfter openedRecords putIn turns messageVerdict receiveVerdict effectTx repeatedState effectState receivedState receiveOf receiveStore receiveRecords ackAnswer takenAckState takeAckOf readyOf handOutBy showVerdict showingOf shownOf takeVerdict canSkip passedBy takenIn takenState takeOf takeRecords resendAt takeAckAt sendWith receiveWith takeWith w0 w1 w2 w3 w4 w5 w6 w7 w8 w9 w10 w11 w12 w13 w14 w15 w16 w17 w18
+  handed = record { none-12 = refl; took-12 = refl; shown-12 = refl; took-13 = refl; shown-13 = refl }
+
+  out-16 : w16 .b .out ≡ record { kind = msgs.Data; bytes = received-cell } ∷ finish ∷ []
+  unfolding takeAckAt takeWith w13 w14 w15 w16
+  out-16 = λ d. outBy (handed .took-13 d) (outBy (handed .took-12 d) (handed .none-12 d) (partAs 64 (handed .shown-12 d) (computed .received-12 d))) (partAs 64 (handed .shown-13 d) (computed .received-13 d))
 
   -- ---- the run, step by step
 
@@ -302,6 +348,9 @@ module _ (sa ra sb rb : List ℕ) where
 
     abbrev later : ComputedLater
     later = computed-later
+
+    abbrev last : ComputedLast
+    last = computed-last
 
     two : (l : List Msg) → l ≡ data-7 ∷ finish ∷ [] → length l ≡ 2
     two l e = ap length e
@@ -326,7 +375,7 @@ module _ (sa ra sb rb : List ℕ) where
         (at-b (Other {W = swap w3} (calls.Add 2 0 Unlimited false false) tt tt)))
         (at-a (send-step w4 0 0 data-7 (ap length (c .sent-4) ∙ ha))))
         (at-a (send-step w5 0 0 finish (ap length (c .sent-5) ∙ put-a))))
-        (at-b (receive-step (swap w6) 0 p1 (ap length (c .received-6) ∙ hb) (rw (c .msgs-6) (List·Memᴰ·head refl)) (omega (arith, two (w6 .a .given) (c .given-6))))))
+        (at-b (receive-step (swap w6) 0 p1 (ap length (c .received-6) ∙ hb) (rw (c .msgs-6) (List·Memᴰ·head refl)) (omega (arith, two (w6 .a .given) (c .given-6))) (c .cells-6))))
         (at-a (Other (calls.Unconfirm 0) tt tt)))
         (at-a (Resend 1 0 4294967295 (omega arith))))
         (at-a (Resend 1 0 0 (omega arith)))
@@ -335,15 +384,15 @@ module _ (sa ra sb rb : List ℕ) where
     unfolding w11 w12
     to-12 =
         _then_ {X = w11} {Y = w12} (_then_ {X = w10} {Y = w11} here
-        (at-b (receive-step (swap w10) 1 p0 (ap length (c .received-10) ∙ hb) (rw (c .msgs-10) (List·Memᴰ·tail (List·Memᴰ·head resent-same))) (omega (arith, two (w10 .a .given) (c .given-10))))))
-        (at-b (receive-step (swap w11) 1 p1 (ap length (c .received-11) ∙ put-b) (rw (c .msgs-11) (List·Memᴰ·head refl)) (omega (arith, two (w11 .a .given) (c .given-11)))))
+        (at-b (receive-step (swap w10) 1 p0 (ap length (c .received-10) ∙ hb) (rw (c .msgs-10) (List·Memᴰ·tail (List·Memᴰ·head resent-same))) (omega (arith, two (w10 .a .given) (c .given-10))) (c .cells-10))))
+        (at-b (receive-step (swap w11) 1 p1 (ap length (c .received-11) ∙ put-b) (rw (c .msgs-11) (List·Memᴰ·head refl)) (omega (arith, two (w11 .a .given) (c .given-11))) (c .cells-11)))
 
     to-16 : Run w10 w16
     unfolding w13 w14 w15 w16
     to-16 =
         _then_ {X = w15} {Y = w16} (_then_ {X = w14} {Y = w15} (_then_ {X = w13} {Y = w14} (_then_ {X = w12} {Y = w13} to-12
-        (at-b (take-step (swap w12) (ap length (c .received-12) ∙ put-b))))
-        (at-b (take-step (swap w13) (ap length (c .received-13) ∙ put-b))))
+        (at-b (take-step (swap w12) (ap length (c .received-12) ∙ put-b) (c .cells-12))))
+        (at-b (take-step (swap w13) (ap length (c .received-13) ∙ put-b) (c .cells-13))))
         (at-b (TakeAck {W = swap w14} 1)))
         (at-b (TakeAck {W = swap w15} 1))
 
@@ -377,7 +426,7 @@ module _ (sa ra sb rb : List ℕ) where
 
     returned-0 : Returned w10 0 w18 to-18
     unfolding w17 w18 to-18
-    returned-0 = now {W = w17} to-17 1 0 4294967295 back-0 in-time-0 (later .number-0) (later .over-0) (later .accepted-17)
+    returned-0 = now {W = w17} to-17 1 0 4294967295 back-0 in-time-0 (later .number-0) (later .over-0) (last .accepted-17)
 
     returned-1 : Returned w10 1 w18 to-18
     unfolding w17 w18 to-17 to-18
@@ -398,7 +447,7 @@ module _ (sa ra sb rb : List ℕ) where
     met = record {
       resent = w10;
       ended = w18;
-      fresh-ends = fresh 4294967295 65536 65536 sa ra sb rb (omega arith) fresh-ok fresh-ok ha hra hsb hb;
+      fresh-ends = fresh 4294967295 65536 CELLS 65536 CELLS sa ra lent sb rb lent (omega arith) fresh-ok fresh-ok ha hra hsb hb;
       first = to-10;
       second = to-18;
       arrived = w12;
@@ -413,10 +462,10 @@ module _ (sa ra sb rb : List ℕ) where
       returned = each;
       copies = later .copies-16;
       accepted = later .all-16;
-      emptied = later .table-18;
-      nothing = later .none-16;
+      emptied = last .table-18;
+      nothing = last .none-16;
       given = later .given-16;
-      out = later .out-16 ∙ (λ d. record { kind = msgs.Data; bytes = copied-here CELLS (omega arith) rb hb 4294967295 (7 ∷ []) (omega arith) d } ∷ finish ∷ []);
+      out = out-16 ∙ (λ d. record { kind = msgs.Data; bytes = copied-here CELLS (omega arith) rb hb 4294967295 (7 ∷ []) (omega arith) d } ∷ finish ∷ []);
     }
 
 -- the theorem says of this run that its table is emptied

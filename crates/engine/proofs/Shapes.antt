@@ -34,7 +34,6 @@ shaped s typed = record {
       each-at _ _ (λ r. length (r .«tx_ack_queue») ≡ ACKS) (λ r vs t. simp length-map at (t .1 .1 .1 .1 .1 .1 .1 .1 .1 .1 .1 .1 .0 .1 .0 .1)) noRow (s .links) _ (typed .1 .1 .0 .1 .1) j (omega (arith, eight));
   packets-full = simp length-map at (typed .1 .1 .1 .0 .1 .1 .1 .0 .1 .0 .1);
   queue-full = simp length-map at (typed .1 .1 .1 .0 .1 .1 .1 .1 .1 .0 .1 .0 .1);
-  cells-full = simp length-map at (typed .1 .1 .1 .1 .0 .1 .1 .1 .1 .0 .1 .0 .1);
   next-u32 = typed .1 .1 .1 .0 .1 .1 .0 .1 .1 .0 .1;
   expected-u32 = typed .1 .1 .1 .1 .0 .1 .1 .0 .1 .1 .0 .1;
   oldest-u32 = typed .1 .1 .1 .1 .0 .1 .1 .1 .0 .1 .1 .0 .1;
@@ -44,8 +43,10 @@ shaped s typed = record {
   unconsumed-u32 = typed .1 .1 .1 .0 .1 .1 .1 .1 .1 .1 .1 .1 .0 .1;
   unconsumable-u32 = typed .1 .1 .1 .0 .1 .1 .1 .1 .1 .1 .1 .1 .1 .0 .1;
   last-u32 = typed .1 .1 .1 .0 .1 .1 .1 .1 .1 .1 .1 .1 .1 .1 .0 .1 .1 .0 .1;
-  size-u32 = typed .1 .1 .1 .1 .0 .1 .1 .1 .1 .1 .0 .1;
-  untold-u32 = typed .1 .1 .1 .1 .0 .1 .1 .1 .1 .1 .1 .0 .1;
-  buffer-u32 = typed .1 .1 .1 .1 .0 .1 .1 .1 .1 .1 .1 .1 .0 .1;
+  size-u32 = typed .1 .1 .1 .1 .0 .1 .1 .1 .1 .0 .1;
+  untold-u32 = typed .1 .1 .1 .1 .0 .1 .1 .1 .1 .1 .0 .1;
+  buffer-u32 = typed .1 .1 .1 .1 .0 .1 .1 .1 .1 .1 .1 .0 .1;
+  cells-u32 = typed .1 .1 .1 .1 .0 .1 .1 .1 .1 .1 .1 .1 .0 .1;
+  end-u32 = typed .1 .1 .1 .1 .0 .1 .1 .1 .1 .1 .1 .1 .1 .0 .1 .1 .0 .1;
   time-u64 = typed .1 .1 .1 .1 .1 .0 .1;
 }

@@ -1,20 +1,32 @@
--- What one pass over the receive table finds: the code's own way of deciding what Sound asks of it. That it decides just that
--- is proved in Decided. N is the cell count. Assumes nothing.
+-- What one pass over the records in use finds: the code's own way of deciding what Sound asks of them. That it decides just that is proved in
+-- DecidedRecords. N is the cell count. Assumes nothing.
 use mathlib.Core.Path.{_≡_, ap}
-use mathlib.Core.Bool.{Bool, true, false, cond, _&&_}
+use mathlib.Core.Bool.{Bool, true, false, cond, _&&_, _||_}
 use mathlib.Core.List.{List, [], _∷_}
-use Prim.Native.Nat.{ℕ, _+_, _-_, _≤_, _<_}
+use Prim.Native.Nat.{ℕ, _+_, _-_, _%_, _≤_, _<_}
+use native.Mathlib.Nat.{mod-lt}
+use native.Mathlib.Omega.{arith}
 use lib.Dec.{eqb, ltb}
 use lib.ListN.{getD}
-use Rattle.seq.specs.Numbers.{plus}
+use Rattle.seq.specs.Numbers.{plus, minus}
 use Rattle.engine.specs.declared.state.Held.{Held}
 use Rattle.engine.specs.declared.state.Held.the-variants.{Nothing, Message}
-use Rattle.engine.specs.declared.state.RxCell.{RxCell}
 use Rattle.engine.specs.declared.state.Receiving.{Receiving}
 use Rattle.engine.specs.declared.received.CellTally.{CellTally}
-use Rattle.engine.specs.Received.{noCell, cellView, expectedAt, isReadyKind, heldBytes}
+use Rattle.engine.specs.Records.{isFull, isReadyKind, heldBytes, heldOf, isRecord}
+use Rattle.engine.specs.Received.{RxTable, recordView, expectedAt, inUse, heldAt}
 use Rattle.engine.specs.Tally.{lengthOk}
 use Rattle.engine.specs.Ring.{window-step, window-none, window, nextCell}
+
+-- so many records are lent as there are cells, and there are some
+pub record Lent (rx : Receiving) (records : ℕ) : Type 0 where
+  pub some : 0 < rx .cells
+  pub all : records ≡ rx .cells
+
+-- .. and no more of them are in use
+pub record Judged (rx : Receiving) (records : ℕ) : Type 0 where
+  pub lent : Lent rx records
+  pub used : inUse rx ≤ rx .cells
 
 -- a cell k numbers past the oldest, where the next expected is e past it: the oldest is there if it is ready, nothing stands at
 -- the next expected, and what stands before it is ready
@@ -22,26 +34,40 @@ unfoldable pub cellOk : Held → ℕ → ℕ → Bool
 cellOk Nothing k e = cond (eqb k 0) (eqb e 0) true
 cellOk (Message msg len) k e = cond (eqb k e) false (cond (ltb k e) (isReadyKind msg && lengthOk msg len) (lengthOk msg len))
 
-unfoldable pub cellWeighed : CellTally → Held → ℕ → ℕ → CellTally
+unfoldable pub recordWeighed : CellTally → ℕ → ℕ → ℕ → CellTally
 unfolding cellOk
-cellWeighed t held k e = record { ok = t .ok && cellOk held k e; size = plus (t .size) (heldBytes held) }
+recordWeighed t word k e = record { ok = t .ok && (isRecord word && cellOk (heldOf word) k e); size = plus (t .size) (heldBytes (heldOf word)) }
 
-unfoldable pub cellTallyFrom : List RxCell → ℕ → ℕ → CellTally → CellTally
-unfolding cellWeighed
-cellTallyFrom [] k e t = t
-cellTallyFrom (c ∷ cs) k e t = cellTallyFrom cs (k + 1) e (cellWeighed t (c .held) k e)
+unfoldable pub recordTallyFrom : List ℕ → ℕ → ℕ → CellTally → CellTally
+unfolding recordWeighed
+recordTallyFrom [] k e t = t
+recordTallyFrom (w ∷ ws) k e t = recordTallyFrom ws (k + 1) e (recordWeighed t w k e)
 
-unfoldable pub cellTallyOf : ℕ → Receiving → CellTally
-unfolding cellTallyFrom
-cellTallyOf N rx = cellTallyFrom (cellView N rx) 0 (expectedAt rx) (record { ok = true; size = 0 })
+unfoldable pub recordTallyOf : ℕ → RxTable → CellTally
+unfolding recordTallyFrom
+recordTallyOf N t = recordTallyFrom (recordView N t) 0 (expectedAt (t .rx)) (record { ok = true; size = 0 })
+
+-- the last cell in use holds a message, where any is in use from the next expected number on
+unfoldable pub newestOk : ℕ → RxTable → Bool
+newestOk N t = eqb (t .rx .«rx_end» .0) (t .rx .«rx_seq» .0) || isFull (heldAt N (t .records) (minus (t .rx .«rx_end» .0) 1))
+
+unfoldable pub foundRecords : RxTable → Bool
+unfolding recordTallyOf newestOk
+foundRecords t =
+    let found = recordTallyOf (t .rx .cells) t in
+    found .ok && (eqb (found .size) (t .rx .«rxed_reliable_size») && newestOk (t .rx .cells) t)
 
 -- ---- laws
 
-pub cell-tally-step : (N : ℕ) (cells : List RxCell) (at left k e : ℕ) (t : CellTally) → 0 < left
-    → cellTallyFrom (window N noCell cells at left) k e t ≡ cellTallyFrom (window N noCell cells (nextCell N at) (left - 1)) (k + 1) e (cellWeighed t (getD cells at noCell .held) k e)
-unfolding cellTallyFrom
-cell-tally-step N cells at left k e t h = ap (λ cs. cellTallyFrom cs k e t) (window-step N noCell cells at left h)
+-- a number's cell is one of the records
+pub lent-cell : {rx : Receiving} {records : ℕ} (n : ℕ) → Lent rx records → n % rx .cells < records
+lent-cell n lent = omega (arith, mod-lt n (lent .some), lent .all)
 
-pub cell-tally-none : (N : ℕ) (cells : List RxCell) (at left k e : ℕ) (t : CellTally) → left ≤ 0 → cellTallyFrom (window N noCell cells at left) k e t ≡ t
-unfolding cellTallyFrom
-cell-tally-none N cells at left k e t h = ap (λ cs. cellTallyFrom cs k e t) (window-none N noCell cells at left h)
+pub record-tally-step : (N : ℕ) (records : List ℕ) (at left k e : ℕ) (t : CellTally) → 0 < left
+    → recordTallyFrom (window N 0 records at left) k e t ≡ recordTallyFrom (window N 0 records (nextCell N at) (left - 1)) (k + 1) e (recordWeighed t (getD records at 0) k e)
+unfolding recordTallyFrom
+record-tally-step N records at left k e t h = ap (λ ws. recordTallyFrom ws k e t) (window-step N 0 records at left h)
+
+pub record-tally-none : (N : ℕ) (records : List ℕ) (at left k e : ℕ) (t : CellTally) → left ≤ 0 → recordTallyFrom (window N 0 records at left) k e t ≡ t
+unfolding recordTallyFrom
+record-tally-none N records at left k e t h = ap (λ ws. recordTallyFrom ws k e t) (window-none N 0 records at left h)

@@ -1,15 +1,13 @@
 -- Whether a state is sound: `soundb` is true just of the states that Sound describes, since it decides that very record, clause by
--- clause. Refusal 1 asks it. Assumes nothing.
-use Rattle.engine.specs.Ring.{window-length}
-use Rattle.engine.specs.declared.state.Receiving.{Receiving}
-use Rattle.engine.specs.declared.state.RxCell.{RxCell}
+-- clause; and `recordsb` of what SoundRecords describes. Refusal 1 asks the first, and where records are used both. Assumes nothing.
 use mathlib.Core.Path.{_≡_, refl, ap, ap₂}
-use mathlib.Core.Bool.{Bool, true, false, not}
+use mathlib.Core.Bool.{Bool, true, false, not, _&&_}
 use mathlib.Core.List.{List, [], _∷_}
-use Prim.Native.Nat.{ℕ, zero, suc, _≤_, _<_, _%_}
+use Prim.Native.Nat.{ℕ, zero, suc, _*_, _≤_, _<_}
 use native.Mathlib.Nat.{not-suc-le-zero}
 use native.Mathlib.Omega.{arith}
 use borrow.Author.Tests.{ltb-true, leb-true, eqb-true, not-true, lt-ltb, le-leb, eq-eqb}
+use borrow.Table.Steps.{cases}
 use lib.Dec.{eqb, leb, ltb}
 use lib.ListN.{length, getD}
 use Rattle.seq.specs.declared.Seq.{Seq}
@@ -23,10 +21,12 @@ use Rattle.engine.specs.declared.state.Held.{Held}
 use Rattle.engine.specs.declared.state.Held.the-variants.{Nothing, Message}
 use Rattle.engine.specs.declared.state.State.{State}
 use Rattle.engine.specs.Packets.{firstOf, packets, queue, isReceived, queuedOf, SentOn, Outstanding, Settled, sumOf}
-use Rattle.engine.specs.Received.{cellView, expectedAt, isFull, isReadyKind, bytesIn, noCell}
+use Rattle.engine.specs.Records.{isFull, isReadyKind, isRecord}
+use Rattle.engine.specs.Received.{RxTable, tableOf, recordView, cellView, expectedAt, inUse, bytesIn}
 use Rattle.engine.specs.Tally.{lengthOk}
-use Rattle.engine.specs.Sound.{rowAt, packetAt, cellAt, SentHere, FlushedBy, SentBy, ReadyKind, LengthWithin, Sound}
-use Rattle.engine.specs.Sizes.{SLOTS, PACKETS, CELLS, MAX_RECV_BUFFER}
+use Rattle.engine.specs.Sound.{rowAt, packetAt, cellAt, SentHere, FlushedBy, SentBy, ReadyKind, LengthWithin, Sound, SoundRecords}
+use Rattle.engine.specs.CellCount.{isCellCount}
+use Rattle.engine.specs.Sizes.{SLOTS, PACKETS, DATA_BYTES}
 use Rattle.refusal.specs.Tests.{false-true}
 
 -- ---- decisions of any fact
@@ -131,23 +131,6 @@ unfolding true?
 within? Nothing = yes tt
 within? (Message msg len) = true? (lengthOk msg len)
 
--- every cell of a list, gone through once
-pub cells-cons : (c : RxCell) (cs : List RxCell) → LengthWithin (c .held) → ((k : ℕ) → k < length cs → LengthWithin (getD cs k noCell .held))
-    → (k : ℕ) → k < length (c ∷ cs) → LengthWithin (getD (c ∷ cs) k noCell .held)
-cells-cons c cs p f zero h = p
-cells-cons c cs p f (suc k) h = f k (omega arith)
-
-unfoldable cells? : (cs : List RxCell) → Dec ((k : ℕ) → k < length cs → LengthWithin (getD cs k noCell .held))
-unfolding same both within?
-cells? [] = yes (λ k h. absurd (not-suc-le-zero h))
-cells? (c ∷ cs) = same (both (within? (c .held)) (cells? cs)) (λ p. cells-cons c cs (p .0) (p .1)) (λ f. (f 0 (omega arith), λ k h. f (suc k) (omega arith)))
-
-pub in-view : (rx : Receiving) (k : ℕ) → k < CELLS → k < length (cellView CELLS rx)
-in-view rx k h = omega (arith, window-length CELLS noCell (rx .«rxed_reliable») (rx .«rx_oldest» .0 % CELLS) CELLS)
-
-pub view-in : (rx : Receiving) (k : ℕ) → k < length (cellView CELLS rx) → k < CELLS
-view-in rx k h = omega (arith, window-length CELLS noCell (rx .«rxed_reliable») (rx .«rx_oldest» .0 % CELLS) CELLS)
-
 -- ---- Sound
 
 -- a fact of every packet, of every live link, and of every two live links
@@ -161,7 +144,7 @@ links? s d = below SLOTS (λ j. given (true? (rowAt s j .live)) (d j))
 
 -- the same record in the order of a decision
 unfoldable pub sound? : (s : State) → Dec (Sound s)
-unfolding same both given eq? le? lt? true? false? seq? seqs? nothing? here? by? ready? cells? below packets? links?
+unfolding same both given eq? le? lt? true? false? seq? seqs? here? by? below packets? links?
 sound? s =
     same
     (both (packets? s (λ i. seq? (packetAt s i .seq) (seqOf (plus (firstOf (s .tx)) i))))
@@ -172,24 +155,21 @@ sound? s =
     (both (eq? (s .tx .«txed_unacked») (sumOf Outstanding (packets (s .tx))))
     (both (eq? (s .tx .«txed_unconsumable») (sumOf Settled (packets (s .tx))))
     (both (le? (s .rx .«rxed_reliable_size») (s .rx .«recv_buffer»))
-    (both (eq? (s .rx .«rxed_reliable_size») (bytesIn (cellView CELLS (s .rx))))
     (both (links? s (λ i. links? s (λ j. given (eq? (rowAt s i .«link_id») (rowAt s j .«link_id»)) (eq? i j))))
-    (both (below (expectedAt (s .rx)) (λ k. ready? (cellAt s k)))
-    (both (given (lt? 0 (expectedAt (s .rx))) (true? (isFull (cellAt s 0))))
-    (both (given (lt? (expectedAt (s .rx)) CELLS) (nothing? (cellAt s (expectedAt (s .rx)))))
-    (both (le? (expectedAt (s .rx)) CELLS)
+    (both (le? (expectedAt (s .rx)) (inUse (s .rx)))
+    (both (le? (inUse (s .rx)) (s .rx .cells))
     (both (packets? s (λ i. by? (s .time) (packetAt s i .status)))
     (both (links? s (λ j. true? (pingWithin (rowAt s j .«current_ping_sent») (s .time))))
     (both (le? (s .tx .«txed_count») PACKETS)
     (both (le? (s .tx .«resend_count») PACKETS)
     (both (links? s (λ j. le? (rowAt s j .«ack_count») ACKS))
     (both (packets? s (λ i. true? (lengthOk (packetAt s i .msg) (packetAt s i .len))))
-    (both (same (cells? (cellView CELLS (s .rx))) (λ f k h. f k (in-view (s .rx) k h)) (λ f k h. f k (view-in (s .rx) k h)))
+    (both (true? (isCellCount (s .rx .cells)))
     (both (le? 1 (s .rx .«recv_buffer»))
-    (both (le? (s .rx .«recv_buffer») MAX_RECV_BUFFER)
+    (both (le? (s .rx .«recv_buffer») (s .rx .cells * DATA_BYTES))
     (both (le? (s .time) MAX_TIME)
     (both (links? s (λ j. le? (rowAt s j .roundtrip) MAX_TIME))
-    (links? s (λ j. true? (maxPingWithin (rowAt s j .«max_ping»)))))))))))))))))))))))))))))
+    (links? s (λ j. true? (maxPingWithin (rowAt s j .«max_ping»))))))))))))))))))))))))))
     (λ t. record {
       consecutive = t .0;
       first = t .1 .0;
@@ -199,26 +179,54 @@ sound? s =
       unacked = t .1 .1 .1 .1 .1 .0;
       unconsumable = t .1 .1 .1 .1 .1 .1 .0;
       untaken-within = t .1 .1 .1 .1 .1 .1 .1 .0;
-      untaken = t .1 .1 .1 .1 .1 .1 .1 .1 .0;
-      identities = λ i j hi hj li lj. t .1 .1 .1 .1 .1 .1 .1 .1 .1 .0 i hi li j hj lj;
-      ready = t .1 .1 .1 .1 .1 .1 .1 .1 .1 .1 .0;
-      oldest = t .1 .1 .1 .1 .1 .1 .1 .1 .1 .1 .1 .0;
-      held = t .1 .1 .1 .1 .1 .1 .1 .1 .1 .1 .1 .1 .0;
-      near = t .1 .1 .1 .1 .1 .1 .1 .1 .1 .1 .1 .1 .1 .0;
-      sent-by = t .1 .1 .1 .1 .1 .1 .1 .1 .1 .1 .1 .1 .1 .1 .0;
-      pinged-by = t .1 .1 .1 .1 .1 .1 .1 .1 .1 .1 .1 .1 .1 .1 .1 .0;
-      packet-count = t .1 .1 .1 .1 .1 .1 .1 .1 .1 .1 .1 .1 .1 .1 .1 .1 .0;
-      queue-count = t .1 .1 .1 .1 .1 .1 .1 .1 .1 .1 .1 .1 .1 .1 .1 .1 .1 .0;
-      ack-count = t .1 .1 .1 .1 .1 .1 .1 .1 .1 .1 .1 .1 .1 .1 .1 .1 .1 .1 .0;
-      packet-length = t .1 .1 .1 .1 .1 .1 .1 .1 .1 .1 .1 .1 .1 .1 .1 .1 .1 .1 .1 .0;
-      cell-length = t .1 .1 .1 .1 .1 .1 .1 .1 .1 .1 .1 .1 .1 .1 .1 .1 .1 .1 .1 .1 .0;
-      buffer-set = t .1 .1 .1 .1 .1 .1 .1 .1 .1 .1 .1 .1 .1 .1 .1 .1 .1 .1 .1 .1 .1 .0;
-      buffer-within = t .1 .1 .1 .1 .1 .1 .1 .1 .1 .1 .1 .1 .1 .1 .1 .1 .1 .1 .1 .1 .1 .1 .0;
-      time-within = t .1 .1 .1 .1 .1 .1 .1 .1 .1 .1 .1 .1 .1 .1 .1 .1 .1 .1 .1 .1 .1 .1 .1 .0;
-      trip-within = t .1 .1 .1 .1 .1 .1 .1 .1 .1 .1 .1 .1 .1 .1 .1 .1 .1 .1 .1 .1 .1 .1 .1 .1 .0;
-      max-ping-within = t .1 .1 .1 .1 .1 .1 .1 .1 .1 .1 .1 .1 .1 .1 .1 .1 .1 .1 .1 .1 .1 .1 .1 .1 .1;
+      identities = λ i j hi hj li lj. t .1 .1 .1 .1 .1 .1 .1 .1 .0 i hi li j hj lj;
+      near = t .1 .1 .1 .1 .1 .1 .1 .1 .1 .0;
+      used = t .1 .1 .1 .1 .1 .1 .1 .1 .1 .1 .0;
+      sent-by = t .1 .1 .1 .1 .1 .1 .1 .1 .1 .1 .1 .0;
+      pinged-by = t .1 .1 .1 .1 .1 .1 .1 .1 .1 .1 .1 .1 .0;
+      packet-count = t .1 .1 .1 .1 .1 .1 .1 .1 .1 .1 .1 .1 .1 .0;
+      queue-count = t .1 .1 .1 .1 .1 .1 .1 .1 .1 .1 .1 .1 .1 .1 .0;
+      ack-count = t .1 .1 .1 .1 .1 .1 .1 .1 .1 .1 .1 .1 .1 .1 .1 .0;
+      packet-length = t .1 .1 .1 .1 .1 .1 .1 .1 .1 .1 .1 .1 .1 .1 .1 .1 .0;
+      cell-count = t .1 .1 .1 .1 .1 .1 .1 .1 .1 .1 .1 .1 .1 .1 .1 .1 .1 .0;
+      buffer-set = t .1 .1 .1 .1 .1 .1 .1 .1 .1 .1 .1 .1 .1 .1 .1 .1 .1 .1 .0;
+      buffer-within = t .1 .1 .1 .1 .1 .1 .1 .1 .1 .1 .1 .1 .1 .1 .1 .1 .1 .1 .1 .0;
+      time-within = t .1 .1 .1 .1 .1 .1 .1 .1 .1 .1 .1 .1 .1 .1 .1 .1 .1 .1 .1 .1 .0;
+      trip-within = t .1 .1 .1 .1 .1 .1 .1 .1 .1 .1 .1 .1 .1 .1 .1 .1 .1 .1 .1 .1 .1 .0;
+      max-ping-within = t .1 .1 .1 .1 .1 .1 .1 .1 .1 .1 .1 .1 .1 .1 .1 .1 .1 .1 .1 .1 .1 .1;
     })
-    (λ h. (h .consecutive, (h .first, (h .sent, (h .queued, (h .link-unacked, (h .unacked, (h .unconsumable, (h .untaken-within, (h .untaken, (λ i hi li j hj lj. h .identities i j hi hj li lj, (h .ready, (h .oldest, (h .held, (h .near, (h .sent-by, (h .pinged-by, (h .packet-count, (h .queue-count, (h .ack-count, (h .packet-length, (h .cell-length, (h .buffer-set, (h .buffer-within, (h .time-within, (h .trip-within, h .max-ping-within))))))))))))))))))))))))))
+    (λ h. (h .consecutive, (h .first, (h .sent, (h .queued, (h .link-unacked, (h .unacked, (h .unconsumable, (h .untaken-within, (λ i hi li j hj lj. h .identities i j hi hj li lj, (h .near, (h .used, (h .sent-by, (h .pinged-by, (h .packet-count, (h .queue-count, (h .ack-count, (h .packet-length, (h .cell-count, (h .buffer-set, (h .buffer-within, (h .time-within, (h .trip-within, h .max-ping-within)))))))))))))))))))))))
+
+-- of the last place below n, if it is not below m
+unfoldable last? : (m n : ℕ) {P : ℕ → Type 0} → ((k : ℕ) → Dec (P k)) → Dec ((k : ℕ) → m ≤ k → suc k ≡ n → P k)
+unfolding same given le?
+last? m zero d = yes (λ k l e. absurd (omega arith))
+last? m (suc n) d = same (given (le? m n) (d n)) (λ f k l e. let q : n ≡ k = omega arith in rw (← q) (f (omega arith))) (λ f l. f n l refl)
+
+-- .. and that of the records
+unfoldable pub records? : (t : RxTable) → Dec (SoundRecords t)
+unfolding same both given eq? lt? true? nothing? ready? within? below last?
+records? t =
+    same
+    (both (eq? (length (t .records)) (t .rx .cells))
+    (both (eq? (t .rx .«rxed_reliable_size») (bytesIn (cellView (t .rx .cells) t)))
+    (both (below (expectedAt (t .rx)) (λ k. ready? (cellAt t k)))
+    (both (given (lt? 0 (expectedAt (t .rx))) (true? (isFull (cellAt t 0))))
+    (both (nothing? (cellAt t (expectedAt (t .rx))))
+    (both (last? (expectedAt (t .rx)) (inUse (t .rx)) (λ k. true? (isFull (cellAt t k))))
+    (both (below (inUse (t .rx)) (λ k. within? (cellAt t k)))
+    (below (inUse (t .rx)) (λ k. true? (isRecord (getD (recordView (t .rx .cells) t) k 0)))))))))))
+    (λ f. record {
+      long = f .0;
+      untaken = f .1 .0;
+      ready = f .1 .1 .0;
+      oldest = f .1 .1 .1 .0;
+      held = f .1 .1 .1 .1 .0;
+      newest = f .1 .1 .1 .1 .1 .0;
+      cell-length = f .1 .1 .1 .1 .1 .1 .0;
+      recorded = f .1 .1 .1 .1 .1 .1 .1;
+    })
+    (λ h. (h .long, (h .untaken, (h .ready, (h .oldest, (h .held, (h .newest, (h .cell-length, h .recorded))))))))
 
 abbrev yes? : {A : Type 0} → Dec A → Bool
 yes? (yes a) = true
@@ -228,6 +236,14 @@ yes? (no n) = false
 unfoldable pub soundb : State → Bool
 unfolding sound?
 soundb s = yes? (sound? s)
+
+unfoldable pub recordsb : RxTable → Bool
+unfolding records?
+recordsb t = yes? (records? t)
+
+-- .. with the records that a call uses
+unfoldable pub soundWithb : State → List ℕ → Bool
+soundWithb s records = soundb s && recordsb (tableOf (s .rx) records)
 
 -- ---- laws
 
@@ -246,3 +262,15 @@ sound s e = yes-true (sound? s) e
 pub sound-true : (s : State) → Sound s → soundb s ≡ true
 unfolding soundb
 sound-true s h = true-yes (sound? s) h
+
+pub records-sound : (t : RxTable) → recordsb t ≡ true → SoundRecords t
+unfolding recordsb
+records-sound t e = yes-true (records? t) e
+
+pub records-true : (t : RxTable) → SoundRecords t → recordsb t ≡ true
+unfolding recordsb
+records-true t h = true-yes (records? t) h
+
+-- .. which asks for a record for each cell
+pub records-unlike : (t : RxTable) → (length (t .records) ≡ t .rx .cells → ⊥) → recordsb t ≡ false
+records-unlike t n = cases (recordsb t) (λ e. absurd (n (records-sound t e .long))) (λ e. e)

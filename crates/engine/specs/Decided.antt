@@ -14,39 +14,32 @@ use Rattle.seq.specs.Laws.{minus-lt}
 use Rattle.engine.specs.declared.state.SentReliable.{SentReliable}
 use Rattle.engine.specs.declared.state.State.{State}
 use Rattle.engine.specs.declared.packets.Tally.{Tally}
-use Rattle.engine.specs.declared.received.CellTally.{CellTally}
 use Rattle.engine.specs.Ring.{window-length, window-at}
 use Rattle.engine.specs.Packets.{noPacket, firstOf, packets, isReceived, queuedOf, Pick, SentOn, Outstanding, Settled, sumOf}
-use Rattle.engine.specs.Received.{cellView, expectedAt, isFull, bytesIn, noCell}
+use Rattle.engine.specs.Received.{expectedAt, inUse}
+use Rattle.engine.specs.CellCount.{isCellCount}
 use Rattle.engine.specs.Roster.{rosterOf}
 use Rattle.engine.specs.Tally.{noTally, tallyOf}
-use Rattle.engine.specs.CellTally.{cellOk, cellTallyOf}
 use Rattle.engine.specs.Found.{firstOk, rowsFrom, distinctBelow, sendingb, receivingb, linksb, foundSound}
 use Rattle.engine.specs.Decide.{soundb, sound, sound-true}
-use Rattle.engine.specs.Sound.{rowAt, packetAt, cellAt, LengthWithin, Sound, Shaped}
-use Rattle.engine.specs.DecidedTables.{distinct-apart, apart-distinct, rows-each, rows-all, RowFine, row-fine, fine-row, cellsOk, cells-tally, zero-plus, bytes-tally, cells-each, cells-all, bytes-le, cell-length, cell-ready, cell-oldest, cell-expected, cell-decided}
+use Rattle.engine.specs.Sound.{rowAt, packetAt, Sound, Shaped}
+use Rattle.engine.specs.DecidedTables.{distinct-apart, apart-distinct, rows-each, rows-all, RowFine, row-fine, fine-row, zero-plus}
 use Rattle.engine.specs.DecidedPackets.{Good, eachOk, passOf, each-tally, queued-tally, total, sum-tally, sum-le, each-good, each-queue, good-each}
-use Rattle.engine.specs.Sizes.{PACKETS, SLOTS, CELLS, DATA_BYTES, MAX_RECV_BUFFER}
+use Rattle.engine.specs.Sizes.{PACKETS, SLOTS, DATA_BYTES}
 use Rattle.refusal.specs.Tests.{split, join, same-test}
 use Rattle.link.specs.Sizes.{MAX_TIME}
 
--- the state's two passes
+-- the state's pass
 abbrev found : State → Tally
 found s = tallyOf (s .tx) (rosterOf (s .links)) (s .time)
-
-abbrev cellsFound : State → CellTally
-cellsFound s = cellTallyOf CELLS (s .rx)
 
 -- every packet of the table is as Sound asks
 abbrev AllGood : State → Type 0
 AllGood s = (i : ℕ) → i < s .tx .«txed_count» → Good s (packetAt s i) (plus (firstOf (s .tx)) i)
 
--- the packet table has `txed_count` places, and the receive table 64
+-- the packet table has `txed_count` places
 packets-length : (s : State) → length (packets (s .tx)) ≡ s .tx .«txed_count»
 packets-length s = window-length PACKETS noPacket (s .tx .«txed_packets») (firstOf (s .tx) % PACKETS) (s .tx .«txed_count»)
-
-view-full : (s : State) → length (cellView CELLS (s .rx)) ≡ CELLS
-view-full s = window-length CELLS noCell (s .rx .«rxed_reliable») (s .rx .«rx_oldest» .0 % CELLS) CELLS
 
 module _ (s : State) (few : s .tx .«txed_count» ≤ PACKETS) where
   -- the packets' pass goes through the packet table
@@ -105,20 +98,6 @@ module _ (s : State) (few : s .tx .«txed_count» ≤ PACKETS) where
       let h : 0 < s .tx .«txed_count» = omega (arith, eqb-false (s .tx .«txed_count») 0 t) in
       simp t (ap (λ (p : SentReliable). not (isReceived (p .status))) (sym (first-at h)) ∙ ap not (f h)))
 
--- the cells' pass finds whether each is as it asks ..
-cells-found-ok : (s : State) → cellsFound s .ok ≡ cellsOk (cellView CELLS (s .rx)) 0 (expectedAt (s .rx))
-unfolding cellTallyOf
-cells-found-ok s = cells-tally (cellView CELLS (s .rx)) 0 (expectedAt (s .rx)) (record { ok = true; size = 0 })
-
--- .. and the bytes, of which the sum does not wrap
-cells-found-size : (s : State) → ((k : ℕ) → k < CELLS → LengthWithin (cellAt s k)) → cellsFound s .size ≡ bytesIn (cellView CELLS (s .rx))
-unfolding cellTallyOf
-cells-found-size s f =
-    let cs = cellView CELLS (s .rx) in
-    let small : bytesIn cs ≤ DATA_BYTES * length cs = bytes-le cs (λ i h. f i (omega (arith, view-full s))) in
-    bytes-tally cs 0 (expectedAt (s .rx)) (record { ok = true; size = 0 }) (omega arith)
-    ∙ zero-plus (bytesIn cs) (omega (arith, view-full s))
-
 -- ---- the decision
 
 -- what the test says, taken apart
@@ -130,12 +109,12 @@ record FoundWhole (s : State) : Type 0 where
   queue-few : s .tx .«resend_count» ≤ PACKETS
   unacked : found s .unacked ≡ s .tx .«txed_unacked»
   unconsumable : found s .unconsumable ≡ s .tx .«txed_unconsumable»
-  cells : cellsFound s .ok ≡ true
-  size : cellsFound s .size ≡ s .rx .«rxed_reliable_size»
+  cell-count : isCellCount (s .rx .cells) ≡ true
+  near : expectedAt (s .rx) ≤ inUse (s .rx)
+  used : inUse (s .rx) ≤ s .rx .cells
   size-within : s .rx .«rxed_reliable_size» ≤ s .rx .«recv_buffer»
-  near : expectedAt (s .rx) ≤ CELLS
   buffer-set : 1 ≤ s .rx .«recv_buffer»
-  buffer-within : s .rx .«recv_buffer» ≤ MAX_RECV_BUFFER
+  buffer-within : s .rx .«recv_buffer» ≤ s .rx .cells * DATA_BYTES
   rows : rowsFrom (s .links) (found s .on) (s .time) 0 SLOTS ≡ true
   distinct : distinctBelow (rosterOf (s .links)) SLOTS ≡ true
   time-within : s .time ≤ MAX_TIME
@@ -143,9 +122,9 @@ record FoundWhole (s : State) : Type 0 where
 found-whole : (s : State) → foundSound s ≡ true → FoundWhole s
 unfolding foundSound sendingb receivingb linksb
 found-whole s e =
-    let a = split (leb (s .tx .«txed_count») PACKETS) (sendingb s && (receivingb s && linksb s)) e in
-    let b = split (sendingb s) (receivingb s && linksb s) (a .1) in
-    let c = split (receivingb s) (linksb s) (b .1) in
+    let a = split (leb (s .tx .«txed_count») PACKETS) (sendingb s && (receivingb (s .rx) && linksb s)) e in
+    let b = split (sendingb s) (receivingb (s .rx) && linksb s) (a .1) in
+    let c = split (receivingb (s .rx)) (linksb s) (b .1) in
     let s1 = split _ _ (b .0) in
     let s2 = split _ _ (s1 .1) in
     let s3 = split _ _ (s2 .1) in
@@ -166,10 +145,10 @@ found-whole s e =
       queue-few = leb-true _ _ (s4 .1);
       unacked = eqb-true _ _ (s5 .0);
       unconsumable = eqb-true _ _ (s5 .1);
-      cells = r1 .0;
-      size = eqb-true _ _ (r3 .0);
-      size-within = leb-true _ _ (r3 .1);
-      near = leb-true _ _ (r4 .0);
+      cell-count = r1 .0;
+      near = leb-true _ _ (r3 .0);
+      used = leb-true _ _ (r3 .1);
+      size-within = leb-true _ _ (r4 .0);
       buffer-set = leb-true _ _ (r5 .0);
       buffer-within = leb-true _ _ (r5 .1);
       rows = l1 .0;
@@ -185,11 +164,6 @@ found-sound s sh e =
     let each : eachOk s ps (firstOf (s .tx)) 0 ≡ true = sym (found-ok s (t .few)) ∙ t .each in
     let good : AllGood s = λ i h. each-good s ps (firstOf (s .tx)) 0 (minus-lt (s .tx .«tx_seq» .0) (s .tx .«txed_count»)) each i (omega (arith, packets-length s)) in
     let count : s .tx .«resend_count» ≡ length (queuedOf ps) = sym (t .queued) ∙ found-queued s (t .few) in
-    let cell : (k : ℕ) → k < CELLS → cellOk (cellAt s k) k (expectedAt (s .rx)) ≡ true =
-    λ k h.
-    let z : 0 + k ≡ k = omega arith in
-    rw z at (cells-each (cellView CELLS (s .rx)) 0 (expectedAt (s .rx)) (sym (cells-found-ok s) ∙ t .cells) k (omega (arith, view-full s))) in
-    let lengths : (k : ℕ) → k < CELLS → LengthWithin (cellAt s k) = λ k h. cell-length (cellAt s k) k (expectedAt (s .rx)) (cell k h) in
     let apart = distinct-apart s SLOTS (omega arith) (t .distinct) in
     let row : (j : ℕ) → j < SLOTS → rowAt s j .live ≡ true → RowFine (rowAt s j) (getD (found s .on) j 0) (s .time) =
     λ j h. row-fine (rowAt s j) (getD (found s .on) j 0) (s .time) (rows-each (s .links) (found s .on) (s .time) 0 SLOTS (t .rows) j (omega arith) (omega arith)) in
@@ -202,24 +176,21 @@ found-sound s sh e =
       unacked = sym (t .unacked) ∙ found-total s (t .few) Outstanding refl good;
       unconsumable = sym (t .unconsumable) ∙ found-total s (t .few) Settled refl good;
       untaken-within = t .size-within;
-      untaken = sym (t .size) ∙ cells-found-size s lengths;
       identities = λ i j hi hj li lj same. elim (ℕ-discrete i j) [
         | yes q ↦ q
         | no ne ↦ cases (ltb i j)
             (λ u. absurd (apart i j (ltb-true i j u) hj li lj same))
             (λ u. absurd (apart j i (omega (arith, ltb-false i j u)) hi lj li (sym same)))
       ];
-      ready = λ k h. cell-ready (cellAt s k) k (expectedAt (s .rx)) h (cell k (omega (arith, t .near)));
-      oldest = λ h. cell-oldest (cellAt s 0) (expectedAt (s .rx)) h (cell 0 (omega arith));
-      held = λ h. cell-expected (cellAt s (expectedAt (s .rx))) (expectedAt (s .rx)) (cell (expectedAt (s .rx)) h);
       near = t .near;
+      used = t .used;
       sent-by = λ i h. good i h .timed;
       pinged-by = λ j h l. row j h l .pinged;
       packet-count = t .few;
       queue-count = t .queue-few;
       ack-count = λ j h l. row j h l .acks;
       packet-length = λ i h. good i h .fits;
-      cell-length = lengths;
+      cell-count = t .cell-count;
       buffer-set = t .buffer-set;
       buffer-within = t .buffer-within;
       time-within = t .time-within;
@@ -239,14 +210,6 @@ sound-found s sh h =
     let each : eachOk s ps (firstOf (s .tx)) 0 ≡ true =
     good-each s ps (firstOf (s .tx)) 0 (minus-lt (s .tx .«tx_seq» .0) (s .tx .«txed_count»)) (sh .queue-full) (omega (arith, packets-length s, few))
     (λ i l. good i (omega (arith, packets-length s))) (ap (λ n. take n (s .tx .«resend_queue»)) count ∙ h .queued) in
-    let cells : cellsOk (cellView CELLS (s .rx)) 0 (expectedAt (s .rx)) ≡ true =
-    cells-all (cellView CELLS (s .rx)) 0 (expectedAt (s .rx))
-    (λ k l.
-    let z : 0 + k ≡ k = omega arith in
-    let w : k < CELLS = omega (arith, view-full s) in
-    rw z (cell-decided (cellAt s k) k (expectedAt (s .rx)) (h .cell-length k w) (h .ready k)
-    (λ q p. ap (λ m. isFull (cellAt s m)) q ∙ h .oldest p)
-    (λ q. ap (λ m. cellAt s m) q ∙ h .held (omega arith)))) in
     join (le-leb _ _ few)
     (join
     (join (found-ok s few ∙ each)
@@ -254,9 +217,9 @@ sound-found s sh h =
     (join (join (eq-eqb _ _ (found-queued s few ∙ count)) (le-leb _ _ (h .queue-count)))
     (join (eq-eqb _ _ (found-total s few Outstanding refl good ∙ sym (h .unacked))) (eq-eqb _ _ (found-total s few Settled refl good ∙ sym (h .unconsumable)))))))
     (join
-    (join (cells-found-ok s ∙ cells)
-    (join (join (eq-eqb _ _ (cells-found-size s (h .cell-length) ∙ sym (h .untaken))) (le-leb _ _ (h .untaken-within)))
-    (join (le-leb _ _ (h .near)) (join (le-leb _ _ (h .buffer-set)) (le-leb _ _ (h .buffer-within))))))
+    (join (h .cell-count)
+    (join (join (le-leb _ _ (h .near)) (le-leb _ _ (h .used)))
+    (join (le-leb _ _ (h .untaken-within)) (join (le-leb _ _ (h .buffer-set)) (le-leb _ _ (h .buffer-within))))))
     (join
     (rows-all (s .links) (found s .on) (s .time) 0 SLOTS
     (λ j p q.

@@ -1,33 +1,26 @@
--- What the passes over the links and over the receive table find, in the words of Sound. Assumes nothing.
+-- What the passes over the links find, in the words of Sound. Assumes nothing.
 use mathlib.Core.Path.{_≡_, refl, sym, ap, _∙_}
-use mathlib.Core.Bool.{Bool, true, false, cond, _&&_, and-true, and-assoc}
-use mathlib.Core.List.{List, [], _∷_}
-use Prim.Native.Nat.{ℕ, zero, suc, _+_, _*_, _^_, _≤_, _<_}
+use mathlib.Core.Bool.{Bool, true, false, cond, _&&_}
+use mathlib.Core.List.{List}
+use Prim.Native.Nat.{ℕ, zero, suc, _+_, _^_, _≤_, _<_}
 use native.Mathlib.Decide.{ℕ-discrete}
 use native.Mathlib.Omega.{arith}
-use borrow.Author.Tests.{ltb-true, leb-true, eqb-true, lt-ltb, le-leb, eq-eqb, ne-eqb}
+use borrow.Author.Tests.{ltb-true, leb-true, eqb-true, lt-ltb, le-leb, eq-eqb}
 use lib.Dec.{eqb, leb, ltb}
-use lib.ListN.{length, getD}
+use lib.ListN.{getD}
 use borrow.Table.Steps.{cases}
 use Rattle.seq.specs.Numbers.{plus}
-use Rattle.seq.specs.Laws.{plus-lt, plus-plus}
 use Rattle.msg.specs.declared.reliable.ReliableMsg.{ReliableMsg}
 use Rattle.link.specs.declared.row.LinkRow.{LinkRow}
 use Rattle.link.specs.Sizes.{maxPingWithin, pingWithin, rowWithin, MAX_TIME, ACKS}
 use Rattle.link.specs.Row.{noRow}
-use Rattle.engine.specs.declared.state.Held.{Held}
-use Rattle.engine.specs.declared.state.Held.the-variants.{Nothing, Message}
-use Rattle.engine.specs.declared.state.RxCell.{RxCell}
 use Rattle.engine.specs.declared.state.State.{State}
 use Rattle.engine.specs.declared.roster.Roster.{Roster}
-use Rattle.engine.specs.declared.received.CellTally.{CellTally}
 use Rattle.engine.specs.Packets.{isData}
-use Rattle.engine.specs.Received.{noCell, isFull, isReadyKind, heldBytes, bytesIn}
 use Rattle.engine.specs.Roster.{rosterOf, livesIn, livesBefore}
 use Rattle.engine.specs.Tally.{lengthOk}
-use Rattle.engine.specs.CellTally.{cellOk, cellWeighed, cellTallyFrom}
 use Rattle.engine.specs.Found.{rowOk, rowsFrom, distinctBelow}
-use Rattle.engine.specs.Sound.{rowAt, ReadyKind, LengthWithin}
+use Rattle.engine.specs.Sound.{rowAt}
 use Rattle.engine.specs.Sizes.{SLOTS, DATA_BYTES}
 use Rattle.refusal.specs.Tests.{false-true, split, join}
 
@@ -200,18 +193,7 @@ unfolding lengthOk
 length-none msg len n e =
     cases (eqb len 0) (λ t. eqb-true len 0 t) (λ t. false-true (sym n ∙ split (leb len DATA_BYTES) (isData msg) (simp t at e) .1))
 
--- ---- the receive table
-
--- every cell from the place k on is as the pass asks, where the next expected is at e
-unfoldable pub cellsOk : List RxCell → ℕ → ℕ → Bool
-cellsOk [] k e = true
-cellsOk (c ∷ cs) k e = cellOk (c .held) k e && cellsOk cs (k + 1) e
-
--- the pass finds just that ..
-pub cells-tally : (cs : List RxCell) (k e : ℕ) (t : CellTally) → cellTallyFrom cs k e t .ok ≡ (t .ok && cellsOk cs k e)
-unfolding cellTallyFrom cellsOk cellWeighed
-cells-tally [] k e t = sym (and-true (t .ok))
-cells-tally (c ∷ cs) k e t = cells-tally cs (k + 1) e (cellWeighed t (c .held) k e) ∙ and-assoc (t .ok) (cellOk (c .held) k e) (cellsOk cs (k + 1) e)
+-- ---- sums that go round
 
 -- nothing is added, and something is added to nothing
 pub plus-zero : (a : ℕ) → a < 2 ^ 32 → plus a 0 ≡ a
@@ -221,85 +203,3 @@ plus-zero a h = omega arith
 pub zero-plus : (a : ℕ) → a < 2 ^ 32 → plus 0 a ≡ a
 unfolding plus
 zero-plus a h = omega arith
-
--- .. and the sum of the bytes
-pub bytes-tally : (cs : List RxCell) (k e : ℕ) (t : CellTally) → t .size < 2 ^ 32 → cellTallyFrom cs k e t .size ≡ plus (t .size) (bytesIn cs)
-unfolding cellTallyFrom cellWeighed bytesIn
-bytes-tally [] k e t h = sym (plus-zero (t .size) h)
-bytes-tally (c ∷ cs) k e t h =
-    bytes-tally cs (k + 1) e (cellWeighed t (c .held) k e) (plus-lt (t .size) (heldBytes (c .held))) ∙ plus-plus (t .size) (heldBytes (c .held)) (bytesIn cs)
-
--- each cell is as the pass asks where all are ..
-pub cells-each : (cs : List RxCell) (k e : ℕ) → cellsOk cs k e ≡ true → (i : ℕ) → i < length cs → cellOk (getD cs i noCell .held) (k + i) e ≡ true
-unfolding cellsOk
-cells-each [] k e ok i h = absurd (omega arith)
-cells-each (c ∷ cs) k e ok zero h = let n : k + 0 ≡ k = omega arith in rw n (split (cellOk (c .held) k e) (cellsOk cs (k + 1) e) ok .0)
-cells-each (c ∷ cs) k e ok (suc i) h =
-    let n : k + suc i ≡ k + 1 + i = omega arith in
-    rw n (cells-each cs (k + 1) e (split (cellOk (c .held) k e) (cellsOk cs (k + 1) e) ok .1) i (omega arith))
-
--- .. and back
-pub cells-all : (cs : List RxCell) (k e : ℕ) → ((i : ℕ) → i < length cs → cellOk (getD cs i noCell .held) (k + i) e ≡ true) → cellsOk cs k e ≡ true
-unfolding cellsOk
-cells-all [] k e f = refl
-cells-all (c ∷ cs) k e f =
-    let n : k + 0 ≡ k = omega arith in
-    join (rw n at (f 0 (omega arith)))
-    (cells-all cs (k + 1) e (λ i h. let m : k + 1 + i ≡ k + suc i = omega arith in rw m (f (suc i) (omega arith))))
-
--- a cell with a fitting length holds few bytes
-held-le : (h : Held) → LengthWithin h → heldBytes h ≤ DATA_BYTES
-held-le Nothing w = omega arith
-held-le (Message msg len) w = length-le msg len w
-
--- .. and so do many
-pub bytes-le : (cs : List RxCell) → ((i : ℕ) → i < length cs → LengthWithin (getD cs i noCell .held)) → bytesIn cs ≤ DATA_BYTES * length cs
-unfolding bytesIn
-bytes-le [] f = omega arith
-bytes-le (c ∷ cs) f = omega (arith, held-le (c .held) (f 0 (omega arith)), bytes-le cs (λ i h. f (suc i) (omega arith)))
-
--- what the test of a cell says, where k is its place and e the next expected: its length fits ..
-pub cell-length : (h : Held) (k e : ℕ) → cellOk h k e ≡ true → LengthWithin h
-unfolding cellOk
-cell-length Nothing k e ok = tt
-cell-length (Message msg len) k e ok =
-    cases (eqb k e) (λ t. false-true (simp t at ok))
-    (λ t. cases (ltb k e) (λ u. split (isReadyKind msg) (lengthOk msg len) (simp (t, u) at ok) .1) (λ u. simp (t, u) at ok))
-
--- .. what stands before the next expected is ready ..
-pub cell-ready : (h : Held) (k e : ℕ) → k < e → cellOk h k e ≡ true → ReadyKind h
-unfolding cellOk
-cell-ready Nothing k e l ok = tt
-cell-ready (Message msg len) k e l ok =
-    split (isReadyKind msg) (lengthOk msg len) (simp (ne-eqb k e (λ q. omega arith), lt-ltb k e l) at ok) .0
-
--- .. the oldest is there, if it is before the next expected ..
-pub cell-oldest : (h : Held) (e : ℕ) → 0 < e → cellOk h 0 e ≡ true → isFull h ≡ true
-unfolding cellOk
-cell-oldest Nothing e l ok = absurd (omega (arith, eqb-true e 0 ok))
-cell-oldest (Message msg len) e l ok = refl
-
--- .. and nothing stands at the next expected
-pub cell-expected : (h : Held) (e : ℕ) → cellOk h e e ≡ true → h ≡ Nothing
-unfolding cellOk
-cell-expected Nothing e ok = refl
-cell-expected (Message msg len) e ok = false-true (simp (eq-eqb e e refl) at ok)
-
--- a message is not nothing
-full-nothing : (msg : ReliableMsg) (len : ℕ) → Message msg len ≡ Nothing → ⊥
-full-nothing msg len e = false-true (sym (ap isFull e))
-
--- the test of a cell holds by these four
-pub cell-decided : (h : Held) (k e : ℕ) → LengthWithin h → (k < e → ReadyKind h) → (k ≡ 0 → 0 < e → isFull h ≡ true) → (k ≡ e → h ≡ Nothing)
-    → cellOk h k e ≡ true
-unfolding cellOk
-cell-decided Nothing k e w r o x =
-    cases (eqb k 0)
-    (λ t. elim (ℕ-discrete e 0) [
-      | yes q ↦ simp (t, eq-eqb e 0 q)
-      | no ne ↦ false-true (o (eqb-true k 0 t) (omega arith))
-    ])
-    (λ t. simp t)
-cell-decided (Message msg len) k e w r o x =
-    cases (eqb k e) (λ t. absurd (full-nothing msg len (x (eqb-true k e t))))
-    (λ t. cases (ltb k e) (λ u. simp (t, u) (join (r (ltb-true k e u)) w)) (λ u. simp (t, u) w))

@@ -9,7 +9,6 @@ use Rattle.link.specs.declared.row.LinkRow.{LinkRow}
 use Rattle.msg.specs.declared.reliable.ReliableMsg.{ReliableMsg}
 use Rattle.engine.specs.declared.state.SentReliableStatus.{SentReliableStatus}
 use Rattle.engine.specs.declared.state.SentReliable.{SentReliable}
-use Rattle.engine.specs.declared.state.RxCell.{RxCell}
 use Rattle.engine.specs.declared.state.Sending.{Sending}
 use Rattle.engine.specs.declared.state.Receiving.{Receiving}
 use Rattle.engine.specs.declared.state.State.{State}
@@ -110,15 +109,16 @@ withEnds tx last f c = record {
 
 -- ---- the receiving half
 
--- the next expected and the oldest number, and the cells
-abbrev pub withCells : Receiving → Seq → Seq → List RxCell → Receiving
-withCells rx expected oldest cells = record {
+-- the next expected and the oldest number
+abbrev pub withNumbers : Receiving → Seq → Seq → Receiving
+withNumbers rx expected oldest = record {
   «rx_seq» = expected;
   «rx_oldest» = oldest;
-  «rxed_reliable» = cells;
   «rxed_reliable_size» = rx .«rxed_reliable_size»;
   «rxed_reliable_consumed» = rx .«rxed_reliable_consumed»;
   «recv_buffer» = rx .«recv_buffer»;
+  cells = rx .cells;
+  «rx_end» = rx .«rx_end»;
 }
 
 -- the untaken bytes, and those taken and untold
@@ -126,10 +126,23 @@ abbrev pub withBytes : Receiving → (untaken untold : ℕ) → Receiving
 withBytes rx a b = record {
   «rx_seq» = rx .«rx_seq»;
   «rx_oldest» = rx .«rx_oldest»;
-  «rxed_reliable» = rx .«rxed_reliable»;
   «rxed_reliable_size» = a;
   «rxed_reliable_consumed» = b;
   «recv_buffer» = rx .«recv_buffer»;
+  cells = rx .cells;
+  «rx_end» = rx .«rx_end»;
+}
+
+-- the end of the cells in use
+abbrev pub withEnd : Receiving → Seq → Receiving
+withEnd rx end = record {
+  «rx_seq» = rx .«rx_seq»;
+  «rx_oldest» = rx .«rx_oldest»;
+  «rxed_reliable_size» = rx .«rxed_reliable_size»;
+  «rxed_reliable_consumed» = rx .«rxed_reliable_consumed»;
+  «recv_buffer» = rx .«recv_buffer»;
+  cells = rx .cells;
+  «rx_end» = end;
 }
 
 -- ---- the state

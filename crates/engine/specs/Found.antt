@@ -2,7 +2,7 @@
 use mathlib.Core.Path.{_≡_, refl, ap}
 use mathlib.Core.Bool.{Bool, true, false, cond, not, _&&_, _||_}
 use mathlib.Core.List.{List}
-use Prim.Native.Nat.{ℕ, zero, suc, _+_, _-_, _%_, _≤_, _<_}
+use Prim.Native.Nat.{ℕ, zero, suc, _+_, _-_, _*_, _%_, _≤_, _<_}
 use native.Mathlib.Nat.{not-suc-le-zero}
 use native.Mathlib.Omega.{arith}
 use lib.Dec.{eqb, leb}
@@ -12,13 +12,14 @@ use Rattle.link.specs.Sizes.{rowWithin, MAX_TIME}
 use Rattle.link.specs.Row.{noRow}
 use Rattle.engine.specs.declared.roster.Roster.{Roster}
 use Rattle.engine.specs.declared.state.Sending.{Sending}
+use Rattle.engine.specs.declared.state.Receiving.{Receiving}
 use Rattle.engine.specs.declared.state.State.{State}
 use Rattle.engine.specs.Packets.{noPacket, firstOf, isReceived}
-use Rattle.engine.specs.Received.{expectedAt}
+use Rattle.engine.specs.Received.{expectedAt, inUse}
+use Rattle.engine.specs.CellCount.{isCellCount}
 use Rattle.engine.specs.Roster.{rosterOf, livesBefore}
 use Rattle.engine.specs.Tally.{tallyOf}
-use Rattle.engine.specs.CellTally.{cellTallyOf}
-use Rattle.engine.specs.Sizes.{SLOTS, PACKETS, CELLS, MAX_RECV_BUFFER}
+use Rattle.engine.specs.Sizes.{SLOTS, PACKETS, DATA_BYTES}
 
 -- what stands in the first packet's cell isn't Received
 unfoldable pub firstOk : Sending → Bool
@@ -47,12 +48,11 @@ sendingb s =
     && ((eqb (t .queued) (s .tx .«resend_count») && leb (s .tx .«resend_count») PACKETS)
     && (eqb (t .unacked) (s .tx .«txed_unacked») && eqb (t .unconsumable) (s .tx .«txed_unconsumable»))))
 
-unfoldable pub receivingb : State → Bool
-receivingb s =
-    let t = cellTallyOf CELLS (s .rx) in
-    t .ok
-    && ((eqb (t .size) (s .rx .«rxed_reliable_size») && leb (s .rx .«rxed_reliable_size») (s .rx .«recv_buffer»))
-    && (leb (expectedAt (s .rx)) CELLS && (leb 1 (s .rx .«recv_buffer») && leb (s .rx .«recv_buffer») MAX_RECV_BUFFER)))
+unfoldable pub receivingb : Receiving → Bool
+receivingb rx =
+    isCellCount (rx .cells)
+    && ((leb (expectedAt rx) (inUse rx) && leb (inUse rx) (rx .cells))
+    && (leb (rx .«rxed_reliable_size») (rx .«recv_buffer») && (leb 1 (rx .«recv_buffer») && leb (rx .«recv_buffer») (rx .cells * DATA_BYTES))))
 
 unfoldable pub linksb : State → Bool
 linksb s =
@@ -61,7 +61,7 @@ linksb s =
 
 unfoldable pub foundSound : State → Bool
 unfolding sendingb receivingb linksb
-foundSound s = leb (s .tx .«txed_count») PACKETS && (sendingb s && (receivingb s && linksb s))
+foundSound s = leb (s .tx .«txed_count») PACKETS && (sendingb s && (receivingb (s .rx) && linksb s))
 
 -- ---- laws
 

@@ -5,10 +5,12 @@
 -- [4] has 0 for that once the reader has closed. Ready is what lies before the next expected number; N is the cell count. Assumes nothing.
 use mathlib.Core.Path.{_≡_, refl, sym, ap, ap₂, _∙_}
 use mathlib.Core.Bool.{Bool, true, false, cond, not, _&&_}
-use Prim.Native.Nat.{ℕ, _%_, _≤_, _+_, _-_, _^_, _<_, _/_}
+use Prim.Native.Nat.{ℕ, _%_, _≤_, _+_, _-_, _*_, _^_, _<_, _/_}
+use native.Mathlib.Nat.{mod-lt}
+use native.Mathlib.Decide.{ℕ-discrete}
 use native.Mathlib.Omega.{arith}
 use lib.Dec.{eqb, ltb}
-use lib.ListN.{getD, length, take, drop, set}
+use lib.ListN.{length, take, drop, set}
 use Rattle.seq.specs.declared.Seq.{Seq}
 use Rattle.msg.specs.declared.reliable.ReliableMsg.{ReliableMsg}
 use Rattle.msg.specs.declared.reliable.ReliableMsg.the-variants.{Data, Consumed, SendFinish, ReceiveClose, ReceiveFinish}
@@ -20,20 +22,24 @@ use Rattle.engine.specs.declared.state.Held.{Held}
 use Rattle.engine.specs.declared.state.Held.the-variants as helds
 use Rattle.engine.specs.declared.state.Receiving.{Receiving}
 use Rattle.engine.specs.declared.state.State.{State}
-use Rattle.engine.specs.Received.{noCell, isFull, isReadyKind, heldBytes}
-use Rattle.engine.specs.Sound.{Sound, LengthWithin, cellAt, Shaped}
-use Rattle.engine.specs.DecidedTables.{length-le, length-none}
+use Rattle.engine.specs.Records.{isFull, isReadyKind, heldBytes}
+use Rattle.engine.specs.Received.{RxTable, tableOf, heldAt, expectedAt, inUse, view-held}
+use Rattle.engine.specs.CellCount.{cell-count}
+use Rattle.engine.specs.Sound.{Sound, SoundRecords, cellAt, Shaped}
+use Rattle.engine.specs.DecidedTables.{length-le, length-none, plus-zero}
 use Rattle.refusal.specs.Verdicts.{gate, gate-pass}
-use Rattle.refusal.specs.Tests.{false-true}
-use Rattle.engine.specs.Cells.{cellOf}
+use Rattle.refusal.specs.Tests.{false-true, split}
+use Rattle.engine.specs.Receiving.{lengthsOk}
 use Rattle.engine.specs.declared.handing_out.HandOut.{HandOut}
 use Rattle.engine.specs.declared.handing_out.HandOut.the-variants.{Message, No}
 use mathlib.Core.List.{List, [], _∷_}
-use borrow.Author.Tests.{eqb-true}
-use Rattle.engine.specs.Decide.{soundb, sound}
+use borrow.Author.Tests.{eqb-true, eqb-false}
+use Rattle.engine.specs.Decide.{soundb, sound, recordsb, records-sound, soundWithb}
 use Rattle.engine.specs.Stores.{cellStart}
 use borrow.Table.Steps.{cases}
 use Rattle.seq.specs.Numbers.{seqOf, plus}
+use Rattle.seq.specs.Laws.{plus-difference}
+use Rattle.seq.specs.Distance.{past, past-near}
 use Rattle.engine.specs.Rows.{rowOf, slotOk}
 use Rattle.engine.specs.Gates.{AtSlot, slot-ok, stateVerdict}
 use Rattle.engine.specs.declared.handing_out.TakeResult.{TakeResult}
@@ -44,11 +50,10 @@ use Rattle.engine.specs.declared.handing_out.TakeAck.{TakeAck}
 use Rattle.engine.specs.declared.handing_out.TakeAck.the-variants as tellings
 use Rattle.engine.specs.declared.handing_out.TakeAckResult.{TakeAckResult}
 use Rattle.engine.specs.declared.handing_out.Due.{Due}
-use Rattle.engine.specs.Ring.{window-step}
 use Rattle.engine.specs.Turns.{turns}
-use Rattle.engine.specs.Sizes.{CELLS, DATA_BYTES, RECEIVED_BYTES}
+use Rattle.engine.specs.Sizes.{DATA_BYTES}
 use Rattle.engine.specs.Packets.{isData}
-use Rattle.engine.specs.Fields.{withCells, withBytes, withRow, withRx}
+use Rattle.engine.specs.Fields.{withNumbers, withBytes, withRow, withRx}
 use Rattle.engine.specs.Totals.{fits, MAX_TOTAL, total-fits}
 use Rattle.engine.specs.Tally.{lengthOk}
 use Rattle.engine.specs.declared.handing_out.Due.the-variants as dues
@@ -56,13 +61,13 @@ use Rattle.engine.specs.declared.handing_out.Due.the-variants as dues
 -- ---- the oldest ready message
 
 -- the oldest ready message: with the oldest number at the next expected one, none is ready
-unfoldable pub readyOf : ℕ → Receiving → Held
-unfolding cellOf
-readyOf N rx = cond (eqb (rx .«rx_oldest» .0) (rx .«rx_seq» .0)) helds.Nothing (cellOf N rx (rx .«rx_oldest» .0))
+unfoldable pub readyOf : RxTable → Held
+unfolding heldAt
+readyOf t = cond (eqb (t .rx .«rx_oldest» .0) (t .rx .«rx_seq» .0)) helds.Nothing (heldAt (t .rx .cells) (t .records) (t .rx .«rx_oldest» .0))
 
 -- not "nothing to take" (19)
-abbrev pub isReady : Receiving → Bool
-isReady rx = isFull (readyOf CELLS rx)
+abbrev pub isReady : RxTable → Bool
+isReady t = isFull (readyOf t)
 
 -- the message that a cell holds; that of an empty one is never asked
 abbrev pub msgIn : Held → ReliableMsg
@@ -75,13 +80,13 @@ handOutTold (Message msg seq len) = success (kindOf msg ∷ seq .0 ∷ len ∷ [
 handOutTold (No e) = refused e
 
 -- the kind, number and length of the oldest ready message
-abbrev pub readyValues : Receiving → List ℕ
-readyValues rx = kindOf (msgIn (readyOf CELLS rx)) ∷ rx .«rx_oldest» .0 ∷ heldBytes (readyOf CELLS rx) ∷ []
+abbrev pub readyValues : RxTable → List ℕ
+readyValues t = kindOf (msgIn (readyOf t)) ∷ t .rx .«rx_oldest» .0 ∷ heldBytes (readyOf t) ∷ []
 
-unfoldable pub handOutBy : Verdict → Receiving → HandOut
+unfoldable pub handOutBy : Verdict → RxTable → HandOut
 unfolding readyOf
-handOutBy verdicts.Pass rx = Message (msgIn (readyOf CELLS rx)) (rx .«rx_oldest») (heldBytes (readyOf CELLS rx))
-handOutBy (verdicts.No e) rx = No e
+handOutBy verdicts.Pass t = Message (msgIn (readyOf t)) (t .rx .«rx_oldest») (heldBytes (readyOf t))
+handOutBy (verdicts.No e) t = No e
 
 -- the data bytes of a message
 abbrev pub dataLength : ReliableMsg → ℕ → ℕ
@@ -93,73 +98,95 @@ readyBytes (helds.Message msg len) = dataLength msg len
 
 -- ---- showing: a part carries no number, so a second call tells which it is
 
-unfoldable pub showVerdict : State → ℕ → Verdict
-showVerdict s store = gate (soundb s) 1 (gate (eqb store RECEIVED_BYTES) 2 (gate (isReady (s .rx)) 19 verdicts.Pass))
+-- in the order of their numbers, but that 2 "is checked before 1" ([8])
+unfoldable pub showVerdict : State → ℕ → List ℕ → Verdict
+showVerdict s store records =
+    gate (lengthsOk (s .rx) store (length records)) 2
+    (gate (soundWithb s records) 1
+    (gate (isReady (tableOf (s .rx) records)) 19
+    verdicts.Pass))
 
 -- what is shown: the answer that taking would give, but for 9
-unfoldable pub showingOf : State → ℕ → HandOut
+unfoldable pub showingOf : State → ℕ → List ℕ → HandOut
 unfolding showVerdict handOutBy
-showingOf s store = handOutBy (showVerdict s store) (s .rx)
+showingOf s store records = handOutBy (showVerdict s store records) (tableOf (s .rx) records)
 
--- "from the cell's start for the data length"; only Data has any
-abbrev pub partAs : HandOut → List ℕ → List ℕ
-partAs (Message msg seq len) store = take (dataLength msg len) (drop (cellStart CELLS (seq .0)) store)
-partAs (No e) store = []
+-- "from the cell's start for the data length", of N cells; only Data has any
+abbrev pub partAs : ℕ → HandOut → List ℕ → List ℕ
+partAs N (Message msg seq len) store = take (dataLength msg len) (drop (cellStart N (seq .0)) store)
+partAs N (No e) store = []
 
 -- where the part lies, by block and place, of a store that lies somewhere: "from the cell's start"; an empty one at the store's
-abbrev pub placeAs : HandOut → ℕ × ℕ → ℕ × ℕ
-placeAs (Message msg seq len) at = (at .0, cellStart CELLS (seq .0) + at .1)
-placeAs (No e) at = at
+abbrev pub placeAs : ℕ → HandOut → ℕ × ℕ → ℕ × ℕ
+placeAs N (Message msg seq len) at = (at .0, cellStart N (seq .0) + at .1)
+placeAs N (No e) at = at
 
-unfoldable pub shownAt : State → ℕ → ℕ × ℕ → ℕ × ℕ
+unfoldable pub shownAt : State → ℕ → List ℕ → ℕ × ℕ → ℕ × ℕ
 unfolding showingOf
-shownAt s store at = placeAs (showingOf s store) at
+shownAt s store records at = placeAs (s .rx .cells) (showingOf s store records) at
 
-unfoldable pub shownOf : State → List ℕ → List ℕ
+unfoldable pub shownOf : State → List ℕ → List ℕ → List ℕ
 unfolding showingOf
-shownOf s store = partAs (showingOf s (length store)) store
+shownOf s store records = partAs (s .rx .cells) (showingOf s (length store) records) store
 
 -- ---- taking
 
--- 9: "a total would pass 2^32 − 1", the taken-and-untold count
-unfoldable pub takeVerdict : State → Verdict
-takeVerdict s =
-    gate (soundb s) 1
-    (gate (fits (s .rx .«rxed_reliable_consumed») (readyBytes (readyOf CELLS (s .rx))) MAX_TOTAL) 9
-    (gate (isReady (s .rx)) 19
-    verdicts.Pass))
+-- "refusal 2, now given in taking a message too" ([8]); 9: "a total would pass 2^32 − 1", the taken-and-untold count
+unfoldable pub takeVerdict : State → List ℕ → Verdict
+takeVerdict s records =
+    gate (eqb (length records) (s .rx .cells)) 2
+    (gate (soundWithb s records) 1
+    (gate (fits (s .rx .«rxed_reliable_consumed») (readyBytes (readyOf (tableOf (s .rx) records))) MAX_TOTAL) 9
+    (gate (isReady (tableOf (s .rx) records)) 19
+    verdicts.Pass)))
 
 -- the oldest number stands for nothing that is ready, and is before the next expected
-unfoldable pub canSkip : ℕ → Receiving → Bool
-unfolding cellOf
-canSkip N rx = not (eqb (rx .«rx_oldest» .0) (rx .«rx_seq» .0)) && not (isFull (cellOf N rx (rx .«rx_oldest» .0)))
+unfoldable pub canSkip : ℕ → List ℕ → Receiving → Bool
+unfolding heldAt
+canSkip N records rx = not (eqb (rx .«rx_oldest» .0) (rx .«rx_seq» .0)) && not (isFull (heldAt N records (rx .«rx_oldest» .0)))
 
 unfoldable pub passedBy : Receiving → Receiving
-passedBy rx = withCells rx (rx .«rx_seq») (seqOf (plus (rx .«rx_oldest» .0) 1)) (rx .«rxed_reliable»)
+passedBy rx = withNumbers rx (rx .«rx_seq») (seqOf (plus (rx .«rx_oldest» .0) 1))
 
 -- to the next ready message or the next expected number, over at most k numbers
-abbrev pub skipped : ℕ → ℕ → Receiving → Receiving
-skipped N k rx = turns (canSkip N) passedBy k rx
+abbrev pub skipped : ℕ → ℕ → List ℕ → Receiving → Receiving
+skipped N k records rx = turns (canSkip N records) passedBy k rx
 
 -- the table without its oldest ready message, of so many data bytes
-unfoldable pub takenRx : ℕ → Receiving → ℕ → Receiving
-takenRx N rx bytes =
-    skipped N N
-    (withBytes
-    (withCells rx (rx .«rx_seq») (seqOf (plus (rx .«rx_oldest» .0) 1)) (set (rx .«rxed_reliable») (rx .«rx_oldest» .0 % N) noCell))
-    (rx .«rxed_reliable_size» - bytes) (rx .«rxed_reliable_consumed» + bytes))
+unfoldable pub takenIn : ℕ → RxTable → ℕ → RxTable
+unfolding passedBy
+takenIn N t bytes =
+    let emptied = set (t .records) (t .rx .«rx_oldest» .0 % N) 0 in
+    record {
+      rx = skipped N N emptied (withBytes (passedBy (t .rx)) (t .rx .«rxed_reliable_size» - bytes) (t .rx .«rxed_reliable_consumed» + bytes));
+      records = emptied;
+    }
 
-unfoldable pub takenState : State → ℕ → State
-unfolding takenRx
-takenState s bytes = withRx s (takenRx CELLS (s .rx) bytes)
+abbrev pub takenTable : State → List ℕ → ℕ → RxTable
+takenTable s records bytes = takenIn (s .rx .cells) (tableOf (s .rx) records) bytes
 
-abbrev pub takenBy : HandOut → State → State
-takenBy (Message msg seq len) s = takenState s (dataLength msg len)
-takenBy (No e) s = s
+unfoldable pub takenState : State → List ℕ → ℕ → State
+unfolding takenIn
+takenState s records bytes = withRx s (takenTable s records bytes .rx)
 
-unfoldable pub takeOf : State → TakeResult
+abbrev pub takenBy : HandOut → State → List ℕ → State
+takenBy (Message msg seq len) s records = takenState s records (dataLength msg len)
+takenBy (No e) s records = s
+
+unfoldable pub takeOf : State → List ℕ → TakeResult
 unfolding takeVerdict takenState
-takeOf s = let answer = handOutBy (takeVerdict s) (s .rx) in record { answer = answer; state = takenBy answer s }
+takeOf s records =
+    let answer = handOutBy (takeVerdict s records) (tableOf (s .rx) records) in
+    record { answer = answer; state = takenBy answer s records }
+
+-- its record is empty then, and no other word changes
+abbrev pub recordsBy : HandOut → State → List ℕ → List ℕ
+recordsBy (Message msg seq len) s records = takenTable s records (dataLength msg len) .records
+recordsBy (No e) s records = records
+
+unfoldable pub takeRecords : State → List ℕ → List ℕ
+unfolding takeVerdict
+takeRecords s records = recordsBy (handOutBy (takeVerdict s records) (tableOf (s .rx) records)) s records
 
 -- ---- taking an ack
 
@@ -224,13 +251,13 @@ dueOf s = dueBy (stateVerdict s) s
 
 -- what each answer tells
 
-handed-told : (v : Verdict) (rx : Receiving) → handOutTold (handOutBy v rx) ≡ toldBy v (readyValues rx)
+handed-told : (v : Verdict) (t : RxTable) → handOutTold (handOutBy v t) ≡ toldBy v (readyValues t)
 unfolding handOutBy
-handed-told verdicts.Pass rx = refl
-handed-told (verdicts.No e) rx = refl
+handed-told verdicts.Pass t = refl
+handed-told (verdicts.No e) t = refl
 
-pub hand-told : {r : HandOut} (v w : Verdict) (rx : Receiving) → r ≡ handOutBy v rx → v ≡ w → handOutTold r ≡ toldBy w (readyValues rx)
-hand-told v w rx e same = ap handOutTold e ∙ handed-told v rx ∙ ap (λ x. toldBy x (readyValues rx)) same
+pub hand-told : {r : HandOut} (v w : Verdict) (t : RxTable) → r ≡ handOutBy v t → v ≡ w → handOutTold r ≡ toldBy w (readyValues t)
+hand-told v w t e same = ap handOutTold e ∙ handed-told v t ∙ ap (λ x. toldBy x (readyValues t)) same
 
 ack-told : (v : Verdict) (ack : OldestAck) → takeAckTold (ackAs v ack) ≡ toldBy v (ackIn ack .0 ∷ [])
 ack-told verdicts.Pass ack = refl
@@ -241,53 +268,76 @@ unfolding ackAnswer
 answer-told s slot = ack-told (takeAckVerdict s slot) (oldestAck (rowOf s slot))
 
 -- what an answer that is no refusal says
-pub record Handed (v : Verdict) (rx : Receiving) (msg : ReliableMsg) (n : Seq) (len : ℕ) : Type 0 where
+pub record Handed (v : Verdict) (t : RxTable) (msg : ReliableMsg) (n : Seq) (len : ℕ) : Type 0 where
   pub passed : v ≡ verdicts.Pass
-  pub ready : isReady rx ≡ true → readyOf CELLS rx ≡ helds.Message msg len
-  pub number : rx .«rx_oldest» ≡ n
+  pub ready : isReady t ≡ true → readyOf t ≡ helds.Message msg len
+  pub number : t .rx .«rx_oldest» ≡ n
 
 ready-is : (held : Held) (msg : ReliableMsg) (len : ℕ) → msgIn held ≡ msg → heldBytes held ≡ len → isFull held ≡ true → held ≡ helds.Message msg len
 ready-is helds.Nothing msg len m l e = false-true e
 ready-is (helds.Message msg₁ len₁) msg len m l e = ap₂ (λ (a : ReliableMsg) (b : ℕ). helds.Message a b) m l
 
-pub handed : (v : Verdict) (rx : Receiving) (msg : ReliableMsg) (n : Seq) (len : ℕ) → handOutBy v rx ≡ Message msg n len → Handed v rx msg n len
+pub handed : (v : Verdict) (t : RxTable) (msg : ReliableMsg) (n : Seq) (len : ℕ) → handOutBy v t ≡ Message msg n len → Handed v t msg n len
 unfolding handOutBy
-handed verdicts.Pass rx msg n len e =
-    let m : msgIn (readyOf CELLS rx) ≡ msg = cc in
-    let l : heldBytes (readyOf CELLS rx) ≡ len = cc in
-    let o : rx .«rx_oldest» ≡ n = cc in
-    record { passed = refl; ready = ready-is (readyOf CELLS rx) msg len m l; number = o }
-handed (verdicts.No e₁) rx msg n len e = let z : _≡_ {A = ℕ} 0 1 = cc in absurd (omega arith)
+handed verdicts.Pass t msg n len e =
+    let m : msgIn (readyOf t) ≡ msg = cc in
+    let l : heldBytes (readyOf t) ≡ len = cc in
+    let o : t .rx .«rx_oldest» ≡ n = cc in
+    record { passed = refl; ready = ready-is (readyOf t) msg len m l; number = o }
+handed (verdicts.No e₁) t msg n len e = let z : _≡_ {A = ℕ} 0 1 = cc in absurd (omega arith)
 
 data-length-le : (msg : ReliableMsg) (len : ℕ) → dataLength msg len ≤ len
 data-length-le msg len = cases (isData msg) (λ t. simp t (omega arith)) (λ t. simp t (omega arith))
 
--- a ready message is what the oldest number's cell holds
-pub ready-cell : (N : ℕ) (rx : Receiving) (msg : ReliableMsg) (len : ℕ) → readyOf N rx ≡ helds.Message msg len → cellOf N rx (rx .«rx_oldest» .0) ≡ helds.Message msg len
+-- a ready message is what the oldest number's record says, before the next expected number
+pub ready-held : (t : RxTable) (msg : ReliableMsg) (len : ℕ) → readyOf t ≡ helds.Message msg len
+    → (heldAt (t .rx .cells) (t .records) (t .rx .«rx_oldest» .0) ≡ helds.Message msg len) × (eqb (t .rx .«rx_oldest» .0) (t .rx .«rx_seq» .0) ≡ false)
 unfolding readyOf
-ready-cell N rx msg len e =
-    cases (eqb (rx .«rx_oldest» .0) (rx .«rx_seq» .0))
-    (λ t. let z : _≡_ {A = Held} helds.Nothing (helds.Message msg len) = simp t at e in let z′ : _≡_ {A = ℕ} 0 1 = cc in absurd (omega arith))
-    (λ t. simp t at e)
+ready-held t msg len e =
+    cases (eqb (t .rx .«rx_oldest» .0) (t .rx .«rx_seq» .0))
+    (λ b. let z : _≡_ {A = Held} helds.Nothing (helds.Message msg len) = simp b at e in let z′ : _≡_ {A = ℕ} 0 1 = cc in absurd (omega arith))
+    (λ b. (simp b at e, b))
+
+-- the next expected number, where it isn't the oldest, is past it
+expected-past : (n o : ℕ) → n < 2 ^ 32 → o < 2 ^ 32 → past n o < 2 ^ 30 → eqb o n ≡ false → 0 < past n o
+expected-past n o hn ho close ne =
+    let n-is : plus o (past n o) ≡ n = ap (plus o) (past-near n o close) ∙ plus-difference n o hn ho in
+    elim (ℕ-discrete (past n o) 0) [
+      | yes z ↦ absurd (eqb-false o n ne (sym (plus-zero o ho) ∙ ap (plus o) (sym z) ∙ n-is))
+      | no nz ↦ omega arith
+    ]
 
 -- its bytes fit its cell of the store
-pub ready-short : (s : State) (msg : ReliableMsg) (len : ℕ) → Sound s → readyOf CELLS (s .rx) ≡ helds.Message msg len → dataLength msg len ≤ DATA_BYTES
-unfolding cellOf
-ready-short s msg len sound e =
-    let here : cellAt s 0 ≡ cellOf CELLS (s .rx) (s .rx .«rx_oldest» .0) = ap (λ cs. getD cs 0 noCell .held) (window-step CELLS noCell (s .rx .«rxed_reliable») (s .rx .«rx_oldest» .0 % CELLS) CELLS (omega arith)) in
-    let within : LengthWithin (helds.Message msg len) = rw (here ∙ ready-cell CELLS (s .rx) msg len e) at (sound .cell-length 0 (omega arith)) in
-    omega (arith, length-le msg len within, data-length-le msg len)
+pub ready-short : (s : State) (records : List ℕ) (msg : ReliableMsg) (len : ℕ) → Shaped s → Sound s → SoundRecords (tableOf (s .rx) records)
+    → readyOf (tableOf (s .rx) records) ≡ helds.Message msg len → dataLength msg len ≤ DATA_BYTES
+ready-short s records msg len shape fine recorded e =
+    let t = tableOf (s .rx) records in
+    let o = s .rx .«rx_oldest» .0 in
+    let count = cell-count (s .rx .cells) (fine .cell-count) in
+    let here = ready-held t msg len e in
+    let some : 0 < expectedAt (s .rx) = expected-past (s .rx .«rx_seq» .0) o (shape .expected-u32) (shape .oldest-u32) (omega (arith, fine .near, fine .used, count .few)) (here .1) in
+    let used : 0 < inUse (s .rx) = omega (arith, fine .near) in
+    let is : cellAt t 0 ≡ helds.Message msg len =
+    view-held (s .rx .cells) count t 0 used ∙ ap (heldAt (s .rx .cells) records) (plus-zero o (shape .oldest-u32)) ∙ here .0 in
+    let long : lengthOk msg len ≡ true = rw is at (recorded .cell-length 0 used) in
+    omega (arith, data-length-le msg len, length-le msg len long)
 
 -- what is shown lies within the store
-pub shown-within : (s : State) (store : ℕ) (msg : ReliableMsg) (seq : Seq) (len : ℕ) → Shaped s → showingOf s store ≡ Message msg seq len
-    → cellStart CELLS (seq .0) + dataLength msg len ≤ store
-unfolding showingOf showVerdict handOutBy
-shown-within s store msg seq len shape e =
-    let h = handed (showVerdict s store) (s .rx) msg seq len e in
-    let e1 = gate-pass (soundb s) _ _ (h .passed) in
-    let e2 = gate-pass (eqb store RECEIVED_BYTES) _ _ (e1 .1) in
-    let e19 = gate-pass (isReady (s .rx)) _ _ (e2 .1) in
-    omega (arith, eqb-true store RECEIVED_BYTES (e2 .0), ready-short s msg len (sound s (e1 .0)) (h .ready (e19 .0)))
+pub shown-within : (s : State) (store : ℕ) (records : List ℕ) (msg : ReliableMsg) (seq : Seq) (len : ℕ) → Shaped s → showingOf s store records ≡ Message msg seq len
+    → (0 < s .rx .cells) × (cellStart (s .rx .cells) (seq .0) + dataLength msg len ≤ store)
+unfolding showingOf showVerdict handOutBy soundWithb
+shown-within s store records msg seq len shape e =
+    let t = tableOf (s .rx) records in
+    let h = handed (showVerdict s store records) t msg seq len e in
+    let e2 = gate-pass (lengthsOk (s .rx) store (length records)) _ _ (h .passed) in
+    let e1 = gate-pass (soundWithb s records) _ _ (e2 .1) in
+    let e19 = gate-pass (isReady t) _ _ (e1 .1) in
+    let both = split (soundb s) (recordsb t) (e1 .0) in
+    let stored = eqb-true store (s .rx .cells * DATA_BYTES) (split (eqb store (s .rx .cells * DATA_BYTES)) (eqb (length records) (s .rx .cells)) (e2 .0) .0) in
+    let some = cell-count (s .rx .cells) (sound s (both .0) .cell-count) .some in
+    let at : seq .0 % s .rx .cells < s .rx .cells = mod-lt (seq .0) some in
+    let short = ready-short s records msg len shape (sound s (both .0)) (records-sound t (both .1)) (h .ready (e19 .0)) in
+    (some, omega arith)
 
 -- a part named by its start and its end
 pub part-same : (start len : ℕ) (store : List ℕ) → take (start + len - start) (drop start store) ≡ take len (drop start store)
@@ -295,25 +345,31 @@ part-same start len store =
     let e : start + len - start ≡ len = omega arith in
     ap (λ n. take n (drop start store)) e
 
--- a message that is taken was ready, in a sound state, and the taken-and-untold count stays a total
-pub record Taking (s : State) (msg : ReliableMsg) (seq : Seq) (len : ℕ) : Type 0 where
+-- a message that is taken was ready, in a sound state with its records, and the taken-and-untold count stays a total
+pub record Taking (s : State) (records : List ℕ) (msg : ReliableMsg) (seq : Seq) (len : ℕ) : Type 0 where
   pub fine : Sound s
-  pub ready : readyOf CELLS (s .rx) ≡ helds.Message msg len
+  pub recorded : SoundRecords (tableOf (s .rx) records)
+  pub ready : readyOf (tableOf (s .rx) records) ≡ helds.Message msg len
   pub number : s .rx .«rx_oldest» ≡ seq
   pub total : s .rx .«rxed_reliable_consumed» + dataLength msg len < 2 ^ 32
 
-pub taking : (s : State) (msg : ReliableMsg) (seq : Seq) (len : ℕ) → handOutBy (takeVerdict s) (s .rx) ≡ Message msg seq len → Taking s msg seq len
-unfolding takeVerdict
-taking s msg seq len e =
-    let h = handed (takeVerdict s) (s .rx) msg seq len e in
-    let e1 = gate-pass (soundb s) _ _ (h .passed) in
-    let e9 = gate-pass (fits (s .rx .«rxed_reliable_consumed») (readyBytes (readyOf CELLS (s .rx))) MAX_TOTAL) _ _ (e1 .1) in
-    let e19 = gate-pass (isReady (s .rx)) _ _ (e9 .1) in
+pub taking : (s : State) (records : List ℕ) (msg : ReliableMsg) (seq : Seq) (len : ℕ) → handOutBy (takeVerdict s records) (tableOf (s .rx) records) ≡ Message msg seq len
+    → Taking s records msg seq len
+unfolding takeVerdict soundWithb
+taking s records msg seq len e =
+    let t = tableOf (s .rx) records in
+    let h = handed (takeVerdict s records) t msg seq len e in
+    let e2 = gate-pass (eqb (length records) (s .rx .cells)) _ _ (h .passed) in
+    let e1 = gate-pass (soundWithb s records) _ _ (e2 .1) in
+    let e9 = gate-pass (fits (s .rx .«rxed_reliable_consumed») (readyBytes (readyOf t)) MAX_TOTAL) _ _ (e1 .1) in
+    let e19 = gate-pass (isReady t) _ _ (e9 .1) in
+    let both = split (soundb s) (recordsb t) (e1 .0) in
     record {
-      fine = sound s (e1 .0);
+      fine = sound s (both .0);
+      recorded = records-sound t (both .1);
       ready = h .ready (e19 .0);
       number = h .number;
-      total = rw (ap readyBytes (h .ready (e19 .0))) at (total-fits (s .rx .«rxed_reliable_consumed») (readyBytes (readyOf CELLS (s .rx))) (e9 .0));
+      total = rw (ap readyBytes (h .ready (e19 .0))) at (total-fits (s .rx .«rxed_reliable_consumed») (readyBytes (readyOf t)) (e9 .0));
     }
 
 -- an ack that is taken was waiting, on a live link

@@ -1,9 +1,11 @@
 pub mod Sizes
+pub mod CellCount
 pub mod Fields
 pub mod Totals
 pub mod Ring
 pub mod Turns
 pub mod Packets
+pub mod Records
 pub mod Received
 pub mod Roster
 pub mod Tally
@@ -16,6 +18,7 @@ pub mod Answer
 pub mod Queue
 pub mod DecidedTables
 pub mod DecidedPackets
+pub mod DecidedRecords
 pub mod Decided
 pub mod Table
 pub mod Gates

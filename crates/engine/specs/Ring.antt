@@ -9,7 +9,7 @@ use native.Mathlib.Omega.{arith}
 use borrow.Table.Steps.{cases}
 use borrow.Author.Tests.{ltb-true, ltb-false}
 use lib.Dec.{ltb}
-use lib.ListN.{length, getD, set, drop, length-set}
+use lib.ListN.{length, getD, set, drop, replicate, length-set}
 use lib.Seq.{getD-set-same, getD-set-other}
 
 -- the cell after another, going round
@@ -180,6 +180,20 @@ module _ {A : Type 0} (N : ℕ) (d : A) where
   unfolding refilled
   refill-length cells at [] = refl
   refill-length cells at (x ∷ xs) = refill-length (set cells at x) (nextCell N at) xs ∙ length-set cells at x
+
+  -- so many cells with one content, one cell less: what a loop over them does in a turn
+  pub refill-step : (cells : List A) (at n : ℕ) (x : A) → 0 < n
+      → refilled N cells at (replicate n x) ≡ refilled N (set cells at x) (nextCell N at) (replicate (n - 1) x)
+  unfolding refilled
+  refill-step cells at zero x h = absurd (not-suc-le-zero h)
+  refill-step cells at (suc n) x h =
+      let e : n ≡ suc n - 1 = omega arith in
+      ap (λ m. refilled N (set cells at x) (nextCell N at) (replicate m x)) e
+
+  pub refill-none : (cells : List A) (at n : ℕ) (x : A) → n ≤ 0 → refilled N cells at (replicate n x) ≡ cells
+  unfolding refilled
+  refill-none cells at zero x h = refl
+  refill-none cells at (suc n) x h = absurd (not-suc-le-zero h)
 
   -- a cell past the list's is as it was
   pub refill-out : (cells : List A) (at m : ℕ) (xs : List A) → at < N → length xs ≤ m → m < N

@@ -31,7 +31,7 @@ use Rattle.engine.specs.declared.sending.SendAnswer.{SendAnswer}
 use Rattle.engine.specs.declared.sending.SendAnswer.the-variants.{Number, No}
 use Rattle.engine.specs.declared.sending.SendResult.{SendResult}
 use Rattle.engine.specs.Sizes.{PACKETS, DATA_BYTES, SENT_BYTES}
-use Rattle.engine.specs.Received.{isReadyKind}
+use Rattle.engine.specs.Records.{isReadyKind}
 use Rattle.engine.specs.Fields.{newPacket, withNext, withTotals, withEnds, withBytes, withParts, newFlight}
 use Rattle.engine.specs.Totals.{fits, MAX_TOTAL, total-fits}
 
@@ -51,12 +51,12 @@ totalsOk s slot msg len =
     && (fits (rowOf s slot .«txed_unacked_data») len MAX_TOTAL
     && toldOk msg (s .rx .«rxed_reliable_consumed»)))
 
--- the refusals of send, in the order of their numbers; `store` is the lent store's length
+-- the refusals of send, in the order of their numbers, but that 2 "is checked before 1" ([8]); `store` is the lent store's length
 unfoldable pub sendVerdict : State → ℕ → ℕ → ℕ → ReliableMsg → ℕ → Verdict
 unfolding totalsOk
 sendVerdict s store slot time msg len =
-    gate (soundb s) 1
-    (gate (eqb store SENT_BYTES) 2
+    gate (eqb store SENT_BYTES) 2
+    (gate (soundb s) 1
     (gate (timeOk s time) 3
     (gate (slotOk s slot) 4
     (gate (lengthOk msg len) 7
@@ -131,9 +131,9 @@ pub record SendPassed (s : State) (store slot time : ℕ) (msg : ReliableMsg) (l
 pub send-passed : (s : State) (store slot time : ℕ) (msg : ReliableMsg) (len : ℕ) → sendVerdict s store slot time msg len ≡ verdicts.Pass → SendPassed s store slot time msg len
 unfolding sendVerdict totalsOk
 send-passed s store slot time msg len e =
-    let e1 = gate-pass (soundb s) _ _ e in
-    let e2 = gate-pass (eqb store SENT_BYTES) _ _ (e1 .1) in
-    let e3 = gate-pass (timeOk s time) _ _ (e2 .1) in
+    let e2 = gate-pass (eqb store SENT_BYTES) _ _ e in
+    let e1 = gate-pass (soundb s) _ _ (e2 .1) in
+    let e3 = gate-pass (timeOk s time) _ _ (e1 .1) in
     let e4 = gate-pass (slotOk s slot) _ _ (e3 .1) in
     let e7 = gate-pass (lengthOk msg len) _ _ (e4 .1) in
     let e8 = gate-pass (openOk (s .tx .«send_finish_sent») msg) _ _ (e7 .1) in

@@ -1,9 +1,11 @@
 -- Document 01: "Sound means: ..", clause by clause in the paper's order. Refusal 1 asks just this (Decide). A clause over "every
 -- packet" or "each link" names it by its place: i from the oldest packet, j the slot of a live link, k numbers past the oldest. An
--- empty slot has no link, and nothing is asked of what its row holds. Assumes nothing.
+-- empty slot has no link, and nothing is asked of what its row holds. What the cells hold stands in the lent records: "receiving, showing and taking
+-- messages use it, and other calls judge Sound without what it holds" (document 02, [8]). So Sound is what every call judges, and SoundRecords
+-- the clauses that those three judge besides. Assumes nothing.
 use mathlib.Core.Path.{_≡_}
 use mathlib.Core.Bool.{true, false}
-use Prim.Native.Nat.{ℕ, _^_, _≤_, _<_}
+use Prim.Native.Nat.{ℕ, suc, _*_, _^_, _≤_, _<_}
 use lib.ListN.{length, getD}
 use Rattle.seq.specs.Numbers.{seqOf, plus}
 use Rattle.link.specs.declared.row.LinkRow.{LinkRow}
@@ -18,20 +20,19 @@ use Rattle.engine.specs.declared.state.Held.{Held}
 use Rattle.engine.specs.declared.state.Held.the-variants.{Nothing, Message}
 use Rattle.engine.specs.declared.state.State.{State}
 use Rattle.engine.specs.Packets.{noPacket, firstOf, packets, queue, isReceived, queuedOf, SentOn, Outstanding, Settled, sumOf}
-use Rattle.engine.specs.Received.{noCell, cellView, expectedAt, isFull, isReadyKind, bytesIn}
+use Rattle.engine.specs.Records.{isFull, isReadyKind, isRecord}
+use Rattle.engine.specs.Received.{RxTable, recordView, cellView, expectedAt, inUse, bytesIn}
 use Rattle.engine.specs.Tally.{lengthOk}
-use Rattle.engine.specs.Sizes.{SLOTS, PACKETS, CELLS, MAX_RECV_BUFFER}
+use Rattle.engine.specs.CellCount.{isCellCount}
+use Rattle.engine.specs.Sizes.{SLOTS, PACKETS, DATA_BYTES}
 
 -- the row of a slot
 abbrev pub rowAt : State → ℕ → LinkRow
 rowAt s j = getD (s .links) j noRow
 
--- the packet at a place of the table, and the cell k numbers past the oldest
+-- the packet at a place of the table
 abbrev pub packetAt : State → ℕ → SentReliable
 packetAt s i = getD (packets (s .tx)) i noPacket
-
-abbrev pub cellAt : State → ℕ → Held
-cellAt s k = getD (cellView CELLS (s .rx)) k noCell .held
 
 -- "every Sent packet names a live slot with that slot's identity"
 abbrev pub SentHere : State → SentReliableStatus → Type 0
@@ -74,19 +75,14 @@ pub record Sound (s : State) : Type 0 where
   -- "`txed_unacked` is the sum of Sent and ResendQueued data; `txed_unconsumable` that of Received data"
   pub unacked : s .tx .«txed_unacked» ≡ sumOf Outstanding (packets (s .tx))
   pub unconsumable : s .tx .«txed_unconsumable» ≡ sumOf Settled (packets (s .tx))
-  -- "untaken data is within the receive buffer and equals its sum"
+  -- "untaken data is within the receive buffer"
   pub untaken-within : s .rx .«rxed_reliable_size» ≤ s .rx .«recv_buffer»
-  pub untaken : s .rx .«rxed_reliable_size» ≡ bytesIn (cellView CELLS (s .rx))
   -- "no identity lives twice"
   pub identities : (i j : ℕ) → i < SLOTS → j < SLOTS → rowAt s i .live ≡ true → rowAt s j .live ≡ true → rowAt s i .«link_id» ≡ rowAt s j .«link_id» → i ≡ j
-  -- "ready messages are Data or SendFinish, rising, before the next expected": the numbers from the oldest up to it hold
-  -- nothing else, and the oldest holds one
-  pub ready : (k : ℕ) → k < expectedAt (s .rx) → ReadyKind (cellAt s k)
-  pub oldest : 0 < expectedAt (s .rx) → isFull (cellAt s 0) ≡ true
-  -- "held ones lie after it, each once": nothing stands at the next expected itself
-  pub held : expectedAt (s .rx) < CELLS → cellAt s (expectedAt (s .rx)) ≡ Nothing
-  -- "all lie 0 to 63 past the number refusal 12 counts from, and the next expected 0 to 64 past it": there are 64 cells
-  pub near : expectedAt (s .rx) ≤ CELLS
+  -- "all lie 0 to 63 past the number refusal 12 counts from, and the next expected 0 to 64 past it", where [8] has the cell count "for 64 (one
+  -- less for 63)": the cells in use go past the next expected number, and are no more than there are
+  pub near : expectedAt (s .rx) ≤ inUse (s .rx)
+  pub used : inUse (s .rx) ≤ s .rx .cells
   -- "send, flush and ping times are at most the last accepted time"
   pub sent-by : (i : ℕ) → i < s .tx .«txed_count» → SentBy (s .time) (packetAt s i .status)
   pub pinged-by : (j : ℕ) → j < SLOTS → rowAt s j .live ≡ true → pingWithin (rowAt s j .«current_ping_sent») (s .time) ≡ true
@@ -95,12 +91,34 @@ pub record Sound (s : State) : Type 0 where
   pub queue-count : s .tx .«resend_count» ≤ PACKETS
   pub ack-count : (j : ℕ) → j < SLOTS → rowAt s j .live ≡ true → rowAt s j .«ack_count» ≤ ACKS
   pub packet-length : (i : ℕ) → i < s .tx .«txed_count» → lengthOk (packetAt s i .msg) (packetAt s i .len) ≡ true
-  pub cell-length : (k : ℕ) → k < CELLS → LengthWithin (cellAt s k)
+  -- .. "the receive buffer setting may reach cells times 1,024", and the cell count is one that there may be ([8])
+  pub cell-count : isCellCount (s .rx .cells) ≡ true
   pub buffer-set : 1 ≤ s .rx .«recv_buffer»
-  pub buffer-within : s .rx .«recv_buffer» ≤ MAX_RECV_BUFFER
+  pub buffer-within : s .rx .«recv_buffer» ≤ s .rx .cells * DATA_BYTES
   pub time-within : s .time ≤ MAX_TIME
   pub trip-within : (j : ℕ) → j < SLOTS → rowAt s j .live ≡ true → rowAt s j .roundtrip ≤ MAX_TIME
   pub max-ping-within : (j : ℕ) → j < SLOTS → rowAt s j .live ≡ true → maxPingWithin (rowAt s j .«max_ping») ≡ true
+
+-- what the cell k numbers past the oldest holds
+abbrev pub cellAt : RxTable → ℕ → Held
+cellAt t k = getD (cellView (t .rx .cells) t) k Nothing
+
+-- the clauses about what the cells hold
+pub record SoundRecords (t : RxTable) : Type 0 where
+  -- there is a record for each cell
+  pub long : length (t .records) ≡ t .rx .cells
+  -- "untaken data .. equals its sum"
+  pub untaken : t .rx .«rxed_reliable_size» ≡ bytesIn (cellView (t .rx .cells) t)
+  -- "ready messages are Data or SendFinish, rising, before the next expected": the numbers from the oldest up to it hold
+  -- nothing else, and the oldest holds one
+  pub ready : (k : ℕ) → k < expectedAt (t .rx) → ReadyKind (cellAt t k)
+  pub oldest : 0 < expectedAt (t .rx) → isFull (cellAt t 0) ≡ true
+  -- "held ones lie after it, each once": nothing stands at the next expected itself, and the last cell in use holds one
+  pub held : cellAt t (expectedAt (t .rx)) ≡ Nothing
+  pub newest : (k : ℕ) → expectedAt (t .rx) ≤ k → suc k ≡ inUse (t .rx) → isFull (cellAt t k) ≡ true
+  -- "counts, lengths .. are within their sizes": each record in use is 0 or the record of a message
+  pub cell-length : (k : ℕ) → k < inUse (t .rx) → LengthWithin (cellAt t k)
+  pub recorded : (k : ℕ) → k < inUse (t .rx) → isRecord (getD (recordView (t .rx .cells) t) k 0) ≡ true
 
 -- what the types of a state's fields say of it: the arrays' lengths and the numbers' ranges
 pub record Shaped (s : State) : Type 0 where
@@ -108,7 +126,6 @@ pub record Shaped (s : State) : Type 0 where
   pub queues : (j : ℕ) → j < SLOTS → length (rowAt s j .«tx_ack_queue») ≡ ACKS
   pub packets-full : length (s .tx .«txed_packets») ≡ PACKETS
   pub queue-full : length (s .tx .«resend_queue») ≡ PACKETS
-  pub cells-full : length (s .rx .«rxed_reliable») ≡ CELLS
   pub next-u32 : s .tx .«tx_seq» .0 < 2 ^ 32
   pub expected-u32 : s .rx .«rx_seq» .0 < 2 ^ 32
   pub oldest-u32 : s .rx .«rx_oldest» .0 < 2 ^ 32
@@ -121,4 +138,6 @@ pub record Shaped (s : State) : Type 0 where
   pub size-u32 : s .rx .«rxed_reliable_size» < 2 ^ 32
   pub untold-u32 : s .rx .«rxed_reliable_consumed» < 2 ^ 32
   pub buffer-u32 : s .rx .«recv_buffer» < 2 ^ 32
+  pub cells-u32 : s .rx .cells < 2 ^ 32
+  pub end-u32 : s .rx .«rx_end» .0 < 2 ^ 32
   pub time-u64 : s .time < 2 ^ 64

@@ -1,17 +1,16 @@
 // Handing out: showing the oldest ready message and taking it, taking an ack, and whether a Consumed is due.
-use crate::cells::cell_of;
-use crate::cells::is_full;
-use crate::cells::with_cell;
+use crate::cells::held_at;
 use crate::packets::is_data;
-use crate::received::held_bytes;
+use crate::receiving::lengths_ok;
+use crate::records::held_bytes;
+use crate::records::is_full;
+use crate::ring::cell_at;
 use crate::rows::row_of;
 use crate::rows::slot_ok;
 use crate::rows::with_row;
-use crate::sizes::CELL_ROUND;
-use crate::sizes::CELLS;
 use crate::sizes::DATA_BYTES;
-use crate::sizes::RECEIVED_BYTES;
 use crate::sound::is_sound;
+use crate::sound::is_sound_with;
 use crate::state::Held;
 use crate::state::Receiving;
 use crate::state::State;
@@ -27,12 +26,14 @@ use refusal::gate;
 use seq::Seq;
 ghost use mathlib.Core.Path.{_≡_};
 ghost use Rattle.engine.specs.Gates.{stateVerdict};
-ghost use Rattle.engine.specs.HandingOut.{readyOf, msgIn, readyValues, handOutTold, handOutBy, dataLength, readyBytes, showVerdict, showingOf, shownAt, shownOf, takeVerdict, canSkip, passedBy, skipped, takenRx, takenState, takeOf, isWaiting, ackIn, takeAckVerdict, takeAckTold, ackAnswer, takenAckState, takeAckOf, dueAbove, isDue, dueTold, dueOf};
+ghost use Rattle.engine.specs.HandingOut.{readyOf, msgIn, readyValues, handOutTold, handOutBy, dataLength, readyBytes, showVerdict, showingOf, shownAt, shownOf, takeVerdict, canSkip, passedBy, skipped, takenIn, takeOf, takeRecords, isWaiting, ackIn, takeAckVerdict, takeAckTold, ackAnswer, takenAckState, takeAckOf, dueAbove, isDue, dueTold, dueOf};
 ghost use mathlib.Core.List.{[], _∷_};
 ghost use Rattle.refusal.specs.Answers.{toldBy, flag};
 ghost use Rattle.link.specs.Acks.{oldestAck};
 ghost use Rattle.engine.specs.Rows.{rowOf};
-ghost use Rattle.engine.specs.Sizes.{CELLS};
+ghost use Rattle.engine.specs.Fields.{withRx};
+ghost use Rattle.engine.specs.Received.{tableOf};
+ghost use Rattle.engine.specs.CellTally.{Lent};
 ghost use lib.ListN.{length};
 ghost use Prim.Native.Nat.{_+_, _<_, _^_};
 
@@ -43,13 +44,14 @@ pub enum HandOut {
 }
 
 // The oldest ready message, where there is one.
-fn oldest_ready(rx: Receiving) -> Held
-    ensures { λ r. ⌜ r ≡ readyOf CELLS rx ⌝ }
+fn oldest_ready(rx: Receiving, records: &[u64]) -> Held
+    requires { ⌜ Lent rx (length (now records)) ⌝ }
+    ensures { λ r. ⌜ r ≡ readyOf (tableOf rx (now (records .entry))) ⌝ }
 {
     if rx.rx_oldest.eq(rx.rx_seq) {
         return Held::Nothing;
     }
-    cell_of(rx, rx.rx_oldest)
+    held_at(rx, records, rx.rx_oldest)
 }
 
 // The message that a cell holds; that of an empty one is never asked.
@@ -63,13 +65,14 @@ fn msg_in(held: Held) -> ReliableMsg
 }
 
 // The answer about the oldest ready message.
-fn hand_out(verdict: Verdict, rx: Receiving) -> HandOut
-    ensures { λ r. ⌜ r ≡ handOutBy verdict rx ⌝ }
+fn hand_out(verdict: Verdict, rx: Receiving, records: &[u64]) -> HandOut
+    requires { ⌜ (verdict ≡ Verdict.Pass → Lent rx (length (now records))) ⌝ }
+    ensures { λ r. ⌜ r ≡ handOutBy verdict (tableOf rx (now (records .entry))) ⌝ }
 {
     match verdict {
         Verdict::No(e) => HandOut::No(e),
         Verdict::Pass => {
-            let held = oldest_ready(rx);
+            let held = oldest_ready(rx, records);
             let msg = msg_in(held);
             let seq = rx.rx_oldest;
             HandOut::Message(msg, seq, held_bytes(held))
@@ -94,35 +97,39 @@ fn ready_bytes(held: Held) -> u32
     }
 }
 
-fn show_verdict(s: State, store: usize) -> Verdict
-    ensures { λ r. ⌜ r ≡ showVerdict s store ⌝ }
+fn show_verdict(s: State, store: usize, records: &[u64]) -> Verdict
+    ensures { λ r. ⌜ r ≡ showVerdict s store (now (records .entry)) ⌝ }
 {
     let rx = s.rx;
-    let held = oldest_ready(rx);
-    let v19 = gate(is_full(held), Refusal::Nothing, Verdict::Pass);
-    let v2 = gate(store == RECEIVED_BYTES, Refusal::StoreLength, v19);
-    gate(is_sound(s), Refusal::Unsound, v2)
+    if !lengths_ok(rx, store, records.len()) {
+        return Verdict::No(Refusal::StoreLength);
+    }
+    if !is_sound_with(s, records) {
+        return Verdict::No(Refusal::Unsound);
+    }
+    let held = oldest_ready(rx, records);
+    gate(is_full(held), Refusal::Nothing, Verdict::Pass)
 }
 
 // What `show` shows: the message, its number and the length of its data, or why there is nothing to show.
-pub fn showing(s: State, store: &[u8]) -> HandOut
-    ensures { λ r. ⌜ r ≡ showingOf s (length (now (store .entry))) ⌝ }
-    ensures { λ r. ⌜ handOutTold r ≡ toldBy (showVerdict s (length (now (store .entry)))) (readyValues (s .rx)) ⌝ }
+pub fn showing(s: State, store: &[u8], records: &[u64]) -> HandOut
+    ensures { λ r. ⌜ r ≡ showingOf s (length (now (store .entry))) (now (records .entry)) ⌝ }
+    ensures { λ r. ⌜ handOutTold r ≡ toldBy (showVerdict s (length (now (store .entry))) (now (records .entry))) (readyValues (tableOf (s .rx) (now (records .entry)))) ⌝ }
 {
     let rx = s.rx;
-    hand_out(show_verdict(s, store.len()), rx)
+    hand_out(show_verdict(s, store.len(), records), rx, records)
 }
 
 // The part of the received store that holds the bytes of the oldest ready message.
-pub fn show(s: State, store: &[u8]) -> &[u8]
-    ensures { λ r. ⌜ now r ≡ shownOf s (now (store .entry)) ⌝ }
-    ensures { λ r. ⌜ r .ptr ≡ shownAt s (length (now (store .entry))) (store .entry .ptr) ⌝ }
+pub fn show<'a, 'b>(s: State, store: &'a [u8], records: &'b [u64]) -> &'a [u8]
+    ensures { λ r. ⌜ now r ≡ shownOf s (now (store .entry)) (now (records .entry)) ⌝ }
+    ensures { λ r. ⌜ r .ptr ≡ shownAt s (length (now (store .entry))) (now (records .entry)) (store .entry .ptr) ⌝ }
 {
-    let answer = showing(s, store);
+    let answer = showing(s, store, records);
     match answer {
         HandOut::No(_) => &store[..0],
         HandOut::Message(msg, seq, len) => {
-            let start = (seq.0 % CELL_ROUND) as usize * DATA_BYTES;
+            let start = cell_at(s.rx.cells, seq) * DATA_BYTES;
             let end = start + data_length(msg, len) as usize;
             &store[start..end]
         }
@@ -134,26 +141,32 @@ pub struct TakeResult {
     pub state: State,
 }
 
-fn take_verdict(s: State) -> Verdict
-    ensures { λ r. ⌜ r ≡ takeVerdict s ⌝ }
+fn take_verdict(s: State, records: &[u64]) -> Verdict
+    ensures { λ r. ⌜ r ≡ takeVerdict s (now (records .entry)) ⌝ }
 {
     let rx = s.rx;
-    let held = oldest_ready(rx);
+    if records.len() != rx.cells as usize {
+        return Verdict::No(Refusal::StoreLength);
+    }
+    if !is_sound_with(s, records) {
+        return Verdict::No(Refusal::Unsound);
+    }
+    let held = oldest_ready(rx, records);
     let bytes = ready_bytes(held);
     let fits = sum_fits(rx.rxed_reliable_consumed, bytes as usize, MAX_TOTAL);
     let v19 = gate(is_full(held), Refusal::Nothing, Verdict::Pass);
-    let v9 = gate(fits, Refusal::Total, v19);
-    gate(is_sound(s), Refusal::Unsound, v9)
+    gate(fits, Refusal::Total, v19)
 }
 
 // Whether the oldest number stands for nothing ready and lies before the next expected.
-fn can_skip(rx: Receiving) -> bool
-    ensures { λ r. ⌜ r ≡ canSkip CELLS rx ⌝ }
+fn can_skip(rx: Receiving, records: &[u64]) -> bool
+    requires { ⌜ Lent rx (length (now records)) ⌝ }
+    ensures { λ r. ⌜ r ≡ canSkip (rx .cells) (now (records .entry)) rx ⌝ }
 {
     if rx.rx_oldest.eq(rx.rx_seq) {
         return false;
     }
-    let held = cell_of(rx, rx.rx_oldest);
+    let held = held_at(rx, records, rx.rx_oldest);
     !is_full(held)
 }
 
@@ -167,13 +180,14 @@ fn pass_by(rx: Receiving) -> Receiving
 }
 
 // The oldest number moves to the next ready message, or to the next expected number.
-fn skip(rx: Receiving) -> Receiving
-    ensures { λ r. ⌜ r ≡ skipped CELLS CELLS rx ⌝ }
+fn skip(rx: Receiving, records: &[u64]) -> Receiving
+    requires { ⌜ Lent rx (length (now records)) ⌝ }
+    ensures { λ r. ⌜ r ≡ skipped (rx .cells) (rx .cells) (now (records .entry)) rx ⌝ }
 {
     let mut out = rx;
-    let mut left: usize = CELLS;
+    let mut left = rx.cells;
     while 0 < left {
-        if !can_skip(out) {
+        if !can_skip(out, records) {
             return out;
         }
         out = pass_by(out);
@@ -183,40 +197,45 @@ fn skip(rx: Receiving) -> Receiving
 }
 
 // The receive table without its oldest ready message, of so many data bytes.
-fn taken_rx(rx: Receiving, bytes: u32) -> Receiving
-    requires { ⌜ rx .«rxed_reliable_consumed» + bytes < 2 ^ 32 ⌝ }
-    ensures { λ r. ⌜ r ≡ takenRx CELLS rx bytes ⌝ }
+fn take_message(rx: Receiving, records: &mut [u64], bytes: u32) -> Receiving
+    requires { ⌜ Lent rx (length (now records)) × (rx .«rxed_reliable_consumed» + bytes < 2 ^ 32) ⌝ }
+    ensures { λ r. ⌜ r ≡ takenIn (rx .cells) (tableOf rx (now (records .entry))) bytes .rx ⌝ }
+    ensures { λ _. ⌜ now (records .exit) ≡ takenIn (rx .cells) (tableOf rx (now (records .entry))) bytes .records ⌝ }
 {
-    let emptied = with_cell(rx, rx.rx_oldest, Held::Nothing);
-    let mut out = pass_by(emptied);
+    let at = cell_at(rx.cells, rx.rx_oldest);
+    records[at] = 0;
+    let mut out = pass_by(rx);
     out.rxed_reliable_size = less(rx.rxed_reliable_size, bytes);
     out.rxed_reliable_consumed = rx.rxed_reliable_consumed + bytes;
-    skip(out)
+    skip(out, records)
 }
 
-fn taken_state(s: State, bytes: u32) -> State
-    requires { ⌜ s .rx .«rxed_reliable_consumed» + bytes < 2 ^ 32 ⌝ }
-    ensures { λ r. ⌜ r ≡ takenState s bytes ⌝ }
+// The state with the receiving half that is left.
+fn with_rx(s: State, rx: Receiving) -> State
+    ensures { λ r. ⌜ r ≡ withRx s rx ⌝ }
 {
-    let rx = s.rx;
     let mut out = s;
-    out.rx = taken_rx(rx, bytes);
+    out.rx = rx;
     out
 }
 
-// Takes the oldest ready message.
-pub fn take(s: State) -> TakeResult
-    ensures { λ r. ⌜ r ≡ takeOf s ⌝ }
-    ensures { λ r. ⌜ handOutTold (r .answer) ≡ toldBy (takeVerdict s) (readyValues (s .rx)) ⌝ }
+// Takes the oldest ready message, and empties its record.
+pub fn take(s: State, records: &mut [u64]) -> TakeResult
+    ensures { λ r. ⌜ r ≡ takeOf s (now (records .entry)) ⌝ }
+    ensures { λ r. ⌜ handOutTold (r .answer) ≡ toldBy (takeVerdict s (now (records .entry))) (readyValues (tableOf (s .rx) (now (records .entry)))) ⌝ }
+    ensures { λ _. ⌜ now (records .exit) ≡ takeRecords s (now (records .entry)) ⌝ }
 {
     let rx = s.rx;
-    let answer = hand_out(take_verdict(s), rx);
+    let answer = hand_out(take_verdict(s, records), rx, records);
     match answer {
         HandOut::No(_) => TakeResult { answer, state: s },
-        HandOut::Message(msg, _, len) => TakeResult {
-            answer,
-            state: taken_state(s, data_length(msg, len)),
-        },
+        HandOut::Message(msg, _, len) => {
+            let next = take_message(rx, records, data_length(msg, len));
+            TakeResult {
+                answer,
+                state: with_rx(s, next),
+            }
+        }
     }
 }
 

@@ -1,30 +1,24 @@
-// One pass over the receive table gathers what Sound asks of it.
-use crate::packets::is_data;
+// One pass over the records in use gathers what Sound asks of them.
 use crate::packets::length_ok;
+use crate::records::held_bytes;
+use crate::records::held_of;
+use crate::records::is_full;
+use crate::records::is_ready_kind;
+use crate::records::is_record;
+use crate::ring::cell_at;
 use crate::ring::next_cell;
-use crate::sizes::CELL_ROUND;
-use crate::sizes::CELLS;
 use crate::state::Held;
 use crate::state::Receiving;
-use msg::LinkMsg;
-use msg::ReliableMsg;
 use refusal::both;
-use refusal::either;
 ghost use mathlib.Core.Path.{_≡_};
-ghost use Rattle.engine.specs.Received.{isReadyKind, heldBytes};
-ghost use Rattle.engine.specs.CellTally.{cellOk, cellWeighed, cellTallyOf};
-ghost use Rattle.engine.specs.Sizes.{CELLS};
+ghost use lib.ListN.{length};
+ghost use Rattle.engine.specs.Received.{tableOf};
+ghost use Rattle.engine.specs.CellTally.{Lent, Judged, cellOk, recordWeighed, recordTallyOf, newestOk, foundRecords};
 
 // What a pass has found: whether all was well, and the data bytes.
 pub(crate) struct CellTally {
     pub ok: bool,
     pub size: u32,
-}
-
-pub(crate) fn is_ready_kind(msg: ReliableMsg) -> bool
-    ensures { λ r. ⌜ r ≡ isReadyKind msg ⌝ }
-{
-    either(is_data(msg), msg.kind() == LinkMsg::MSG_SEND_FINISH)
 }
 
 // Whether a cell is well: k numbers past the oldest, where the next expected is `expected` past it.
@@ -51,40 +45,57 @@ fn cell_ok(held: Held, k: usize, expected: usize) -> bool
     }
 }
 
-pub(crate) fn held_bytes(held: Held) -> u32
-    ensures { λ r. ⌜ r ≡ heldBytes held ⌝ }
-{
-    match held {
-        Held::Nothing => 0,
-        Held::Message(_, len) => len,
-    }
-}
-
 // The tally with one cell more. The sum goes round at 2^32, which a table that is well cannot reach.
-fn weigh_cell(t: CellTally, held: Held, k: usize, expected: usize) -> CellTally
-    ensures { λ r. ⌜ r ≡ cellWeighed t held k expected ⌝ }
+fn weigh_record(t: CellTally, word: u64, k: usize, expected: usize) -> CellTally
+    ensures { λ r. ⌜ r ≡ recordWeighed t word k expected ⌝ }
 {
+    let held = held_of(word);
     CellTally {
-        ok: both(t.ok, cell_ok(held, k, expected)),
+        ok: both(t.ok, both(is_record(word), cell_ok(held, k, expected))),
         size: std::num::wrapping_add_u32(t.size, held_bytes(held)),
     }
 }
 
-// The whole table's tally, from the oldest number on.
-pub(crate) fn cells_tallied(rx: Receiving) -> CellTally
-    ensures { λ r. ⌜ r ≡ cellTallyOf CELLS rx ⌝ }
+// The tally of the cells in use, from the oldest number on. No other is touched.
+fn records_tallied(rx: Receiving, records: &[u64]) -> CellTally
+    requires { ⌜ Judged rx (length (now records)) ⌝ }
+    ensures { λ r. ⌜ r ≡ recordTallyOf (rx .cells) (tableOf rx (now (records .entry))) ⌝ }
 {
     let mut t = CellTally { ok: true, size: 0 };
+    let cells = rx.cells;
     let oldest = rx.rx_oldest;
     let expected = rx.rx_seq.past(oldest) as usize;
-    let mut at = (oldest.0 % CELL_ROUND) as usize;
+    let used = rx.rx_end.past(oldest) as usize;
+    let mut at = cell_at(cells, oldest);
     let mut k: usize = 0;
-    while k < CELLS {
-        let cell = rx.rxed_reliable[at];
-        let held = cell.held;
-        t = weigh_cell(t, held, k, expected);
-        at = next_cell(CELLS, at);
+    while k < used {
+        let word = records[at];
+        t = weigh_record(t, word, k, expected);
+        at = next_cell(cells as usize, at);
         k += 1;
     }
     t
+}
+
+// Whether the last cell in use holds a message, where any is in use from the next expected number on.
+fn newest_ok(rx: Receiving, records: &[u64]) -> bool
+    requires { ⌜ Lent rx (length (now records)) ⌝ }
+    ensures { λ r. ⌜ r ≡ newestOk (rx .cells) (tableOf rx (now (records .entry))) ⌝ }
+{
+    if rx.rx_end.eq(rx.rx_seq) {
+        return true;
+    }
+    let at = cell_at(rx.cells, rx.rx_end.sub(1));
+    let held = held_of(records[at]);
+    is_full(held)
+}
+
+// What the pass finds.
+pub(crate) fn found_records(rx: Receiving, records: &[u64]) -> bool
+    requires { ⌜ Judged rx (length (now records)) ⌝ }
+    ensures { λ r. ⌜ r ≡ foundRecords (tableOf rx (now (records .entry))) ⌝ }
+{
+    let t = records_tallied(rx, records);
+    let newest = newest_ok(rx, records);
+    both(t.ok, both(t.size == rx.rxed_reliable_size, newest))
 }

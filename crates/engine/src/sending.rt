@@ -1,6 +1,6 @@
 // Sending a message.
 use crate::packets::length_ok;
-use crate::received::is_ready_kind;
+use crate::records::is_ready_kind;
 use crate::rows::row_of;
 use crate::rows::slot_ok;
 use crate::rows::time_ok;
@@ -93,8 +93,8 @@ fn send_verdict(
     let v7 = gate(long, Refusal::Length, v8);
     let v4 = gate(slotted, Refusal::Slot, v7);
     let v3 = gate(timed, Refusal::Time, v4);
-    let v2 = gate(store == SENT_BYTES, Refusal::StoreLength, v3);
-    gate(sound, Refusal::Unsound, v2)
+    let v1 = gate(sound, Refusal::Unsound, v3);
+    gate(store == SENT_BYTES, Refusal::StoreLength, v1)
 }
 
 // The sending half with one packet more.

@@ -1,22 +1,24 @@
 // Whether a state is sound: what refusal 1 asks of the state handed in.
 use crate::packets::is_received;
 use crate::packets::tallied;
-use crate::received::cells_tallied;
+use crate::received::found_records;
 use crate::roster::Roster;
-use crate::sizes::CELL_ROUND;
-use crate::sizes::MAX_RECV_BUFFER;
+use crate::sizes::DATA_BYTES;
 use crate::sizes::PACKETS;
 use crate::sizes::SLOTS;
+use crate::state::Receiving;
 use crate::state::Sending;
 use crate::state::State;
 use crate::table::first_cell;
 use link::LinkRow;
 use link::sizes::MAX_TIME;
 use refusal::both;
+use refusal::either;
 ghost use mathlib.Core.Path.{_≡_};
 ghost use Prim.Native.Nat.{_≤_};
-ghost use Rattle.engine.specs.Decide.{soundb};
-ghost use Rattle.engine.specs.Found.{firstOk, rowOk, rowsFrom, distinctBelow, foundSound};
+ghost use Rattle.engine.specs.CellCount.{isCellCount};
+ghost use Rattle.engine.specs.Decide.{soundb, soundWithb};
+ghost use Rattle.engine.specs.Found.{firstOk, rowOk, rowsFrom, distinctBelow, receivingb, foundSound};
 ghost use Rattle.engine.specs.Sizes.{SLOTS, PACKETS};
 
 // The first packet isn't Received.
@@ -73,6 +75,42 @@ fn distinct(roster: Roster) -> bool
     true
 }
 
+// "64 cells times a power of two, up to 65,536 cells".
+pub(crate) fn is_cell_count(cells: u32) -> bool
+    ensures { λ r. ⌜ r ≡ isCellCount cells ⌝ }
+{
+    let large = either(
+        cells == 8192,
+        either(cells == 16384, either(cells == 32768, cells == 65536)),
+    );
+    let middle = either(
+        cells == 512,
+        either(
+            cells == 1024,
+            either(cells == 2048, either(cells == 4096, large)),
+        ),
+    );
+    either(
+        cells == 64,
+        either(cells == 128, either(cells == 256, middle)),
+    )
+}
+
+// The receiving half but for what the records hold: its settings, and the order of its numbers.
+fn receiving_ok(rx: Receiving) -> bool
+    ensures { λ r. ⌜ r ≡ receivingb rx ⌝ }
+{
+    let expected = rx.rx_seq.past(rx.rx_oldest);
+    let used = rx.rx_end.past(rx.rx_oldest);
+    let cells = rx.cells;
+    let buffer = rx.recv_buffer;
+    let near = both(expected <= used, used <= cells);
+    let most = cells as usize * DATA_BYTES;
+    let setting = both(1 <= buffer, buffer as usize <= most);
+    let bytes = both(rx.rxed_reliable_size <= buffer, setting);
+    both(is_cell_count(cells), both(near, bytes))
+}
+
 // What the passes find. A count above PACKETS is told first: a pass goes through as many packets as the count says.
 fn found_sound(s: State) -> bool
     ensures { λ r. ⌜ r ≡ foundSound s ⌝ }
@@ -86,31 +124,39 @@ fn found_sound(s: State) -> bool
     let roster = Roster::of(links);
     let t = tallied(tx, roster, s.time);
     let on = t.on;
-    let cells = cells_tallied(rx);
     let first = first_ok(tx);
     let rows = rows_ok(links, on, s.time);
     let alone = distinct(roster);
-    let near = rx.rx_seq.past(rx.rx_oldest) <= CELL_ROUND;
     let sums = both(
         t.unacked == tx.txed_unacked,
         t.unconsumable == tx.txed_unconsumable,
     );
     let queue = both(t.queued == tx.resend_count, tx.resend_count <= PACKETS);
     let sending = both(t.ok, both(first, both(queue, sums)));
-    let size = rx.rxed_reliable_size;
-    let buffer = rx.recv_buffer;
-    let bytes = both(cells.size == size, size <= buffer);
-    let setting = both(1 <= buffer, buffer <= MAX_RECV_BUFFER);
-    let receiving = both(cells.ok, both(bytes, both(near, setting)));
+    let receiving = receiving_ok(rx);
     both(
         sending,
         both(receiving, both(rows, both(alone, s.time <= MAX_TIME))),
     )
 }
 
-// Whether the state is sound.
+// Whether the state is sound, but for what the records hold: what the calls judge that don't use them.
 pub fn is_sound(s: State) -> bool
     ensures { λ r. ⌜ r ≡ soundb s ⌝ }
 {
     found_sound(s)
+}
+
+// Whether the state is sound with these records.
+pub fn is_sound_with(s: State, records: &[u64]) -> bool
+    ensures { λ r. ⌜ r ≡ soundWithb s (now (records .entry)) ⌝ }
+{
+    let rx = s.rx;
+    if !is_sound(s) {
+        return false;
+    }
+    if records.len() != rx.cells as usize {
+        return false;
+    }
+    found_records(rx, records)
 }

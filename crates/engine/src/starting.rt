@@ -1,14 +1,12 @@
 // The fresh state.
 use crate::answer::Changed;
-use crate::answer::change;
-use crate::sizes::CELLS;
-use crate::sizes::MAX_RECV_BUFFER;
+use crate::answer::Outcome;
+use crate::sizes::DATA_BYTES;
 use crate::sizes::PACKETS;
 use crate::sizes::SLOTS;
-use crate::state::Held;
+use crate::sound::is_cell_count;
 use crate::state::InFlight;
 use crate::state::Receiving;
-use crate::state::RxCell;
 use crate::state::Sending;
 use crate::state::SentReliable;
 use crate::state::SentReliableStatus;
@@ -24,7 +22,8 @@ ghost use mathlib.Core.Path.{_≡_};
 ghost use mathlib.Core.List.{[]};
 ghost use Rattle.refusal.specs.Answers.{toldBy};
 ghost use Rattle.engine.specs.Answer.{outcomeTold};
-ghost use Rattle.engine.specs.Starting.{freshTx, freshRx, freshState, freshVerdict, freshOf, RefusedUnsound};
+ghost use Rattle.engine.specs.Starting.{freshTx, freshRx, freshState, freshVerdict, freshOf, freshRecords, RefusedUnsound};
+ghost use lib.ListN.{length, replicate};
 
 fn fresh_tx(start: Seq) -> Sending
     ensures { λ r. ⌜ r ≡ freshTx (start .0) ⌝ }
@@ -46,44 +45,77 @@ fn fresh_tx(start: Seq) -> Sending
     }
 }
 
-fn fresh_rx(start: Seq, recv_buffer: u32) -> Receiving
-    ensures { λ r. ⌜ r ≡ freshRx (start .0) «recv_buffer» ⌝ }
+fn fresh_rx(start: Seq, recv_buffer: u32, cells: u32) -> Receiving
+    ensures { λ r. ⌜ r ≡ freshRx (start .0) «recv_buffer» cells ⌝ }
 {
-    let none = RxCell {
-        held: Held::Nothing,
-    };
     Receiving {
         rx_seq: start,
         rx_oldest: start,
-        rxed_reliable: [none; CELLS],
         rxed_reliable_size: 0,
         rxed_reliable_consumed: 0,
         recv_buffer,
+        cells,
+        rx_end: start,
     }
 }
 
-fn fresh_state(start: Seq, recv_buffer: u32) -> State
-    ensures { λ r. ⌜ r ≡ freshState (start .0) «recv_buffer» ⌝ }
+fn fresh_state(start: Seq, recv_buffer: u32, cells: u32) -> State
+    ensures { λ r. ⌜ r ≡ freshState (start .0) «recv_buffer» cells ⌝ }
 {
     let empty = LinkRow::empty();
     State {
         links: [empty; SLOTS],
         tx: fresh_tx(start),
-        rx: fresh_rx(start, recv_buffer),
+        rx: fresh_rx(start, recv_buffer, cells),
         time: 0,
         read_open: true,
     }
 }
 
-// A fresh state. Where it is refused, the state that comes with the refusal has the bad setting: it is not sound, and every call
-// refuses it.
-pub fn fresh(start: Seq, recv_buffer: u32) -> Changed
-    ensures { λ r. ⌜ r ≡ freshOf (start .0) «recv_buffer» ⌝ }
-    ensures { λ r. ⌜ outcomeTold (r .outcome) ≡ toldBy (freshVerdict «recv_buffer») [] ⌝ }
-    ensures { λ r. ⌜ RefusedUnsound r ⌝ }
+fn fresh_verdict(recv_buffer: u32, cells: u32, records: usize) -> Verdict
+    ensures { λ r. ⌜ r ≡ freshVerdict «recv_buffer» cells records ⌝ }
 {
-    let state = fresh_state(start, recv_buffer);
-    let ok = both(1 <= recv_buffer, recv_buffer <= MAX_RECV_BUFFER);
-    let verdict = gate(ok, Refusal::Setting, Verdict::Pass);
-    change(verdict, state, state)
+    let most = cells as usize * DATA_BYTES;
+    let within = both(1 <= recv_buffer, recv_buffer as usize <= most);
+    let v2 = gate(
+        records == cells as usize,
+        Refusal::StoreLength,
+        Verdict::Pass,
+    );
+    gate(both(is_cell_count(cells), within), Refusal::Setting, v2)
+}
+
+// Leaves every record empty, whatever it held.
+fn empty_records(records: &mut [u64])
+    ensures { λ _. ⌜ now (records .exit) ≡ replicate (length (now (records .entry))) 0 ⌝ }
+{
+    let mut i: usize = 0;
+    while i < records.len() {
+        records[i] = 0;
+        i += 1;
+    }
+}
+
+// A fresh state of so many cells, and its records, which are empty then. The state that comes with a refusal has no cells and no buffer: it is
+// not sound, and every call refuses it.
+pub fn fresh(start: Seq, recv_buffer: u32, cells: u32, records: &mut [u64]) -> Changed
+    ensures { λ r. ⌜ r ≡ freshOf (start .0) «recv_buffer» cells (length (now (records .entry))) ⌝ }
+    ensures { λ r. ⌜ outcomeTold (r .outcome) ≡ toldBy (freshVerdict «recv_buffer» cells (length (now (records .entry)))) [] ⌝ }
+    ensures { λ r. ⌜ RefusedUnsound r ⌝ }
+    ensures { λ _. ⌜ now (records .exit) ≡ freshRecords «recv_buffer» cells (now (records .entry)) ⌝ }
+{
+    let verdict = fresh_verdict(recv_buffer, cells, records.len());
+    match verdict {
+        Verdict::No(e) => Changed {
+            outcome: Outcome::No(e),
+            state: fresh_state(start, 0, 0),
+        },
+        Verdict::Pass => {
+            empty_records(records);
+            Changed {
+                outcome: Outcome::Done,
+                state: fresh_state(start, recv_buffer, cells),
+            }
+        }
+    }
 }

@@ -1,5 +1,4 @@
 // The fields. Times are nanoseconds; a total is a number of data bytes.
-use crate::sizes::CELLS;
 use crate::sizes::PACKETS;
 use crate::sizes::SLOTS;
 use link::LinkRow;
@@ -38,14 +37,10 @@ pub struct SentReliable {
     pub status: SentReliableStatus,
 }
 
-// What a receive cell holds: a message and its length.
+// What a receive cell holds: a message and its length. Its record, a word of the lent record space, says so (`records`).
 pub enum Held {
     Nothing,
     Message(ReliableMsg, u32),
-}
-
-pub struct RxCell {
-    pub held: Held,
 }
 
 // The sending half.
@@ -77,13 +72,15 @@ pub struct Receiving {
     pub rx_seq: Seq,
     // the oldest ready message's number, or the next expected one where none is ready
     pub rx_oldest: Seq,
-    // number n is in cell n mod CELLS
-    pub rxed_reliable: [RxCell; CELLS],
     // untaken data
     pub rxed_reliable_size: u32,
     // data taken, and not told to the other end as consumed
     pub rxed_reliable_consumed: u32,
     pub recv_buffer: u32,
+    // the cell count: number n is in cell n mod this, of the lent records and of the received store
+    pub cells: u32,
+    // the number after the newest that was received: from the oldest up to it the cells are in use
+    pub rx_end: Seq,
 }
 
 pub struct State {

@@ -1,4 +1,4 @@
--- Every call that is given a state, by its name and with what it is given, and what it makes of a state and the two lent stores:
+-- Every call that is given a state, by its name and with what it is given, and what it makes of a state, the two lent stores and the lent records:
 -- the definitions that the calls' promises cite. A call that gives no state leaves all as it came. Assumes nothing.
 use mathlib.Core.Bool.{Bool, cond}
 use mathlib.Core.List.{List, [], _∷_}
@@ -15,14 +15,14 @@ use Rattle.engine.specs.Sending.{sendOf, sendStore, sendVerdict, sentState, Sen
 use Rattle.engine.specs.Flushing.{flushOf, flushedState}
 use Rattle.engine.specs.Resending.{resendOf, resendVerdict, resentState, ResendPassed}
 use Rattle.engine.specs.Acking.{ackVerdict, AckPassed, ackOf, ackedState}
-use Rattle.engine.specs.Receiving.{receiveOf, receiveStore, receiveVerdict, repeatedState, receivedState, ReceivePassed}
+use Rattle.engine.specs.Receiving.{receiveOf, receiveStore, receiveRecords, receiveVerdict, repeatedState, storedTable, receivedState, ReceivePassed}
 use Rattle.engine.specs.Closing.{closeOf, closedState}
 use Rattle.engine.specs.Table.{lookedAt}
 use Rattle.engine.specs.Packets.{packets}
 use Rattle.msg.specs.Reliable.{kindOf, countOf}
 use Rattle.link.specs.Acks.{oldestAck}
 use Rattle.refusal.specs.Answers.{Told, toldBy, flag}
-use Rattle.engine.specs.HandingOut.{readyValues, ackIn, isDue, takeOf, takeAckOf, readyOf, msgIn, dataLength, showVerdict, takeVerdict, takenState, Taking, takeAckVerdict, takenAckState, TakeAckPassed}
+use Rattle.engine.specs.HandingOut.{readyValues, ackIn, isDue, takeOf, takeRecords, takeAckOf, readyOf, msgIn, dataLength, showVerdict, takeVerdict, takenTable, takenState, Taking, takeAckVerdict, takenAckState, TakeAckPassed}
 use Rattle.engine.specs.Deadlines.{firstSent, namedValues, confirmTimeoutVerdict}
 use Rattle.refusal.specs.declared.verdict.Verdict.{Verdict}
 use Rattle.link.specs.declared.row.Limit.the-variants.{At}
@@ -32,9 +32,10 @@ use Rattle.link.specs.Roundtrip.{pinged, ponged}
 use Rattle.engine.specs.Gates.{stateVerdict, slotVerdict, timedVerdict, AtSlot, AtTime}
 use Rattle.engine.specs.Rows.{rowOf}
 use Rattle.engine.specs.Stores.{cellStart, copied}
-use Rattle.engine.specs.Received.{heldBytes}
+use Rattle.engine.specs.Records.{heldBytes}
+use Rattle.engine.specs.Received.{RxTable, tableOf}
 use Rattle.engine.specs.Cells.{isRepeat}
-use Rattle.engine.specs.Sizes.{CELLS, PACKETS}
+use Rattle.engine.specs.Sizes.{PACKETS}
 use Rattle.engine.specs.Fields.{withRow, withTime}
 use Rattle.refusal.specs.declared.verdict.Verdict.the-variants as verdicts
 
@@ -51,14 +52,19 @@ pub data Call : Type 0 where
   TakeAck : (slot : ℕ) → Call
   EarliestConfirmTimeout : (timeout : AckTimeout) (unreliable : Bool) → Call
 
--- what a caller holds: the state and the two stores that it lends
+-- what a caller holds: the state, the two stores that it lends, and the record space, which counts as a store ([8])
 pub record Holding : Type 0 where
   pub state : State
   pub sent : List ℕ
   pub received : List ℕ
+  pub records : List ℕ
 
 abbrev pub withState : Holding → State → Holding
-withState h s = record { state = s; sent = h .sent; received = h .received }
+withState h s = record { state = s; sent = h .sent; received = h .received; records = h .records }
+
+-- the receiving half with its records
+abbrev pub table : Holding → RxTable
+table h = tableOf (h .state .rx) (h .records)
 
 -- the refusals of each call, in the order of their numbers
 abbrev pub verdict : Call → Holding → Verdict
@@ -74,9 +80,9 @@ verdict (Flush slot time) h = timedVerdict (h .state) slot time verdicts.Pass
 verdict (Send slot time msg bytes) h = sendVerdict (h .state) (length (h .sent)) slot time msg (length bytes)
 verdict (Resend slot time n) h = resendVerdict (h .state) slot time n
 verdict (Ack slot time n) h = ackVerdict (h .state) slot time n
-verdict (Receive slot msg n bytes) h = receiveVerdict (h .state) (length (h .received)) slot msg n (length bytes)
-verdict Show h = showVerdict (h .state) (length (h .received))
-verdict Take h = takeVerdict (h .state)
+verdict (Receive slot msg n bytes) h = receiveVerdict (h .state) (length (h .received)) (h .records) slot msg n (length bytes)
+verdict Show h = showVerdict (h .state) (length (h .received)) (h .records)
+verdict Take h = takeVerdict (h .state) (h .records)
 verdict Due h = stateVerdict (h .state)
 verdict Close h = stateVerdict (h .state)
 verdict (TakeAck slot) h = takeAckVerdict (h .state) slot
@@ -97,8 +103,8 @@ values (Send slot time msg bytes) h = h .state .tx .«tx_seq» .0 ∷ []
 values (Resend slot time n) h = let p = lookedAt (h .state .tx) n in kindOf (p .msg) ∷ countOf (p .msg) ∷ p .len ∷ []
 values (Ack slot time n) h = []
 values (Receive slot msg n bytes) h = []
-values Show h = readyValues (h .state .rx)
-values Take h = readyValues (h .state .rx)
+values Show h = readyValues (table h)
+values Take h = readyValues (table h)
 values Due h = flag (isDue (h .state)) ∷ []
 values Close h = []
 values (TakeAck slot) h = ackIn (oldestAck (rowOf (h .state) slot)) .0 ∷ []
@@ -126,16 +132,18 @@ next (Send slot time msg bytes) h = record {
   state = sendOf (h .state) (length (h .sent)) slot time msg (length bytes) .state;
   sent = sendStore (h .state) (h .sent) slot time msg bytes;
   received = h .received;
+  records = h .records;
 }
 next (Resend slot time n) h = withState h (resendOf (h .state) slot time n .state)
 next (Ack slot time n) h = withState h (ackOf (h .state) slot time n .state)
 next (Receive slot msg n bytes) h = record {
-  state = receiveOf (h .state) (length (h .received)) slot msg n (length bytes) .state;
+  state = receiveOf (h .state) (length (h .received)) (h .records) slot msg n (length bytes) .state;
   sent = h .sent;
-  received = receiveStore (h .state) (h .received) slot msg n bytes;
+  received = receiveStore (h .state) (h .received) (h .records) slot msg n bytes;
+  records = receiveRecords (h .state) (length (h .received)) (h .records) slot msg n (length bytes);
 }
 next Show h = h
-next Take h = withState h (takeOf (h .state) .state)
+next Take h = record { state = takeOf (h .state) (h .records) .state; sent = h .sent; received = h .received; records = takeRecords (h .state) (h .records) }
 next Due h = h
 next Close h = withState h (closeOf (h .state) .state)
 next (TakeAck slot) h = withState h (takeAckOf (h .state) slot .state)
@@ -188,8 +196,12 @@ Unnoted (EarliestConfirmTimeout timeout unreliable) = Unit
 -- ---- what a call leaves where it passes: Passed shows that `next` goes by `verdict` and this
 
 -- the oldest ready message's data bytes
-abbrev pub readyLength : State → ℕ
-readyLength s = dataLength (msgIn (readyOf CELLS (s .rx))) (heldBytes (readyOf CELLS (s .rx)))
+abbrev pub readyLength : RxTable → ℕ
+readyLength t = dataLength (msgIn (readyOf t)) (heldBytes (readyOf t))
+
+-- the number of a message was received already
+abbrev pub again : Holding → ℕ → Bool
+again h n = isRepeat (h .state .rx .cells) (table h) n
 
 -- what each leaves where it passes
 abbrev pub done : Call → Holding → Holding
@@ -206,16 +218,23 @@ done (Send slot time msg bytes) h = record {
   state = sentState (h .state) slot time msg (length bytes);
   sent = copied (h .sent) (cellStart PACKETS (h .state .tx .«tx_seq» .0)) bytes;
   received = h .received;
+  records = h .records;
 }
 done (Resend slot time n) h = withState h (resentState (h .state) slot time n)
 done (Ack slot time n) h = withState h (ackedState (h .state) slot time n)
 done (Receive slot msg n bytes) h = record {
-  state = cond (isRepeat CELLS (h .state .rx) n) (repeatedState (h .state) slot n) (receivedState (h .state) slot msg n (length bytes));
+  state = cond (again h n) (repeatedState (h .state) slot n) (receivedState (h .state) (h .records) slot msg n (length bytes));
   sent = h .sent;
-  received = cond (isRepeat CELLS (h .state .rx) n) (h .received) (copied (h .received) (cellStart CELLS n) bytes);
+  received = cond (again h n) (h .received) (copied (h .received) (cellStart (h .state .rx .cells) n) bytes);
+  records = cond (again h n) (h .records) (storedTable (h .state) (h .records) msg n (length bytes) .records);
 }
 done Show h = h
-done Take h = withState h (takenState (h .state) (readyLength (h .state)))
+done Take h = record {
+  state = takenState (h .state) (h .records) (readyLength (table h));
+  sent = h .sent;
+  received = h .received;
+  records = takenTable (h .state) (h .records) (readyLength (table h)) .records;
+}
 done Due h = h
 done Close h = withState h (closedState (h .state))
 done (TakeAck slot) h = withState h (takenAckState (h .state) slot)
@@ -235,9 +254,9 @@ Passed (Flush slot time) h = AtTime (h .state) slot time
 Passed (Send slot time msg bytes) h = SendPassed (h .state) (length (h .sent)) slot time msg (length bytes)
 Passed (Resend slot time n) h = ResendPassed (h .state) slot time n
 Passed (Ack slot time n) h = AckPassed (h .state) slot time n
-Passed (Receive slot msg n bytes) h = ReceivePassed (h .state) (length (h .received)) slot msg n (length bytes)
+Passed (Receive slot msg n bytes) h = ReceivePassed (h .state) (length (h .received)) (h .records) slot msg n (length bytes)
 Passed Show h = Unit
-Passed Take h = Taking (h .state) (msgIn (readyOf CELLS (h .state .rx))) (h .state .rx .«rx_oldest») (heldBytes (readyOf CELLS (h .state .rx)))
+Passed Take h = Taking (h .state) (h .records) (msgIn (readyOf (table h))) (h .state .rx .«rx_oldest») (heldBytes (readyOf (table h)))
 Passed Due h = Unit
 Passed Close h = Unit
 Passed (TakeAck slot) h = TakeAckPassed (h .state) slot

@@ -19,6 +19,7 @@ pub mod Passed
 pub mod Reader
 pub mod ReaderKept
 pub mod ReceiveKept
+pub mod RecordsKept
 pub mod Refused
 pub mod ResendKept
 pub mod RowAcks

@@ -1,13 +1,13 @@
 -- Document 01: "Calls keep a sound state sound." The fresh state is sound, and confirm, block, mark, ping, pong and add keep a
 -- sound state sound and a shaped one shaped. Assumes nothing.
 use mathlib.Core.Path.{_≡_, refl, sym, ap, subst, _∙_}
-use mathlib.Core.Bool.{Bool, false, _&&_}
-use mathlib.Core.List.{List, _∷_}
-use Prim.Native.Nat.{ℕ, zero, suc, _-_, _%_, _^_, _≤_, _<_}
+use mathlib.Core.Bool.{Bool, true, false, _&&_}
+use mathlib.Core.List.{List, map}
+use Prim.Native.Nat.{ℕ, _-_, _*_, _%_, _^_, _≤_, _<_}
 use native.Mathlib.Omega.{arith}
-use lib.Dec.{leb}
-use lib.ListN.{length, getD, set, replicate, length-replicate, getD-replicate}
-use borrow.Author.Tests.{leb-true, le-leb}
+use lib.Dec.{eqb, leb}
+use lib.ListN.{length, set, replicate, length-replicate, getD-replicate}
+use borrow.Author.Tests.{leb-true, le-leb, eqb-true}
 use Rattle.seq.specs.Numbers.{seqOf, minus}
 use Rattle.seq.specs.Laws.{minus-lt}
 use Rattle.seq.specs.Distance.{past, past-ahead}
@@ -26,20 +26,21 @@ use Rattle.link.specs.Sizes.{maxPingWithin, pingWithin, MAX_TIME}
 use Rattle.link.specs.Row.{emptyRow, freshRow, confirmed, blockedRow, noRow}
 use Rattle.link.specs.Limit.{markedRow}
 use Rattle.link.specs.Roundtrip.{pinged, ponged, pongedAs}
-use Rattle.engine.specs.declared.state.Held.the-variants.{Nothing}
-use Rattle.engine.specs.declared.state.RxCell.{RxCell}
 use Rattle.engine.specs.declared.state.State.{State}
-use Rattle.engine.specs.Ring.{window, window-length, nextCell, next-cell-lt}
+use Rattle.engine.specs.Ring.{window, window-length, window-none}
 use Rattle.engine.specs.Packets.{noPacket, firstOf, packets, SentOn, sumOf, queuedOf}
-use Rattle.engine.specs.Received.{noCell, cellView, expectedAt, bytesIn}
+use Rattle.engine.specs.Records.{heldOf}
+use Rattle.engine.specs.Received.{tableOf, expectedAt, inUse, bytesIn, view-none}
+use Rattle.engine.specs.CellCount.{isCellCount, cell-count}
+use Rattle.engine.specs.Stores.{storeBy}
 use Rattle.engine.specs.DecidedTables.{RowFine}
 use Rattle.engine.specs.Rows.{rowOf}
 use Rattle.engine.specs.Answer.{changedBy}
 use Rattle.engine.specs.Gates.{AtSlot, AtTime}
-use Rattle.engine.specs.Starting.{freshTx, freshRx, freshState, freshVerdict, freshOf}
-use Rattle.engine.specs.Sound.{Sound, Shaped, rowAt, packetAt, cellAt}
+use Rattle.engine.specs.Starting.{freshTx, freshRx, freshState, freshVerdict, freshOf, freshRecords}
+use Rattle.engine.specs.Sound.{Sound, SoundRecords, Shaped, rowAt, packetAt}
 use Rattle.engine.specs.Links.{lowestIn, AddPassed, lowest-empty, taken-nowhere}
-use Rattle.engine.specs.Sizes.{PACKETS, SLOTS, CELLS, MAX_RECV_BUFFER}
+use Rattle.engine.specs.Sizes.{PACKETS, SLOTS, DATA_BYTES}
 use Rattle.engine.specs.Fields.{withRow, withTime}
 use Rattle.laws.specs.RowsKept.{dead-elsewhere, sum-elsewhere, rows-of, rows-set, apart-set, here-added, links-sound, row-shaped, row-kept}
 use Rattle.laws.specs.RowAcks.{SameAcks, confirm-acks, block-acks, mark-acks, ping-acks, pong-acks, empty-full, fresh-full, same-full}
@@ -132,39 +133,24 @@ added-good s good id roundtrip max blocked unconfirmed p =
 
 -- ---- the fresh state
 
--- a receive table without messages, however it is gone round
-empty-cells : (N at n : ℕ) → at < N → window N noCell (replicate N noCell) at n ≡ replicate n noCell
-unfolding window
-empty-cells N at zero h = refl
-empty-cells N at (suc n) h =
-    let head : getD (replicate N noCell) at noCell ≡ noCell = getD-replicate N at noCell noCell h in
-    let tail = empty-cells N (nextCell N at) n (next-cell-lt N at (omega arith)) in
-    ap (λ (c : RxCell). c ∷ window N noCell (replicate N noCell) (nextCell N at) n) head ∙ ap (λ (cs : List RxCell). noCell ∷ cs) tail
-
-empty-bytes : (n : ℕ) → bytesIn (replicate n noCell) ≡ 0
-unfolding bytesIn
-empty-bytes zero = refl
-empty-bytes (suc n) = omega (arith, empty-bytes n)
-
 -- nothing lies between a number and itself
 past-self : (n : ℕ) → n < 2 ^ 32 → past n n ≡ 0
 unfolding minus
 past-self n h = let e : minus n n ≡ 0 = omega arith in past-ahead n n (omega (arith, e)) ∙ e
 
-module _ (start buffer : ℕ) (number : start < 2 ^ 32) where
+module _ (start buffer cells : ℕ) (number : start < 2 ^ 32) where
   -- every row is empty
-  fresh-row : (j : ℕ) → j < SLOTS → rowAt (freshState start buffer) j ≡ emptyRow
+  fresh-row : (j : ℕ) → j < SLOTS → rowAt (freshState start buffer cells) j ≡ emptyRow
   unfolding freshState
   fresh-row j h = getD-replicate SLOTS j emptyRow noRow h
 
-  fresh-state-shaped : buffer ≤ MAX_RECV_BUFFER → Shaped (freshState start buffer)
+  fresh-state-shaped : cells ≤ 65536 → buffer ≤ cells * DATA_BYTES → Shaped (freshState start buffer cells)
   unfolding freshState freshTx freshRx
-  fresh-state-shaped high = record {
+  fresh-state-shaped few high = record {
     links-full = length-replicate SLOTS emptyRow;
     queues = λ j h. ap (λ (r : LinkRow). length (r .«tx_ack_queue»)) (fresh-row j h) ∙ empty-full;
     packets-full = length-replicate PACKETS noPacket;
     queue-full = length-replicate PACKETS (seqOf 0);
-    cells-full = length-replicate CELLS noCell;
     next-u32 = number;
     expected-u32 = number;
     oldest-u32 = number;
@@ -177,24 +163,19 @@ module _ (start buffer : ℕ) (number : start < 2 ^ 32) where
     size-u32 = omega arith;
     untold-u32 = omega arith;
     buffer-u32 = omega arith;
+    cells-u32 = omega arith;
+    end-u32 = number;
     time-u64 = omega arith;
   }
 
-  -- every cell is empty
-  fresh-cells : cellView CELLS (freshState start buffer .rx) ≡ replicate CELLS noCell
+  -- no cell is in use
+  pub fresh-numbers : (expectedAt (freshState start buffer cells .rx) ≡ 0) × (inUse (freshState start buffer cells .rx) ≡ 0)
   unfolding freshState freshRx
-  fresh-cells = empty-cells PACKETS (start % PACKETS) PACKETS (omega arith)
+  fresh-numbers = (past-self start number, past-self start number)
 
-  fresh-cell : (k : ℕ) → k < CELLS → cellAt (freshState start buffer) k ≡ Nothing
-  fresh-cell k h = ap (λ (cs : List RxCell). getD cs k noCell .held) fresh-cells ∙ ap (λ (c : RxCell). c .held) (getD-replicate CELLS k noCell noCell h)
-
-  fresh-expected : expectedAt (freshState start buffer .rx) ≡ 0
-  unfolding freshState freshRx
-  fresh-expected = past-self start number
-
-  fresh-state-sound : 1 ≤ buffer → buffer ≤ MAX_RECV_BUFFER → Sound (freshState start buffer)
+  fresh-state-sound : isCellCount cells ≡ true → 1 ≤ buffer → buffer ≤ cells * DATA_BYTES → Sound (freshState start buffer cells)
   unfolding freshState freshTx freshRx emptyRow window sumOf queuedOf
-  fresh-state-sound low high = record {
+  fresh-state-sound count low high = record {
     consecutive = λ i h. absurd (omega arith);
     first = λ h. absurd (omega arith);
     sent = λ i h. absurd (omega arith);
@@ -203,19 +184,16 @@ module _ (start buffer : ℕ) (number : start < 2 ^ 32) where
     unacked = refl;
     unconsumable = refl;
     untaken-within = omega arith;
-    untaken = sym (ap bytesIn fresh-cells ∙ empty-bytes PACKETS);
     identities = λ i j hi hj li. false-true (sym (ap (λ (r : LinkRow). r .live) (fresh-row i hi)) ∙ li);
-    ready = λ k h. absurd (omega (arith, fresh-expected));
-    oldest = λ h. absurd (omega (arith, fresh-expected));
-    held = λ h. fresh-cell (expectedAt (freshState start buffer .rx)) h;
-    near = omega (arith, fresh-expected);
+    near = omega (arith, fresh-numbers .0);
+    used = omega (arith, fresh-numbers .1);
     sent-by = λ i h. absurd (omega arith);
     pinged-by = λ j h l. ap (λ (r : LinkRow). pingWithin (r .«current_ping_sent») 0) (fresh-row j h);
     packet-count = omega arith;
     queue-count = omega arith;
     ack-count = λ j h l. rw (fresh-row j h) (omega arith);
     packet-length = λ i h. absurd (omega arith);
-    cell-length = λ k h. rw (fresh-cell k h) tt;
+    cell-count = count;
     buffer-set = low;
     buffer-within = high;
     time-within = omega arith;
@@ -224,15 +202,56 @@ module _ (start buffer : ℕ) (number : start < 2 ^ 32) where
   }
 
   -- the fresh state, where it is not refused
-  module _ (e : freshVerdict buffer ≡ Pass) where
-    buffer-fits : (1 ≤ buffer) × (buffer ≤ MAX_RECV_BUFFER)
-    unfolding freshVerdict
-    buffer-fits =
-        let passed = gate-pass (leb 1 buffer && leb buffer MAX_RECV_BUFFER) (refuse 21 tt) Pass e in
-        let sizes = split (leb 1 buffer) (leb buffer MAX_RECV_BUFFER) (passed .0) in
-        (leb-true 1 buffer (sizes .0), leb-true buffer MAX_RECV_BUFFER (sizes .1))
+  module _ (records : List ℕ) (e : freshVerdict buffer cells (length records) ≡ Pass) where
+    pub record FreshPassed : Type 0 where
+      pub count : isCellCount cells ≡ true
+      pub low : 1 ≤ buffer
+      pub high : buffer ≤ cells * DATA_BYTES
+      pub lent : length records ≡ cells
 
-    pub fresh-good : Good (freshOf start buffer .state)
+    pub fresh-passed : FreshPassed
+    unfolding freshVerdict
+    fresh-passed =
+        let setting = isCellCount cells && (leb 1 buffer && leb buffer (cells * DATA_BYTES)) in
+        let e21 = gate-pass setting (refuse 21 tt) _ e in
+        let e2 = gate-pass (eqb (length records) cells) (refuse 2 tt) Pass (e21 .1) in
+        let a = split (isCellCount cells) (leb 1 buffer && leb buffer (cells * DATA_BYTES)) (e21 .0) in
+        let b = split (leb 1 buffer) (leb buffer (cells * DATA_BYTES)) (a .1) in
+        record { count = a .0; low = leb-true 1 buffer (b .0); high = leb-true buffer (cells * DATA_BYTES) (b .1); lent = eqb-true (length records) cells (e2 .0) }
+
+    pub fresh-is : freshOf start buffer cells (length records) .state ≡ freshState start buffer cells
     unfolding freshOf
-    fresh-good = subst (λ (v : Verdict). Good (changedBy v (freshState start buffer) (freshState start buffer) .state)) (sym e)
-        (record { shaped = fresh-state-shaped (buffer-fits .1); sound = fresh-state-sound (buffer-fits .0) (buffer-fits .1) })
+    fresh-is = ap (λ (v : Verdict). changedBy v (freshState start 0 0) (freshState start buffer cells) .state) e
+
+    pub fresh-good : Good (freshOf start buffer cells (length records) .state)
+    fresh-good = subst Good (sym fresh-is) (record {
+      shaped = fresh-state-shaped (cell-count cells (fresh-passed .count) .few) (fresh-passed .high);
+      sound = fresh-state-sound (fresh-passed .count) (fresh-passed .low) (fresh-passed .high);
+    })
+
+    -- its records are empty
+    pub fresh-records-are : freshRecords buffer cells records ≡ replicate cells 0
+    unfolding freshRecords
+    fresh-records-are = ap (λ (v : Verdict). storeBy v records (replicate (length records) 0)) e ∙ ap (λ n. replicate n 0) (fresh-passed .lent)
+
+    -- .. and sound with it, whatever they held
+    pub fresh-recorded : SoundRecords (tableOf (freshOf start buffer cells (length records) .state .rx) (freshRecords buffer cells records))
+    unfolding freshState freshRx bytesIn
+    fresh-recorded =
+        subst (λ (s : State). SoundRecords (tableOf (s .rx) (freshRecords buffer cells records))) (sym fresh-is)
+        (subst (λ (l : List ℕ). SoundRecords (tableOf (freshState start buffer cells .rx) l)) (sym fresh-records-are) none-used)
+      where
+        none-used : SoundRecords (tableOf (freshState start buffer cells .rx) (replicate cells 0))
+        none-used =
+            let t = tableOf (freshState start buffer cells .rx) (replicate cells 0) in
+            let count = cell-count cells (fresh-passed .count) in
+            record {
+              long = length-replicate cells 0;
+              untaken = sym (ap (λ (l : List ℕ). bytesIn (map heldOf l)) (window-none cells 0 (replicate cells 0) (start % cells) (inUse (t .rx)) (omega (arith, fresh-numbers .1))));
+              ready = λ k h. absurd (omega (arith, fresh-numbers .0));
+              oldest = λ h. absurd (omega (arith, fresh-numbers .0));
+              held = view-none cells count t (expectedAt (t .rx)) (omega (arith, fresh-numbers .1));
+              newest = λ k l e. absurd (omega (arith, fresh-numbers .1));
+              cell-length = λ k h. absurd (omega (arith, fresh-numbers .1));
+              recorded = λ k h. absurd (omega (arith, fresh-numbers .1));
+            }

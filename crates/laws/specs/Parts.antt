@@ -3,7 +3,7 @@
 use mathlib.Core.Path.{_≡_, refl, sym, ap, _∙_}
 use mathlib.Core.Bool.{Bool, true, false, cond}
 use mathlib.Core.List.{List, map}
-use Prim.Native.Nat.{ℕ, _+_, _-_, _^_, _≤_, _<_}
+use Prim.Native.Nat.{ℕ, _+_, _-_, _*_, _^_, _≤_, _<_}
 use native.Mathlib.Omega.{arith}
 use lib.Dec.{eqb}
 use lib.ListN.{length, getD, set, drop, length-drop}
@@ -16,7 +16,6 @@ use Rattle.seq.specs.Laws.{plus-plus}
 use Rattle.link.specs.declared.row.LinkRow.{LinkRow}
 use Rattle.link.specs.Row.{withUnacked}
 use Rattle.link.specs.Sizes.{MAX_TIME, ACKS}
-use Rattle.engine.specs.declared.state.Held.the-variants.{Nothing}
 use Rattle.engine.specs.declared.state.InFlight.{InFlight}
 use Rattle.engine.specs.declared.state.SentReliableStatus.{SentReliableStatus}
 use Rattle.engine.specs.declared.state.SentReliableStatus.the-variants.{Sent, Received, ResendQueued}
@@ -25,15 +24,16 @@ use Rattle.engine.specs.declared.state.Sending.{Sending}
 use Rattle.engine.specs.declared.state.Receiving.{Receiving}
 use Rattle.engine.specs.declared.state.State.{State}
 use Rattle.engine.specs.Packets.{noPacket, firstOf, packets, queue, isReceived, restatused, queuedOf, Pick, SentOn, Outstanding, Settled, weightAs, sumOf}
-use Rattle.engine.specs.Received.{noCell, cellView, expectedAt, isFull, bytesIn}
+use Rattle.engine.specs.Received.{expectedAt, inUse}
+use Rattle.engine.specs.CellCount.{isCellCount}
 use Rattle.engine.specs.InTable.{number-past}
 use Rattle.engine.specs.DecidedTables.{RowFine}
 use Rattle.engine.specs.DecidedPackets as packet
 use Rattle.engine.specs.Rows.{rowOf, row-of}
 use Rattle.engine.specs.Gates.{AtTime}
-use Rattle.engine.specs.Sound.{Sound, packetAt, rowAt, SentHere, SentBy, ReadyKind, LengthWithin}
+use Rattle.engine.specs.Sound.{Sound, packetAt, rowAt, SentHere, SentBy}
 use Rattle.engine.specs.Fields.{newFlight, withBytes}
-use Rattle.engine.specs.Sizes.{PACKETS, CELLS, MAX_RECV_BUFFER}
+use Rattle.engine.specs.Sizes.{PACKETS, DATA_BYTES}
 use Rattle.laws.specs.Good.{Good}
 use Rattle.laws.specs.RowsKept.{RowsFine, Apart, Elsewhere, rows-of, row-later, rows-set, row-here, links-set, apart-set, here-same, sent-later}
 use Rattle.laws.specs.RowAcks.{SameAcks, same-full}
@@ -51,17 +51,14 @@ pub record SendingSound (s : State) : Type 0 where
   pub packet-count : s .tx .«txed_count» ≤ PACKETS
   pub queue-count : s .tx .«resend_count» ≤ PACKETS
 
--- the receiving half
+-- the receiving half, but for what the records hold
 pub record ReceivingSound (rx : Receiving) : Type 0 where
   pub untaken-within : rx .«rxed_reliable_size» ≤ rx .«recv_buffer»
-  pub untaken : rx .«rxed_reliable_size» ≡ bytesIn (cellView CELLS rx)
-  pub ready : (k : ℕ) → k < expectedAt rx → ReadyKind (getD (cellView CELLS rx) k noCell .held)
-  pub oldest : 0 < expectedAt rx → isFull (getD (cellView CELLS rx) 0 noCell .held) ≡ true
-  pub held : expectedAt rx < CELLS → getD (cellView CELLS rx) (expectedAt rx) noCell .held ≡ Nothing
-  pub near : expectedAt rx ≤ CELLS
-  pub cell-length : (k : ℕ) → k < CELLS → LengthWithin (getD (cellView CELLS rx) k noCell .held)
+  pub near : expectedAt rx ≤ inUse rx
+  pub used : inUse rx ≤ rx .cells
+  pub cell-count : isCellCount (rx .cells) ≡ true
   pub buffer-set : 1 ≤ rx .«recv_buffer»
-  pub buffer-within : rx .«recv_buffer» ≤ MAX_RECV_BUFFER
+  pub buffer-within : rx .«recv_buffer» ≤ rx .cells * DATA_BYTES
 
 module _ (s : State) where
   pub sending-of : Sound s → SendingSound s
@@ -79,12 +76,9 @@ module _ (s : State) where
   receiving-told : (untold : ℕ) → Sound s → ReceivingSound (withBytes (s .rx) (s .rx .«rxed_reliable_size») untold)
   receiving-told untold sound = record {
     untaken-within = sound .untaken-within;
-    untaken = sound .untaken;
-    ready = sound .ready;
-    oldest = sound .oldest;
-    held = sound .held;
     near = sound .near;
-    cell-length = sound .cell-length;
+    used = sound .used;
+    cell-count = sound .cell-count;
     buffer-set = sound .buffer-set;
     buffer-within = sound .buffer-within;
   }
@@ -104,19 +98,16 @@ module _ (s : State) where
     unacked = sending .unacked;
     unconsumable = sending .unconsumable;
     untaken-within = receiving .untaken-within;
-    untaken = receiving .untaken;
     identities = apart;
-    ready = receiving .ready;
-    oldest = receiving .oldest;
-    held = receiving .held;
     near = receiving .near;
+    used = receiving .used;
     sent-by = λ i h. sending .each i h .timed;
     pinged-by = λ j h l. rows j h l .pinged;
     packet-count = sending .packet-count;
     queue-count = sending .queue-count;
     ack-count = λ j h l. rows j h l .acks;
     packet-length = λ i h. sending .each i h .fits;
-    cell-length = receiving .cell-length;
+    cell-count = receiving .cell-count;
     buffer-set = receiving .buffer-set;
     buffer-within = receiving .buffer-within;
     time-within = time;
@@ -171,7 +162,6 @@ after-good s t slot row good ok a =
         queues = rw (a .links) (rows .queues);
         packets-full = a .sized .cells;
         queue-full = a .sized .places;
-        cells-full = rw rx (shaped .cells-full);
         next-u32 = a .sized .next;
         expected-u32 = rw rx (shaped .expected-u32);
         oldest-u32 = rw rx (shaped .oldest-u32);
@@ -184,6 +174,8 @@ after-good s t slot row good ok a =
         size-u32 = rw rx (shaped .size-u32);
         untold-u32 = rw rx (omega (arith, a .received .1, shaped .untold-u32));
         buffer-u32 = rw rx (shaped .buffer-u32);
+        cells-u32 = rw rx (shaped .cells-u32);
+        end-u32 = rw rx (shaped .end-u32);
         time-u64 = omega (arith, ok .top);
       };
       sound = whole t sends

@@ -18,13 +18,11 @@ use Rattle.engine.specs.Sending.{sendOf, sendStore, sentBy, sendVerdict, send-p
 use Rattle.engine.specs.Flushing.{flushOf}
 use Rattle.engine.specs.Resending.{resendOf, resentBy, resendVerdict, resentState, resend-passed}
 use Rattle.engine.specs.Acking.{ackOf, ack-passed}
-use Rattle.engine.specs.Cells.{isRepeat}
-use Rattle.engine.specs.Receiving.{receiveOf, receiveStore, receiveVerdict, receive-passed}
-use Rattle.engine.specs.HandingOut.{handOutBy, takeVerdict, takenBy, takeOf, taking, takeAckVerdict, ackAs, ackAnswer, takenAckBy, takeAckOf, take-ack-passed}
-use Rattle.engine.specs.Sizes.{CELLS}
+use Rattle.engine.specs.Receiving.{receiveOf, receiveStore, receiveRecords, receiveVerdict, receive-passed}
+use Rattle.engine.specs.HandingOut.{handOutBy, takeVerdict, takenBy, takeOf, recordsBy, takeRecords, taking, takeAckVerdict, ackAs, ackAnswer, takenAckBy, takeAckOf, take-ack-passed}
 use Rattle.engine.specs.Fields.{withRow}
 use Rattle.laws.specs.Good.{Good}
-use Rattle.laws.specs.Calls.{Call, Add, Remove, Confirm, Unconfirm, Block, Mark, Ping, Pong, Flush, Send, Resend, Ack, Receive, Show, Take, Due, Close, TakeAck, EarliestConfirmTimeout, Holding, withState, verdict, values, number, next, Typed, done, Passed}
+use Rattle.laws.specs.Calls.{Call, Add, Remove, Confirm, Unconfirm, Block, Mark, Ping, Pong, Flush, Send, Resend, Ack, Receive, Show, Take, Due, Close, TakeAck, EarliestConfirmTimeout, Holding, withState, table, again, verdict, values, number, next, Typed, done, Passed}
 use mathlib.Core.Bool.{false}
 use Rattle.engine.specs.Closing.{closeOf}
 use Rattle.refusal.specs.Answers.{toldBy}
@@ -56,7 +54,7 @@ by-changed : (h : Holding) (v : Verdict) (after : State) → Judges v (withState
 by-changed h v after = by v (λ x. withState h (changedBy x (h .state) after .state)) refl (λ e. refl)
 
 judged : (c : Call) (h : Holding) → Judges (verdict c h) (next c h) (done c h) h
-unfolding addOf removeOf confirmOf unconfirmOf blockOf markOf pingOf pongOf flushOf sendOf sendStore resendOf ackOf receiveOf receiveStore handOutBy takeOf closeOf ackAnswer takeAckOf
+unfolding addOf removeOf confirmOf unconfirmOf blockOf markOf pingOf pongOf flushOf sendOf sendStore resendOf ackOf receiveOf receiveStore receiveRecords handOutBy takeOf takeRecords closeOf ackAnswer takeAckOf
 judged (Add id roundtrip max blocked unconfirmed) h =
     let s = h .state in
     let after = withRow s (lowestIn s) (freshRow id roundtrip max blocked unconfirmed) in
@@ -73,7 +71,7 @@ judged (Send slot time msg bytes) h =
     let s = h .state in
     let after = done (Send slot time msg bytes) h in
     by (sendVerdict s (length (h .sent)) slot time msg (length bytes))
-    (λ v. record { state = sentBy v s (after .state) .state; sent = storeBy v (h .sent) (after .sent); received = h .received }) refl (λ e. refl)
+    (λ v. record { state = sentBy v s (after .state) .state; sent = storeBy v (h .sent) (after .sent); received = h .received; records = h .records }) refl (λ e. refl)
 judged (Resend slot time n) h =
     let s = h .state in
     by (resendVerdict s slot time n) (λ v. withState h (resentBy v s n (resentState s slot time n) .state)) refl (λ e. refl)
@@ -81,10 +79,22 @@ judged (Ack slot time n) h = let c = Ack slot time n in by-changed h (verdict c 
 judged (Receive slot msg n bytes) h =
     let s = h .state in
     let after = done (Receive slot msg n bytes) h in
-    by (receiveVerdict s (length (h .received)) slot msg n (length bytes))
-    (λ v. record { state = changedBy v s (after .state) .state; sent = h .sent; received = storeBy v (h .received) (after .received) }) refl (λ e. refl)
+    by (receiveVerdict s (length (h .received)) (h .records) slot msg n (length bytes))
+    (λ v. record {
+      state = changedBy v s (after .state) .state;
+      sent = h .sent;
+      received = storeBy v (h .received) (after .received);
+      records = storeBy v (h .records) (after .records);
+    }) refl (λ e. refl)
 judged Show h = by (verdict Show h) (λ v. h) refl (λ e. refl)
-judged Take h = by (takeVerdict (h .state)) (λ v. withState h (takenBy (handOutBy v (h .state .rx)) (h .state))) refl (λ e. refl)
+judged Take h =
+    by (takeVerdict (h .state) (h .records))
+    (λ v. record {
+      state = takenBy (handOutBy v (table h)) (h .state) (h .records);
+      sent = h .sent;
+      received = h .received;
+      records = recordsBy (handOutBy v (table h)) (h .state) (h .records);
+    }) refl (λ e. refl)
 judged Due h = by (verdict Due h) (λ v. h) refl (λ e. refl)
 judged Close h = by-changed h (verdict Close h) (done Close h .state)
 judged (TakeAck slot) h =
@@ -133,9 +143,9 @@ passed (Flush slot time) h t g e = timed-passed (h .state) slot time verdicts.Pa
 passed (Send slot time msg bytes) h t g e = send-passed (h .state) (length (h .sent)) slot time msg (length bytes) e
 passed (Resend slot time n) h t g e = resend-passed (h .state) slot time n (g .shaped) t e
 passed (Ack slot time n) h t g e = ack-passed (h .state) slot time n e
-passed (Receive slot msg n bytes) h t g e = receive-passed (h .state) (length (h .received)) slot msg n (length bytes) e
+passed (Receive slot msg n bytes) h t g e = receive-passed (h .state) (length (h .received)) (h .records) slot msg n (length bytes) e
 passed Show h t g e = tt
-passed Take h t g e = taking (h .state) _ _ _ (ap (λ (v : Verdict). handOutBy v (h .state .rx)) e)
+passed Take h t g e = taking (h .state) (h .records) _ _ _ (ap (λ (v : Verdict). handOutBy v (table h)) e)
 passed Due h t g e = tt
 passed Close h t g e = tt
 passed (TakeAck slot) h t g e = take-ack-passed (h .state) slot e
@@ -157,11 +167,11 @@ done-good (Send slot time msg bytes) h t g p = sent-good (h .state) g (length (h
 done-good (Resend slot time n) h t g p = resent-good (h .state) g slot time n t p
 done-good (Ack slot time n) h t g p = acked-good (h .state) g slot time n t (p .timed)
 done-good (Receive slot msg n bytes) h t g p =
-    cases (isRepeat CELLS (h .state .rx) n)
-    (λ again. simp again (repeated-good (h .state) g slot n (p .at)))
-    (λ new. simp new (received-good (h .state) g (length (h .received)) slot msg n (length bytes) p new))
+    cases (again h n)
+    (λ old. simp old (repeated-good (h .state) g slot n (p .at)))
+    (λ new. simp new (received-good (h .state) g (length (h .received)) (h .records) slot msg n (length bytes) p new .state))
 done-good Show h t g p = g
-done-good Take h t g p = taken-good (h .state) g _ _ _ p
+done-good Take h t g p = taken-good (h .state) g (h .records) _ _ _ p .state
 done-good Due h t g p = g
 done-good Close h t g p = read-good (h .state) false g
 done-good (TakeAck slot) h t g p = take-ack-good (h .state) g slot (p .at)

@@ -3,7 +3,7 @@
 -- and only the closing call changes it. Assumes nothing.
 use mathlib.Core.Path.{_≡_, refl, sym, ap, _∙_}
 use mathlib.Core.Logic.{_≢_}
-use mathlib.Core.Bool.{Bool, true, false, cond}
+use mathlib.Core.Bool.{Bool, true, false, cond, _&&_}
 use mathlib.Core.List.{List, [], _∷_}
 use Prim.Native.Nat.{ℕ}
 use borrow.Table.Steps.{cases}
@@ -16,7 +16,7 @@ use Rattle.engine.specs.declared.state.State.{State}
 use Rattle.engine.specs.declared.answer.Changed.{Changed}
 use Rattle.engine.specs.declared.deadlines.FirstSent.{FirstSent}
 use Rattle.engine.specs.declared.deadlines.FirstSent.the-variants as firsts
-use Rattle.engine.specs.Decide.{soundb, sound, sound-true}
+use Rattle.engine.specs.Decide.{soundb, sound, sound-true, recordsb, soundWithb}
 use Rattle.engine.specs.Answer.{changedBy}
 use Rattle.engine.specs.Gates.{slotVerdict, timedVerdict, stateVerdict}
 use Rattle.engine.specs.Rows.{rowOf, slotOk, timeOk}
@@ -26,18 +26,18 @@ use Rattle.engine.specs.Flushing.{flushedState}
 use Rattle.engine.specs.Sending.{sendVerdict, totalsOk, sentState}
 use Rattle.engine.specs.Resending.{resendVerdict, resentState}
 use Rattle.engine.specs.Acking.{ackVerdict, ackedRow, ackedTx, ackedState}
-use Rattle.engine.specs.Receiving.{receiveVerdict, repeatedState, receivedState}
+use Rattle.engine.specs.Receiving.{lengthsOk, messageVerdict, receiveVerdict, repeatedState, effectState, receivedState}
 use Rattle.engine.specs.declared.handing_out.HandOut.{HandOut}
+use lib.Dec.{eqb}
 use lib.ListN.{length}
 use Rattle.engine.specs.HandingOut.{handOutBy, partAs, placeAs, showVerdict, takeVerdict, takenState, takeAckVerdict, takenAckState, showingOf, shownOf, shownAt}
 use Rattle.engine.specs.Closing.{closedState, closeOf}
 use Rattle.engine.specs.Deadlines.{confirmTimeoutVerdict, firstSent, namedValues, deadlineOf}
 use Rattle.engine.specs.Packets.{packets}
-use Rattle.engine.specs.Cells.{isRepeat}
-use Rattle.engine.specs.Sizes.{CELLS}
+use Rattle.engine.specs.Sizes.{SENT_BYTES}
 use Rattle.engine.specs.Fields.{withReader}
 use Rattle.laws.specs.ReaderKept.{read-sound}
-use Rattle.laws.specs.Calls.{Call, Add, Remove, Confirm, Unconfirm, Block, Mark, Ping, Pong, Flush, Send, Resend, Ack, Receive, Show, Take, Due, Close, TakeAck, EarliestConfirmTimeout, Holding, withState, verdict, values, told, next, done}
+use Rattle.laws.specs.Calls.{Call, Add, Remove, Confirm, Unconfirm, Block, Mark, Ping, Pong, Flush, Send, Resend, Ack, Receive, Show, Take, Due, Close, TakeAck, EarliestConfirmTimeout, Holding, withState, table, again, verdict, values, told, next, done}
 use Rattle.laws.specs.Passed.{left-passed, left-refused}
 use Rattle.laws.specs.SoundKept.{after}
 
@@ -77,8 +77,12 @@ Alike c h reads =
 by-sound : (h : Holding) (reads : Bool) (rest : Verdict) → gate (soundb (reading reads h .state)) 1 rest ≡ gate (soundb (h .state)) 1 rest
 by-sound h reads rest = ap (λ ok. gate ok 1 rest) (reader-sound (h .state) reads)
 
+by-sound-with : (h : Holding) (reads : Bool) (rest : Verdict) → gate (soundWithb (reading reads h .state) (h .records)) 1 rest ≡ gate (soundWithb (h .state) (h .records)) 1 rest
+unfolding soundWithb
+by-sound-with h reads rest = ap (λ ok. gate (ok && recordsb (table h)) 1 rest) (reader-sound (h .state) reads)
+
 alike : (c : Call) (h : Holding) (reads : Bool) → Alike c h reads
-unfolding slotVerdict timedVerdict addVerdict sendVerdict totalsOk resendVerdict ackVerdict receiveVerdict showVerdict takeVerdict takeAckVerdict confirmTimeoutVerdict slotOk timeOk rowOf unconfirmedState removedState flushedState sentState resentState ackedRow ackedTx ackedState repeatedState receivedState takenState takenAckState
+unfolding slotVerdict timedVerdict addVerdict sendVerdict totalsOk resendVerdict ackVerdict receiveVerdict messageVerdict showVerdict takeVerdict takeAckVerdict confirmTimeoutVerdict slotOk timeOk rowOf unconfirmedState removedState flushedState sentState resentState ackedRow ackedTx ackedState repeatedState effectState receivedState takenState takenAckState
 alike (Add id roundtrip max blocked unconfirmed) h reads = (by-sound h reads _, (λ u. refl, λ u. refl))
 alike (Remove slot) h reads = (by-sound h reads _, (λ u. refl, λ u. refl))
 alike (Confirm slot) h reads = (by-sound h reads _, (λ u. refl, λ u. refl))
@@ -88,15 +92,17 @@ alike (Mark slot seq) h reads = (by-sound h reads _, (λ u. refl, λ u. refl))
 alike (Ping slot time) h reads = (by-sound h reads _, (λ u. refl, λ u. refl))
 alike (Pong slot time) h reads = (by-sound h reads _, (λ u. refl, λ u. refl))
 alike (Flush slot time) h reads = (by-sound h reads _, (λ u. refl, λ u. refl))
-alike (Send slot time msg bytes) h reads = (by-sound h reads _, (λ u. refl, λ u. refl))
+alike (Send slot time msg bytes) h reads = (ap (λ v. gate (eqb (length (h .sent)) SENT_BYTES) 2 v) (by-sound h reads _), (λ u. refl, λ u. refl))
 alike (Resend slot time n) h reads = (by-sound h reads _, (λ u. refl, λ u. refl))
 alike (Ack slot time n) h reads = (by-sound h reads _, (λ u. refl, λ u. refl))
 alike (Receive slot msg n bytes) h reads =
     let s = h .state in
-    let left : State → Holding = withState (done (Receive slot msg n bytes) h) in
-    (by-sound h reads _, (λ u. refl, λ u. ap left (one-of (isRepeat CELLS (s .rx) n) (repeatedState s slot n) (receivedState s slot msg n (length bytes)) reads)))
-alike Show h reads = (by-sound h reads _, (λ u. refl, λ u. refl))
-alike Take h reads = (by-sound h reads _, (λ u. refl, λ u. refl))
+    let left : State → Holding = withState (done (Receive slot msg n bytes) h) in (
+      ap (λ v. gate (lengthsOk (s .rx) (length (h .received)) (length (h .records))) 2 v) (by-sound-with h reads _),
+      (λ u. refl, λ u. ap left (one-of (again h n) (repeatedState s slot n) (receivedState s (h .records) slot msg n (length bytes)) reads)),
+    )
+alike Show h reads = (ap (λ v. gate (lengthsOk (h .state .rx) (length (h .received)) (length (h .records))) 2 v) (by-sound-with h reads _), (λ u. refl, λ u. refl))
+alike Take h reads = (ap (λ v. gate (eqb (length (h .records)) (h .state .rx .cells)) 2 v) (by-sound-with h reads _), (λ u. refl, λ u. refl))
 alike Due h reads = (by-sound h reads _, (λ u. absurd (u refl), λ u. refl))
 alike Close h reads = (by-sound h reads _, (λ u. refl, λ u. ap (λ b. reading b h) (sym (u refl))))
 alike (TakeAck slot) h reads = (by-sound h reads _, (λ u. refl, λ u. refl))
@@ -119,17 +125,17 @@ module _ (c : Call) (h : Holding) (reads : Bool) where
 
 -- what is shown, and where it lies
 module _ (h : Holding) (reads : Bool) where
-  showing-reading : showingOf (withReader (h .state) reads) (length (h .received)) ≡ showingOf (h .state) (length (h .received))
+  showing-reading : showingOf (withReader (h .state) reads) (length (h .received)) (h .records) ≡ showingOf (h .state) (length (h .received)) (h .records)
   unfolding showingOf
-  showing-reading = ap (λ v. handOutBy v (h .state .rx)) (alike Show h reads .0)
+  showing-reading = ap (λ v. handOutBy v (table h)) (alike Show h reads .0)
 
-  pub reader-shown : shownOf (withReader (h .state) reads) (h .received) ≡ shownOf (h .state) (h .received)
+  pub reader-shown : shownOf (withReader (h .state) reads) (h .received) (h .records) ≡ shownOf (h .state) (h .received) (h .records)
   unfolding shownOf
-  reader-shown = ap (λ (a : HandOut). partAs a (h .received)) showing-reading
+  reader-shown = ap (λ (a : HandOut). partAs (h .state .rx .cells) a (h .received)) showing-reading
 
-  pub reader-shown-at : (at : ℕ × ℕ) → shownAt (withReader (h .state) reads) (length (h .received)) at ≡ shownAt (h .state) (length (h .received)) at
+  pub reader-shown-at : (at : ℕ × ℕ) → shownAt (withReader (h .state) reads) (length (h .received)) (h .records) at ≡ shownAt (h .state) (length (h .received)) (h .records) at
   unfolding shownAt
-  reader-shown-at at = ap (λ (a : HandOut). placeAs a at) showing-reading
+  reader-shown-at at = ap (λ (a : HandOut). placeAs (h .state .rx .cells) a at) showing-reading
 
 -- "for good": only the closing call changes whether the reader is open ..
 abbrev isOpen : Holding → Bool

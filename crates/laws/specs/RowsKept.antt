@@ -224,7 +224,6 @@ module _ (s : State) (links : List LinkRow) (time : ℕ) (reads : Bool) where
     queues = rows .queues;
     packets-full = shaped .packets-full;
     queue-full = shaped .queue-full;
-    cells-full = shaped .cells-full;
     next-u32 = shaped .next-u32;
     expected-u32 = shaped .expected-u32;
     oldest-u32 = shaped .oldest-u32;
@@ -237,6 +236,8 @@ module _ (s : State) (links : List LinkRow) (time : ℕ) (reads : Bool) where
     size-u32 = shaped .size-u32;
     untold-u32 = shaped .untold-u32;
     buffer-u32 = shaped .buffer-u32;
+    cells-u32 = shaped .cells-u32;
+    end-u32 = shaped .end-u32;
     time-u64 = timed;
   }
 
@@ -251,19 +252,16 @@ module _ (s : State) (links : List LinkRow) (time : ℕ) (reads : Bool) where
     unacked = sound .unacked;
     unconsumable = sound .unconsumable;
     untaken-within = sound .untaken-within;
-    untaken = sound .untaken;
     identities = apart;
-    ready = sound .ready;
-    oldest = sound .oldest;
-    held = sound .held;
     near = sound .near;
+    used = sound .used;
     sent-by = λ i h. sent-later (packetAt s i .status) (s .time) time later (sound .sent-by i h);
     pinged-by = λ j h l. fine j h l .pinged;
     packet-count = sound .packet-count;
     queue-count = sound .queue-count;
     ack-count = λ j h l. fine j h l .acks;
     packet-length = sound .packet-length;
-    cell-length = sound .cell-length;
+    cell-count = sound .cell-count;
     buffer-set = sound .buffer-set;
     buffer-within = sound .buffer-within;
     time-within = top;

@@ -3,6 +3,7 @@
 use mathlib.Core.Path.{_≡_}
 use mathlib.Core.List.{List, [], _∷_}
 use Prim.Native.Nat.{ℕ, _^_, _<_}
+use lib.ListN.{length}
 use Rattle.refusal.specs.declared.verdict.Verdict.the-variants.{Pass}
 use Rattle.engine.specs.Starting.{freshVerdict, freshOf}
 use Rattle.laws.specs.Good.{Good}
@@ -14,7 +15,8 @@ pub kept : (c : Call) (h : Holding) → Typed c → Good (h .state) → Good (ne
 kept c h t g = next-keeps c h (λ k. Good (k .state)) g (λ e. done-good c h t g (passed c h t g e))
 
 -- a fresh state is sound, and so is every state that calls make of it, in any order and with any arguments
-pub fresh-good : (start buffer : ℕ) → start < 2 ^ 32 → freshVerdict buffer ≡ Pass → Good (freshOf start buffer .state)
+pub fresh-good : (start buffer cells : ℕ) → start < 2 ^ 32 → (records : List ℕ) → freshVerdict buffer cells (length records) ≡ Pass
+    → Good (freshOf start buffer cells (length records) .state)
 fresh-good = links.fresh-good
 
 unfoldable pub after : List Call → Holding → Holding

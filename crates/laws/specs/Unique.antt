@@ -20,6 +20,8 @@ use Rattle.engine.specs.declared.state.State.{State}
 use Rattle.engine.specs.declared.answer.Changed.{Changed}
 use Rattle.engine.specs.declared.sending.SendResult.{SendResult}
 use Rattle.engine.specs.declared.handing_out.HandOut.{HandOut}
+use Rattle.engine.specs.declared.handing_out.TakeResult.{TakeResult}
+use mathlib.Core.Bool.{Bool}
 use Rattle.engine.specs.HandingOut.{shownAt}
 use Rattle.engine.specs.declared.slowness.SlowAnswer.{SlowAnswer}
 use Rattle.engine.specs.Slowness.{slowSlots, slowVerdict, slowTold, slowLinksOf}
@@ -126,13 +128,13 @@ pub link-timeout :
     × Unique link.timeout.AckTimeout.duration.Reads.Learnt
 link-timeout = (sole, sole)
 
--- crates/engine/src/starting.rt
-pub engine-starting : Unique engine.starting.fresh.Reads.Learnt
-engine-starting = first
-
 -- crates/engine/src/sound.rt
 pub engine-sound : Unique engine.sound.is_sound.Reads.Learnt
 engine-sound = sole
+
+-- crates/engine/src/records.rt
+pub engine-records : Unique engine.records.held_of.Reads.Learnt
+engine-records = sole
 
 -- crates/engine/src/rows.rt
 pub engine-rows : Unique engine.rows.row_of.Reads.Learnt
@@ -172,10 +174,9 @@ engine-acking = first
 
 -- crates/engine/src/handing_out.rt
 pub engine-handing-out :
-    Unique engine.handing_out.take.Reads.Learnt
-    × Unique engine.handing_out.take_ack.Reads.Learnt
+    Unique engine.handing_out.take_ack.Reads.Learnt
     × Unique engine.handing_out.is_consume_ack_required.Reads.Learnt
-engine-handing-out = (first, first, first)
+engine-handing-out = (first, first)
 
 -- crates/engine/src/closing.rt
 pub engine-closing : Unique engine.closing.close_reader.Reads.Learnt
@@ -215,26 +216,46 @@ pub send : (κs κs′ : Lfts 2) (s : State) (store : List ℕ) (slot time : ℕ
     → (r ≡ r′) × (now (e .1 .0) ≡ now (e′ .1 .0))
 send κs κs′ s store slot time msg payload i i′ j j′ r r′ e e′ p q = (p .0 ∙ sym (q .0), p .1 .1 ∙ sym (q .1 .1))
 
--- crates/engine/src/receiving.rt
-pub receive : (κs κs′ : Lfts 2) (s : State) (store : List ℕ) (slot : ℕ) (msg : ReliableMsg) (seq : Seq) (payload : List ℕ) (i i′ j j′ : Place) (r r′ : Changed) (e : _) (e′ : _)
-    → engine.receiving.receive.Reads.Learnt κs (s, (lent i store, (slot, (msg, (seq, (lent j payload, tt)))))) r e
-    → engine.receiving.receive.Reads.Learnt κs′ (s, (lent i′ store, (slot, (msg, (seq, (lent j′ payload, tt)))))) r′ e′
-    → (r ≡ r′) × (now (e .1 .0) ≡ now (e′ .1 .0))
-receive κs κs′ s store slot msg seq payload i i′ j j′ r r′ e e′ p q = (p .0 ∙ sym (q .0), p .1 .1 ∙ sym (q .1 .1))
+-- crates/engine/src/starting.rt
+pub fresh : (κs κs′ : Lfts 1) (start : Seq) (buffer cells : ℕ) (records : List ℕ) (i i′ : Place) (r r′ : Changed) (e : _) (e′ : _)
+    → engine.starting.fresh.Reads.Learnt κs (start, (buffer, (cells, (lent i records, tt)))) r e
+    → engine.starting.fresh.Reads.Learnt κs′ (start, (buffer, (cells, (lent i′ records, tt)))) r′ e′
+    → (r ≡ r′) × (now (e .1 .1 .1 .0) ≡ now (e′ .1 .1 .1 .0))
+fresh κs κs′ start buffer cells records i i′ r r′ e e′ p q = (p .0 ∙ sym (q .0), p .1 .1 .1 ∙ sym (q .1 .1 .1))
+
+-- crates/engine/src/sound.rt
+pub sound-with : (κs κs′ : Lfts 1) (s : State) (records : List ℕ) (i i′ : Place) (r r′ : Bool) (e : _) (e′ : _)
+    → engine.sound.is_sound_with.Reads.Learnt κs (s, (lent i records, tt)) r e
+    → engine.sound.is_sound_with.Reads.Learnt κs′ (s, (lent i′ records, tt)) r′ e′
+    → r ≡ r′
+sound-with κs κs′ s records i i′ r r′ e e′ p q = p ∙ sym q
+
+-- crates/engine/src/receiving.rt; `e .1 .0` is the store, `e .1 .1 .0` the record space
+pub receive : (κs κs′ : Lfts 3) (s : State) (store records : List ℕ) (slot : ℕ) (msg : ReliableMsg) (seq : Seq) (payload : List ℕ) (i i′ j j′ k k′ : Place) (r r′ : Changed) (e : _) (e′ : _)
+    → engine.receiving.receive.Reads.Learnt κs (s, (lent i store, (lent j records, (slot, (msg, (seq, (lent k payload, tt))))))) r e
+    → engine.receiving.receive.Reads.Learnt κs′ (s, (lent i′ store, (lent j′ records, (slot, (msg, (seq, (lent k′ payload, tt))))))) r′ e′
+    → (r ≡ r′) × (now (e .1 .0) ≡ now (e′ .1 .0)) × (now (e .1 .1 .0) ≡ now (e′ .1 .1 .0))
+receive κs κs′ s store records slot msg seq payload i i′ j j′ k k′ r r′ e e′ p q = (p .0 ∙ sym (q .0), p .1 .1 .0 ∙ sym (q .1 .1 .0), p .1 .1 .1 ∙ sym (q .1 .1 .1))
 
 -- crates/engine/src/handing_out.rt
-pub showing : (κs κs′ : Lfts 1) (s : State) (store : List ℕ) (i i′ : Place) (r r′ : HandOut) (e : _) (e′ : _)
-    → engine.handing_out.showing.Reads.Learnt κs (s, (lent i store, tt)) r e
-    → engine.handing_out.showing.Reads.Learnt κs′ (s, (lent i′ store, tt)) r′ e′
+pub showing : (κs κs′ : Lfts 2) (s : State) (store records : List ℕ) (i i′ j j′ : Place) (r r′ : HandOut) (e : _) (e′ : _)
+    → engine.handing_out.showing.Reads.Learnt κs (s, (lent i store, (lent j records, tt))) r e
+    → engine.handing_out.showing.Reads.Learnt κs′ (s, (lent i′ store, (lent j′ records, tt))) r′ e′
     → r ≡ r′
-showing κs κs′ s store i i′ r r′ e e′ p q = p .0 ∙ sym (q .0)
+showing κs κs′ s store records i i′ j j′ r r′ e e′ p q = p .0 ∙ sym (q .0)
 
 -- .. and the part that is shown lies at the same place of the store
-pub show : (κs κs′ : Lfts 1) (s : State) (store : List ℕ) (i i′ : Place) (r r′ : RefT (List ℕ)) (e : _) (e′ : _)
-    → engine.handing_out.show.Reads.Learnt κs (s, (lent i store, tt)) r e
-    → engine.handing_out.show.Reads.Learnt κs′ (s, (lent i′ store, tt)) r′ e′
+pub show : (κs κs′ : Lfts 2) (s : State) (store records : List ℕ) (i i′ j j′ : Place) (r r′ : RefT (List ℕ)) (e : _) (e′ : _)
+    → engine.handing_out.show.Reads.Learnt κs (s, (lent i store, (lent j records, tt))) r e
+    → engine.handing_out.show.Reads.Learnt κs′ (s, (lent i′ store, (lent j′ records, tt))) r′ e′
     → (now r ≡ now r′) × (i .ptr ≡ i′ .ptr → r .ptr ≡ r′ .ptr)
-show κs κs′ s store i i′ r r′ e e′ p q = (p .0 ∙ sym (q .0), λ same. p .1 ∙ ap (shownAt s (length store)) same ∙ sym (q .1))
+show κs κs′ s store records i i′ j j′ r r′ e e′ p q = (p .0 ∙ sym (q .0), λ same. p .1 ∙ ap (shownAt s (length store) records) same ∙ sym (q .1))
+
+pub take : (κs κs′ : Lfts 1) (s : State) (records : List ℕ) (i i′ : Place) (r r′ : TakeResult) (e : _) (e′ : _)
+    → engine.handing_out.take.Reads.Learnt κs (s, (lent i records, tt)) r e
+    → engine.handing_out.take.Reads.Learnt κs′ (s, (lent i′ records, tt)) r′ e′
+    → (r ≡ r′) × (now (e .1 .0) ≡ now (e′ .1 .0))
+take κs κs′ s records i i′ r r′ e e′ p q = (p .0 ∙ sym (q .0), p .1 .1 ∙ sym (q .1 .1))
 
 -- crates/engine/src/slowness.rt. Of a call that is lent a run of records the checker makes no `Learnt`. Its promise is its clause
 -- of the source, `ensures-1`, and `slow-says` holds what is quoted of it in `slow` to that clause

@@ -12,12 +12,12 @@ use Rattle.seq.specs.declared.Seq.{Seq}
 use Rattle.msg.specs.declared.reading.Reading.{Reading}
 use Rattle.text.specs.declared.hex.HexRun.{HexRun}
 use Rattle.text.specs.declared.reading.Decimal.{Decimal}
-use Rattle.replaying.specs.declared.session.Replay.{Replay}
+use Rattle.engine.specs.declared.state.State.{State}
 use Rattle.replaying.specs.declared.session.Answered.{Answered}
 use Rattle.replaying.specs.declared.session.Session.{Session}
 use Rattle.replaying.specs.declared.feeding.Fed.{Fed}
 use Rattle.replaying.specs.declared.feeding.Closed.{Closed}
-use Rattle.replaying.specs.Feeding.{carrying, feedOf, feedStore, feedLine, feedOut}
+use Rattle.replaying.specs.Feeding.{carrying, feedOf, feedStore, feedRecords, feedLine, feedOut}
 use Rattle.refusal.specs.declared.Refusal.{Refusal}
 use Rattle.comparing.specs.declared.comparison.Side.{Side}
 use Rattle.comparing.specs.declared.comparison.Compared.{Compared}
@@ -43,14 +43,6 @@ text-hex = (sole, sole, sole)
 -- crates/tiles/src/lib.rt
 pub tiles-lib : Unique tiles.length.Reads.Learnt × Unique tiles.bytes_of.Reads.Learnt
 tiles-lib = (sole, sole)
-
--- crates/replaying/src/session.rt
-pub replaying-session : Unique replaying.session.begin.Reads.Learnt
-replaying-session = sole
-
--- crates/replaying/src/taking.rt
-pub replaying-taking : Unique replaying.taking.end_frame.Reads.Learnt
-replaying-taking = sole
 
 -- crates/comparing/src/listing.rt
 pub comparing-listing :
@@ -122,12 +114,19 @@ pub line-end : (κs κs′ : Lfts 1) (input : List ℕ) (at : ℕ) (i i′ : Pla
     → r ≡ r′
 line-end κs κs′ input at i i′ r r′ e e′ p q = p ∙ sym q
 
--- crates/replaying/src/lines.rt
-pub answer-line : (κs κs′ : Lfts 2) (replay : Replay) (store line : List ℕ) (i i′ j j′ : Place) (r r′ : Answered) (e : _) (e′ : _)
-    → replaying.lines.answer_line.Reads.Learnt κs (replay, (lent i store, (lent j line, tt))) r e
-    → replaying.lines.answer_line.Reads.Learnt κs′ (replay, (lent i′ store, (lent j′ line, tt))) r′ e′
-    → (r ≡ r′) × (now (e .1 .0) ≡ now (e′ .1 .0))
-answer-line κs κs′ replay store line i i′ j j′ r r′ e e′ p q = (p .0 ∙ sym (q .0), p .1 ∙ sym (q .1))
+-- crates/replaying/src/session.rt; `e .0` is the first parameter at exit, the records
+pub begin : (κs κs′ : Lfts 1) (records : List ℕ) (i i′ : Place) (r r′ : Session) (e : _) (e′ : _)
+    → replaying.session.begin.Reads.Learnt κs (lent i records, tt) r e
+    → replaying.session.begin.Reads.Learnt κs′ (lent i′ records, tt) r′ e′
+    → (r ≡ r′) × (now (e .0) ≡ now (e′ .0))
+begin κs κs′ records i i′ r r′ e e′ p q = (p .0 ∙ sym (q .0), p .1 ∙ sym (q .1))
+
+-- crates/replaying/src/taking.rt; `e .1 .1 .0` is the third parameter at exit, the records
+pub end-frame : (κs κs′ : Lfts 1) (number : ℕ) (state : State) (records : List ℕ) (i i′ : Place) (r r′ : Answered) (e : _) (e′ : _)
+    → replaying.taking.end_frame.Reads.Learnt κs (number, (state, (lent i records, tt))) r e
+    → replaying.taking.end_frame.Reads.Learnt κs′ (number, (state, (lent i′ records, tt))) r′ e′
+    → (r ≡ r′) × (now (e .1 .1 .0) ≡ now (e′ .1 .1 .0))
+end-frame κs κs′ number state records i i′ r r′ e e′ p q = (p .0 ∙ sym (q .0), p .1 ∙ sym (q .1))
 
 -- crates/replaying/src/writing.rt; `e .1 .1 .0` is the third parameter at exit, the line's text
 pub write-line : (κs κs′ : Lfts 1) (number : ℕ) (next : Seq) (out : List ℕ) (i i′ : Place) (r r′ : _) (e : _) (e′ : _)
@@ -136,28 +135,32 @@ pub write-line : (κs κs′ : Lfts 1) (number : ℕ) (next : Seq) (out : List �
     → now (e .1 .1 .0) ≡ now (e′ .1 .1 .0)
 write-line κs κs′ number next out i i′ r r′ e e′ p q = p ∙ sym q
 
--- crates/replaying/src/feeding.rt; `e .1 .0` is the store at exit, `e .1 .1 .0` the carried line, `e .1 .1 .1 .1 .0` the text
-pub feed : (κs κs′ : Lfts 4) (session : Session) (store line piece out : List ℕ) (i i′ j j′ k k′ l l′ : Place) (r r′ : Fed) (e : _) (e′ : _)
-    → replaying.feeding.feed.Reads.Learnt κs (session, (lent i store, (lent j line, (lent k piece, (lent l out, tt))))) r e
-    → replaying.feeding.feed.Reads.Learnt κs′ (session, (lent i′ store, (lent j′ line, (lent k′ piece, (lent l′ out, tt))))) r′ e′
+-- crates/replaying/src/feeding.rt; `e .1 .0` is the store at exit, `e .1 .1 .0` the records, `e .1 .1 .1 .0` the carried line,
+-- `e .1 .1 .1 .1 .1 .0` the text
+pub feed : (κs κs′ : Lfts 5) (session : Session) (store records line piece out : List ℕ) (h h′ i i′ j j′ k k′ l l′ : Place) (r r′ : Fed) (e : _) (e′ : _)
+    → replaying.feeding.feed.Reads.Learnt κs (session, (lent h store, (lent i records, (lent j line, (lent k piece, (lent l out, tt)))))) r e
+    → replaying.feeding.feed.Reads.Learnt κs′ (session, (lent h′ store, (lent i′ records, (lent j′ line, (lent k′ piece, (lent l′ out, tt)))))) r′ e′
+    → (r ≡ r′) × (now (e .1 .0) ≡ now (e′ .1 .0)) × (now (e .1 .1 .0) ≡ now (e′ .1 .1 .0)) × (now (e .1 .1 .1 .0) ≡ now (e′ .1 .1 .1 .0))
+    × (now (e .1 .1 .1 .1 .1 .0) ≡ now (e′ .1 .1 .1 .1 .1 .0))
+feed κs κs′ session store records line piece out h h′ i i′ j j′ k k′ l l′ r r′ e e′ p q =
+    (p .0 ∙ sym (q .0), p .1 .0 ∙ sym (q .1 .0), p .1 .1 .0 ∙ sym (q .1 .1 .0), p .1 .1 .1 .0 ∙ sym (q .1 .1 .1 .0), p .1 .1 .1 .1 ∙ sym (q .1 .1 .1 .1))
+
+-- to see what is learnt, on this call: the five `ensures` of the source, word by word
+feed-learnt : (κs : Lfts 5) (session : Session) (store records line piece out : List ℕ) (h i j k l : Place) (r : Fed) (e : _)
+    → replaying.feeding.feed.Reads.Learnt κs (session, (lent h store, (lent i records, (lent j line, (lent k piece, (lent l out, tt)))))) r e
+    ≡ ((r ≡ feedOf (carrying session store records line) piece (length out))
+    × ((now (e .1 .0) ≡ feedStore (carrying session store records line) piece (length out))
+    × ((now (e .1 .1 .0) ≡ feedRecords (carrying session store records line) piece (length out))
+    × ((now (e .1 .1 .1 .0) ≡ feedLine (carrying session store records line) piece (length out))
+    × (now (e .1 .1 .1 .1 .1 .0) ≡ feedOut (carrying session store records line) piece out)))))
+feed-learnt κs session store records line piece out h i j k l r e = refl
+
+pub close : (κs κs′ : Lfts 4) (session : Session) (store records line out : List ℕ) (h h′ i i′ j j′ k k′ : Place) (r r′ : Closed) (e : _) (e′ : _)
+    → replaying.feeding.close.Reads.Learnt κs (session, (lent h store, (lent i records, (lent j line, (lent k out, tt))))) r e
+    → replaying.feeding.close.Reads.Learnt κs′ (session, (lent h′ store, (lent i′ records, (lent j′ line, (lent k′ out, tt))))) r′ e′
     → (r ≡ r′) × (now (e .1 .0) ≡ now (e′ .1 .0)) × (now (e .1 .1 .0) ≡ now (e′ .1 .1 .0)) × (now (e .1 .1 .1 .1 .0) ≡ now (e′ .1 .1 .1 .1 .0))
-feed κs κs′ session store line piece out i i′ j j′ k k′ l l′ r r′ e e′ p q =
+close κs κs′ session store records line out h h′ i i′ j j′ k k′ r r′ e e′ p q =
     (p .0 ∙ sym (q .0), p .1 .0 ∙ sym (q .1 .0), p .1 .1 .0 ∙ sym (q .1 .1 .0), p .1 .1 .1 ∙ sym (q .1 .1 .1))
-
--- to see what is learnt, on this call: the four `ensures` of the source, word by word
-feed-learnt : (κs : Lfts 4) (session : Session) (store line piece out : List ℕ) (i j k l : Place) (r : Fed) (e : _)
-    → replaying.feeding.feed.Reads.Learnt κs (session, (lent i store, (lent j line, (lent k piece, (lent l out, tt))))) r e
-    ≡ ((r ≡ feedOf (carrying session store line) piece (length out))
-    × ((now (e .1 .0) ≡ feedStore (carrying session store line) piece (length out))
-    × ((now (e .1 .1 .0) ≡ feedLine (carrying session store line) piece (length out))
-    × (now (e .1 .1 .1 .1 .0) ≡ feedOut (carrying session store line) piece out))))
-feed-learnt κs session store line piece out i j k l r e = refl
-
-pub close : (κs κs′ : Lfts 3) (session : Session) (store line out : List ℕ) (i i′ j j′ k k′ : Place) (r r′ : Closed) (e : _) (e′ : _)
-    → replaying.feeding.close.Reads.Learnt κs (session, (lent i store, (lent j line, (lent k out, tt)))) r e
-    → replaying.feeding.close.Reads.Learnt κs′ (session, (lent i′ store, (lent j′ line, (lent k′ out, tt)))) r′ e′
-    → (r ≡ r′) × (now (e .1 .0) ≡ now (e′ .1 .0)) × (now (e .1 .1 .1 .0) ≡ now (e′ .1 .1 .1 .0))
-close κs κs′ session store line out i i′ j j′ k k′ r r′ e e′ p q = (p .0 ∙ sym (q .0), p .1 .0 ∙ sym (q .1 .0), p .1 .1 ∙ sym (q .1 .1))
 
 -- crates/comparing/src/comparison.rt; `e .1 .1 .0` is the list at exit
 pub compare : (κs κs′ : Lfts 3) (first second list : List ℕ) (i i′ j j′ k k′ : Place) (r r′ : Compared) (e : _) (e′ : _)

@@ -16,8 +16,9 @@ use Rattle.recording.specs.Lines.{untilFeed}
 use Rattle.replaying.specs.declared.session.Session.{Session}
 use Rattle.replaying.specs.declared.session.Answered.{Answered}
 use Rattle.replaying.specs.declared.feeding.Fed.{Fed}
+use Rattle.replaying.specs.Line.{left}
 use Rattle.replaying.specs.Writing.{LINE_TEXT}
-use Rattle.replaying.specs.Feeding.{Carrying, carrying, carryingWith, toldOf, sessionOf, lineAnswer, lineStore, lineEnded, byteFed, fedBy, carriedLine, carriedCount, usedOf, fedIn, feedOf, feedStore, feedLine, feedOut, startingWith, saidBy, said-short, fed-append, carry-byte, until-carried}
+use Rattle.replaying.specs.Feeding.{Carrying, carrying, carryingWith, toldOf, sessionOf, lineLeft, leftOf, lineEnded, byteFed, fedBy, carriedLine, carriedCount, usedOf, fedIn, feedOf, feedStore, feedRecords, feedLine, feedOut, startingWith, saidBy, said-short, fed-append, carry-byte, until-carried}
 
 -- the bytes up to and with the next line feed, or all where there is none
 unfoldable pub throughFeed : List ℕ → List ℕ
@@ -25,16 +26,16 @@ throughFeed [] = []
 throughFeed (b ∷ rest) = cond (eqb b 10) (b ∷ []) (b ∷ throughFeed rest)
 
 -- from where a call got to in a piece
-unfoldable pub lineFed : Fed → List ℕ → List ℕ → List ℕ → Carrying
+unfoldable pub lineFed : Fed → (store records line piece : List ℕ) → Carrying
 unfolding fedBy throughFeed
-lineFed fed store line piece = fedBy (carrying (fed .session) store line) (throughFeed (drop (fed .used) piece))
+lineFed fed store records line piece = fedBy (carrying (fed .session) store records line) (throughFeed (drop (fed .used) piece))
 
-unfoldable pub lineOf : Fed → List ℕ → List ℕ → List ℕ → Fed
+unfoldable pub lineOf : Fed → (store records line piece : List ℕ) → Fed
 unfolding lineFed throughFeed
-lineOf fed store line piece = record {
-  session = sessionOf (lineFed fed store line piece);
+lineOf fed store records line piece = record {
+  session = sessionOf (lineFed fed store records line piece);
   used = fed .used + length (throughFeed (drop (fed .used) piece));
-  wrote = fed .wrote + length (lineFed fed store line piece .told .text);
+  wrote = fed .wrote + length (lineFed fed store records line piece .told .text);
 }
 
 abbrev pub fedAs : Session → ℕ → ℕ → Fed
@@ -70,25 +71,25 @@ through-split (b ∷ rest) =
     rw u (ap (λ l. b ∷ l) (through-split rest)))
 
 -- a piece without a line feed from there on, and one with
-module _ (fed : Fed) (store line piece : List ℕ) where
+module _ (fed : Fed) (store records line piece : List ℕ) where
   abbrev until : List ℕ
   until = untilFeed (drop (fed .used) piece)
 
   abbrev pub gathered : Carrying
-  gathered = carryingWith (carrying (fed .session) store line .told) (carriedLine line (fed .session .count) until) (carriedCount (fed .session .count) until)
+  gathered = carryingWith (carrying (fed .session) store records line .told) (carriedLine line (fed .session .count) until) (carriedCount (fed .session .count) until)
 
-  pub fed-open : length piece ≤ fed .used + length until → lineFed fed store line piece ≡ gathered
+  pub fed-open : length piece ≤ fed .used + length until → lineFed fed store records line piece ≡ gathered
   unfolding lineFed
   fed-open h =
-      ap (fedBy (carrying (fed .session) store line)) (through-open (drop (fed .used) piece) (simp length-drop (omega arith)))
-      ∙ until-carried (carrying (fed .session) store line .told) line (fed .session .count) (drop (fed .used) piece)
+      ap (fedBy (carrying (fed .session) store records line)) (through-open (drop (fed .used) piece) (simp length-drop (omega arith)))
+      ∙ until-carried (carrying (fed .session) store records line .told) line (fed .session .count) (drop (fed .used) piece)
 
-  pub fed-ended : fed .used + length until < length piece → lineFed fed store line piece ≡ lineEnded gathered
+  pub fed-ended : fed .used + length until < length piece → lineFed fed store records line piece ≡ lineEnded gathered
   unfolding lineFed fedBy byteFed
   fed-ended h =
-      ap (fedBy (carrying (fed .session) store line)) (through-ended (drop (fed .used) piece) (simp length-drop (omega arith)))
-      ∙ fed-append (carrying (fed .session) store line) until (10 ∷ [])
-      ∙ ap (λ c. byteFed c 10) (until-carried (carrying (fed .session) store line .told) line (fed .session .count) (drop (fed .used) piece))
+      ap (fedBy (carrying (fed .session) store records line)) (through-ended (drop (fed .used) piece) (simp length-drop (omega arith)))
+      ∙ fed-append (carrying (fed .session) store records line) until (10 ∷ [])
+      ∙ ap (λ c. byteFed c 10) (until-carried (carrying (fed .session) store records line .told) line (fed .session .count) (drop (fed .used) piece))
 
   pub place-open : length piece ≤ fed .used + length until → fed .used + length (throughFeed (drop (fed .used) piece)) ≡ fed .used + length until
   place-open h = ap (λ l. fed .used + length l) (through-open (drop (fed .used) piece) (simp length-drop (omega arith)))
@@ -99,12 +100,12 @@ module _ (fed : Fed) (store line piece : List ℕ) where
       ∙ simp length-append (omega arith)
 
 -- what a step answers and leaves, by what its parts answer and leave
-abbrev pub Step : (fed : Fed) (store line piece out : List ℕ) (f : Fed) (store′ line′ out′ : List ℕ) → Type 0
-Step fed store line piece out f store′ line′ out′ =
-    (f ≡ lineOf fed store line piece)
-    × ((store′ ≡ lineFed fed store line piece .told .store)
-    × ((line′ ≡ lineFed fed store line piece .line)
-    × (out′ ≡ putIn (lineFed fed store line piece .told .text) out (fed .wrote))))
+pub record Step (fed : Fed) (store records line piece out : List ℕ) (f : Fed) (store′ records′ line′ out′ : List ℕ) : Type 0 where
+  pub answer : f ≡ lineOf fed store records line piece
+  pub stored : store′ ≡ lineFed fed store records line piece .told .store
+  pub recorded : records′ ≡ lineFed fed store records line piece .told .records
+  pub carried : line′ ≡ lineFed fed store records line piece .line
+  pub put : out′ ≡ putIn (lineFed fed store records line piece .told .text) out (fed .wrote)
 
 pub put-nothing : (out : List ℕ) (at : ℕ) → (at ≡ at + length {A = ℕ} []) × (out ≡ putIn [] out at)
 unfolding hasRoom putIn
@@ -122,60 +123,55 @@ put-start run out h =
     let k : 0 + length run ≡ length run = zero-add (length run) in
     rw k (simp (le-leb (length run) (length out) h))
 
-module _ (fed : Fed) (store line piece out : List ℕ) {C P : ℕ} {L : List ℕ}
-    (counted : C ≡ gathered fed store line piece .count) (placed : P ≡ fed .used + length (untilFeed (drop (fed .used) piece)))
-    (held : L ≡ gathered fed store line piece .line) where
-  pub line-open : length piece ≤ P → Step fed store line piece out (fedAs (record { replay = fed .session .replay; count = C }) P (fed .wrote)) store L out
+module _ (fed : Fed) (store records line piece out : List ℕ) {C P : ℕ} {L : List ℕ}
+    (counted : C ≡ gathered fed store records line piece .count) (placed : P ≡ fed .used + length (untilFeed (drop (fed .used) piece)))
+    (held : L ≡ gathered fed store records line piece .line) where
+  pub line-open : length piece ≤ P → Step fed store records line piece out (fedAs (record { replay = fed .session .replay; count = C }) P (fed .wrote)) store records L out
   unfolding lineOf
   line-open h =
-      let e = fed-open fed store line piece (rw placed at h) in
-      let p = place-open fed store line piece (rw placed at h) in
-      let nothing = put-nothing out (fed .wrote) in (
-        ap (λ n. fedAs (record { replay = fed .session .replay; count = n }) P (fed .wrote)) counted
-            ∙ ap (λ n. fedAs (sessionOf (gathered fed store line piece)) n (fed .wrote)) (placed ∙ sym p)
-            ∙ ap (fedAs (sessionOf (gathered fed store line piece)) _) (nothing .0)
-            ∙ sym (ap (λ x. fedAs (sessionOf x) (fed .used + length (throughFeed (drop (fed .used) piece))) (fed .wrote + length (x .told .text))) e),
-        (
-          sym (ap (λ x. x .told .store) e),
-          (
-            held ∙ sym (ap (λ x. x .line) e),
-            nothing .1 ∙ sym (ap (λ x. putIn (x .told .text) out (fed .wrote)) e),
-          ),
-        ),
-      )
+      let e = fed-open fed store records line piece (rw placed at h) in
+      let p = place-open fed store records line piece (rw placed at h) in
+      let nothing = put-nothing out (fed .wrote) in
+      record {
+        answer = ap (λ n. fedAs (record { replay = fed .session .replay; count = n }) P (fed .wrote)) counted
+            ∙ ap (λ n. fedAs (sessionOf (gathered fed store records line piece)) n (fed .wrote)) (placed ∙ sym p)
+            ∙ ap (fedAs (sessionOf (gathered fed store records line piece)) _) (nothing .0)
+            ∙ sym (ap (λ x. fedAs (sessionOf x) (fed .used + length (throughFeed (drop (fed .used) piece))) (fed .wrote + length (x .told .text))) e);
+        stored = sym (ap (λ x. x .told .store) e);
+        recorded = sym (ap (λ x. x .told .records) e);
+        carried = held ∙ sym (ap (λ x. x .line) e);
+        put = nothing .1 ∙ sym (ap (λ x. putIn (x .told .text) out (fed .wrote)) e);
+      }
 
-  pub line-ended : {a : Answered} {store′ out′ : List ℕ} {W : ℕ} → P < length piece → a ≡ lineAnswer (fed .session .replay) (length store) L C → store′ ≡ lineStore (fed .session .replay) store L C
+  pub line-ended : {a : Answered} {store′ records′ out′ : List ℕ} {W : ℕ} → P < length piece → left a store′ records′ ≡ lineLeft (fed .session .replay) store records L C
       → W ≡ fed .wrote + length (saidBy (a .answer)) → out′ ≡ putIn (saidBy (a .answer)) out (fed .wrote)
-      → Step fed store line piece out (fedAs (record { replay = a .replay; count = 0 }) (P + 1) W) store′ L out′
+      → Step fed store records line piece out (fedAs (record { replay = a .replay; count = 0 }) (P + 1) W) store′ records′ L out′
   unfolding lineOf lineEnded
-  line-ended h said stored wrote put =
-      let e = fed-ended fed store line piece (rw placed at h) in
-      let p = place-ended fed store line piece (rw placed at h) in
-      let G = gathered fed store line piece in
-      let full = said ∙ ap (λ l. lineAnswer (fed .session .replay) (length store) l C) held ∙ ap (lineAnswer (fed .session .replay) (length store) (G .line)) counted in (
-        ap (fedAs _ (P + 1)) wrote
-            ∙ ap (λ x. fedAs (record { replay = x .replay; count = 0 }) (P + 1) (fed .wrote + length (saidBy (x .answer)))) full
+  line-ended h said wrote put =
+      let e = fed-ended fed store records line piece (rw placed at h) in
+      let p = place-ended fed store records line piece (rw placed at h) in
+      let G = gathered fed store records line piece in
+      let full = said ∙ ap (λ l. lineLeft (fed .session .replay) store records l C) held ∙ ap (lineLeft (fed .session .replay) store records (G .line)) counted in
+      record {
+        answer = ap (fedAs _ (P + 1)) wrote
+            ∙ ap (λ x. fedAs (record { replay = x .said .replay; count = 0 }) (P + 1) (fed .wrote + length (saidBy (x .said .answer)))) full
             ∙ ap (λ n. fedAs (sessionOf (lineEnded G)) n (fed .wrote + length (lineEnded G .told .text))) (ap (λ n. n + 1) placed ∙ sym p)
-            ∙ sym (ap (λ x. fedAs (sessionOf x) (fed .used + length (throughFeed (drop (fed .used) piece))) (fed .wrote + length (x .told .text))) e),
-        (
-          stored ∙ ap (λ l. lineStore (fed .session .replay) store l C) held ∙ ap (lineStore (fed .session .replay) store (G .line)) counted ∙ sym (ap (λ x. x .told .store) e),
-          (
-            held ∙ sym (ap (λ x. x .line) e),
-            put ∙ ap (λ x. putIn (saidBy (x .answer)) out (fed .wrote)) full ∙ sym (ap (λ x. putIn (x .told .text) out (fed .wrote)) e),
-          ),
-        ),
-      )
+            ∙ sym (ap (λ x. fedAs (sessionOf x) (fed .used + length (throughFeed (drop (fed .used) piece))) (fed .wrote + length (x .told .text))) e);
+        stored = ap (λ x. x .store) full ∙ sym (ap (λ x. x .told .store) e);
+        recorded = ap (λ x. x .records) full ∙ sym (ap (λ x. x .told .records) e);
+        carried = held ∙ sym (ap (λ x. x .line) e);
+        put = put ∙ ap (λ x. putIn (saidBy (x .said .answer)) out (fed .wrote)) full ∙ sym (ap (λ x. putIn (x .told .text) out (fed .wrote)) e);
+      }
 
 -- the same with a text before what it writes
 abbrev pub behind : List ℕ → Carrying → Carrying
-behind text c = carryingWith (toldOf (c .told .replay) (c .told .store) (text ++ c .told .text)) (c .line) (c .count)
+behind text c = carryingWith (toldOf (c .told .replay) (c .told .store) (c .told .records) (text ++ c .told .text)) (c .line) (c .count)
 
 behind-ended : (text : List ℕ) (c : Carrying) → lineEnded (behind text c) ≡ behind text (lineEnded c)
 unfolding lineEnded
 behind-ended text c =
-    let a = lineAnswer (c .told .replay) (length (c .told .store)) (c .line) (c .count) in
-    ap (λ t. carryingWith (toldOf (a .replay) (lineStore (c .told .replay) (c .told .store) (c .line) (c .count)) t) (c .line) 0)
-    (append-assoc text (c .told .text) (saidBy (a .answer)))
+    let l = leftOf c in
+    ap (λ t. carryingWith (toldOf (l .said .replay) (l .store) (l .records) t) (c .line) 0) (append-assoc text (c .told .text) (saidBy (l .said .answer)))
 
 behind-byte : (text : List ℕ) (c : Carrying) (b : ℕ) → byteFed (behind text c) b ≡ behind text (byteFed c b)
 unfolding byteFed
@@ -215,31 +211,31 @@ used-within c (b ∷ rest) room =
     (λ f. simp f (omega arith))
 
 -- a step writes one line at most
-line-text : (fed : Fed) (store line piece : List ℕ) → length (lineFed fed store line piece .told .text) ≤ LINE_TEXT
+line-text : (fed : Fed) (store records line piece : List ℕ) → length (lineFed fed store records line piece .told .text) ≤ LINE_TEXT
 unfolding lineEnded
-line-text fed store line piece =
+line-text fed store records line piece =
     cases (leb (length piece) (fed .used + length (untilFeed (drop (fed .used) piece))))
-    (λ t. rw (fed-open fed store line piece (leb-true _ _ t)) (omega arith))
+    (λ t. rw (fed-open fed store records line piece (leb-true _ _ t)) (omega arith))
     (λ f.
-    let a = lineAnswer (fed .session .replay) (length store) (gathered fed store line piece .line) (gathered fed store line piece .count) in
-    rw (fed-ended fed store line piece (leb-false _ _ f)) (said-short (a .answer)))
+    let l = leftOf (gathered fed store records line piece) in
+    rw (fed-ended fed store records line piece (leb-false _ _ f)) (said-short (l .said .answer)))
 
 -- ---- the loop
 
 -- where a call stands that has used so much of a piece, and written so much to a buffer: it stands where those bytes lead, and of the
 -- buffer only what it wrote has changed
-pub record Going (c : Carrying) (piece out₀ : List ℕ) (fed : Fed) (store line out : List ℕ) : Type 0 where
-  pub same : behind (take (fed .wrote) out) (carrying (fed .session) store line) ≡ fedBy c (take (fed .used) piece)
+pub record Going (c : Carrying) (piece out₀ : List ℕ) (fed : Fed) (store records line out : List ℕ) : Type 0 where
+  pub same : behind (take (fed .wrote) out) (carrying (fed .session) store records line) ≡ fedBy c (take (fed .used) piece)
   pub rest : usedOf c piece (length out₀) ≡ fed .used + usedOf (fedBy c (take (fed .used) piece)) (drop (fed .used) piece) (length out₀)
   pub free : drop (fed .wrote) out ≡ drop (fed .wrote) out₀
   pub sized : length out ≡ length out₀
   pub fits : fed .wrote ≤ length out
 
-pub going-begins : (session : Session) (store line piece out : List ℕ) → Going (carrying session store line) piece out (fedAs session 0 0) store line out
+pub going-begins : (session : Session) (store records line piece out : List ℕ) → Going (carrying session store records line) piece out (fedAs session 0 0) store records line out
 unfolding fedBy
-going-begins session store line piece out = record { same = refl; rest = sym (zero-add _); free = refl; sized = refl; fits = omega arith }
+going-begins session store records line piece out = record { same = refl; rest = sym (zero-add _); free = refl; sized = refl; fits = omega arith }
 
-module _ (c : Carrying) (piece out₀ : List ℕ) (fed : Fed) (store line out : List ℕ) (g : Going c piece out₀ fed store line out) where
+module _ (c : Carrying) (piece out₀ : List ℕ) (fed : Fed) (store records line out : List ℕ) (g : Going c piece out₀ fed store records line out) where
   -- the text that is written
   text-is : fedBy c (take (fed .used) piece) .told .text ≡ take (fed .wrote) out
   text-is = sym (ap (λ x. x .told .text) (g .same)) ∙ append-nil (take (fed .wrote) out)
@@ -250,7 +246,7 @@ module _ (c : Carrying) (piece out₀ : List ℕ) (fed : Fed) (store line out : 
   -- one step more
   module _ (room : fed .wrote + LINE_TEXT ≤ length out) where
     abbrev L : Carrying
-    L = lineFed fed store line piece
+    L = lineFed fed store records line piece
 
     abbrev through : List ℕ
     through = throughFeed (drop (fed .used) piece)
@@ -264,7 +260,7 @@ module _ (c : Carrying) (piece out₀ : List ℕ) (fed : Fed) (store line out : 
     put-out : putIn (L .told .text) out (fed .wrote) ≡ front ++ drop wrote out
     unfolding putIn hasRoom
     put-out =
-        let t = le-leb wrote (length out) (omega (arith, line-text fed store line piece)) in
+        let t = le-leb wrote (length out) (omega (arith, line-text fed store records line piece)) in
         simp t (sym (append-assoc (take (fed .wrote) out) (L .told .text) (drop wrote out)))
 
     front-length : length front ≡ wrote
@@ -279,19 +275,19 @@ module _ (c : Carrying) (piece out₀ : List ℕ) (fed : Fed) (store line out : 
         ap (fedBy c) (take-add (fed .used) (length through) piece ∙ ap (λ l. take (fed .used) piece ++ l) through-taken)
         ∙ fed-append c (take (fed .used) piece) through
         ∙ ap (λ x. fedBy x through) (sym (g .same))
-        ∙ behind-fed (take (fed .wrote) out) (carrying (fed .session) store line) through
+        ∙ behind-fed (take (fed .wrote) out) (carrying (fed .session) store records line) through
 
-    going-on : Going c piece out₀ (lineOf fed store line piece) (L .told .store) (L .line) (putIn (L .told .text) out (fed .wrote))
+    going-on : Going c piece out₀ (lineOf fed store records line piece) (L .told .store) (L .told .records) (L .line) (putIn (L .told .text) out (fed .wrote))
     unfolding lineOf
     going-on =
         let taken : take wrote (putIn (L .told .text) out (fed .wrote)) ≡ front = ap (take wrote) put-out ∙ take-at front (drop wrote out) wrote front-length in
         let left : drop wrote (putIn (L .told .text) out (fed .wrote)) ≡ drop wrote out = ap (drop wrote) put-out ∙ drop-at front (drop wrote out) wrote front-length in
         let size : length (putIn (L .told .text) out (fed .wrote)) ≡ length out =
-        ap length put-out ∙ length-append front (drop wrote out) ∙ (let k = front-length in let d = length-drop wrote out in let few = line-text fed store line piece in omega arith)
+        ap length put-out ∙ length-append front (drop wrote out) ∙ (let k = front-length in let d = length-drop wrote out in let few = line-text fed store records line piece in omega arith)
         in
         record {
-          same = ap (λ t. carryingWith (toldOf (L .told .replay) (L .told .store) (t ++ [])) (L .line) (L .count)) taken
-              ∙ ap (λ t. carryingWith (toldOf (L .told .replay) (L .told .store) t) (L .line) (L .count)) (append-nil front)
+          same = ap (λ t. carryingWith (toldOf (L .told .replay) (L .told .store) (L .told .records) (t ++ [])) (L .line) (L .count)) taken
+              ∙ ap (λ t. carryingWith (toldOf (L .told .replay) (L .told .store) (L .told .records) t) (L .line) (L .count)) (append-nil front)
               ∙ sym fed-on;
           rest =
               let more = used-line (fedBy c (take (fed .used) piece)) (drop (fed .used) piece) (length out₀) (rw text-length (omega (arith, g .sized))) in
@@ -303,11 +299,11 @@ module _ (c : Carrying) (piece out₀ : List ℕ) (fed : Fed) (store line out : 
               ∙ omega arith;
           free = left ∙ sym (drop-drop (length (L .told .text)) (fed .wrote) out) ∙ ap (drop (length (L .told .text))) (g .free) ∙ drop-drop (length (L .told .text)) (fed .wrote) out₀;
           sized = size ∙ g .sized;
-          fits = omega (arith, size, line-text fed store line piece);
+          fits = omega (arith, size, line-text fed store records line piece);
         }
 
-    pub going-step : {f : Fed} {store′ line′ out′ : List ℕ} → Step fed store line piece out f store′ line′ out′ → Going c piece out₀ f store′ line′ out′
-    going-step e = rw (e .0, e .1 .0, e .1 .1 .0, e .1 .1 .1) going-on
+    pub going-step : {f : Fed} {store′ records′ line′ out′ : List ℕ} → Step fed store records line piece out f store′ records′ line′ out′ → Going c piece out₀ f store′ records′ line′ out′
+    going-step e = rw (e .answer, e .stored, e .recorded, e .carried, e .put) going-on
 
   -- the end: nothing of the piece is left, or no room for a line
   all-used : length piece ≤ fed .used → usedOf c piece (length out₀) ≡ fed .used
@@ -325,24 +321,28 @@ module _ (c : Carrying) (piece out₀ : List ℕ) (fed : Fed) (store line out : 
   Promised =
       (fed ≡ feedOf c piece (length out₀))
       × ((store ≡ feedStore c piece (length out₀))
+      × ((records ≡ feedRecords c piece (length out₀))
       × ((line ≡ feedLine c piece (length out₀))
-      × (out ≡ feedOut c piece out₀)))
+      × (out ≡ feedOut c piece out₀))))
 
   going-ends : usedOf c piece (length out₀) ≡ fed .used → Promised
   unfolding feedOf fedIn feedOut
   going-ends u =
-      let e : fedBy c (take (usedOf c piece (length out₀)) piece) ≡ behind (take (fed .wrote) out) (carrying (fed .session) store line) = ap (λ n. fedBy c (take n piece)) u ∙ sym (g .same) in
+      let e : fedBy c (take (usedOf c piece (length out₀)) piece) ≡ behind (take (fed .wrote) out) (carrying (fed .session) store records line) = ap (λ n. fedBy c (take n piece)) u ∙ sym (g .same) in
       let w : length (take (fed .wrote) out ++ []) ≡ fed .wrote = ap length (append-nil (take (fed .wrote) out)) ∙ length-take-le (fed .wrote) out (g .fits) in (
         sym (ap (λ x. fedAs (sessionOf x) (usedOf c piece (length out₀)) (length (x .told .text))) e ∙ ap (λ n. fedAs (fed .session) n (length (take (fed .wrote) out ++ []))) u ∙ ap (fedAs (fed .session) (fed .used)) w),
         (
           sym (ap (λ x. x .told .store) e),
           (
-            sym (ap (λ x. x .line) e),
-            sym (ap (λ x. startingWith (x .told .text) out₀) e
-                ∙ ap (λ n. (take (fed .wrote) out ++ []) ++ drop n out₀) w
-                ∙ ap (λ l. (take (fed .wrote) out ++ []) ++ l) (sym (g .free))
-                ∙ ap (λ l. l ++ drop (fed .wrote) out) (append-nil (take (fed .wrote) out))
-                ∙ take-append-drop (fed .wrote) out),
+            sym (ap (λ x. x .told .records) e),
+            (
+              sym (ap (λ x. x .line) e),
+              sym (ap (λ x. startingWith (x .told .text) out₀) e
+                  ∙ ap (λ n. (take (fed .wrote) out ++ []) ++ drop n out₀) w
+                  ∙ ap (λ l. (take (fed .wrote) out ++ []) ++ l) (sym (g .free))
+                  ∙ ap (λ l. l ++ drop (fed .wrote) out) (append-nil (take (fed .wrote) out))
+                  ∙ take-append-drop (fed .wrote) out),
+            ),
           ),
         ),
       )

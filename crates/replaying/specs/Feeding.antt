@@ -1,7 +1,7 @@
 -- Document 01, "The replay program", over input that comes in pieces, by request [2] of document 02: a step for each byte. Assumes
 -- nothing.
 use mathlib.Core.Path.{_≡_, refl, _∙_, ap}
-use mathlib.Core.Bool.{Bool, true, false, cond}
+use mathlib.Core.Bool.{false, cond}
 use mathlib.Core.List.{List, [], _∷_, _++_}
 use Prim.Native.Nat.{ℕ, suc, _+_, _≤_, _<_}
 use native.Mathlib.Omega.{arith}
@@ -13,18 +13,17 @@ use Rattle.recording.specs.Frames.{MAX_LINE}
 use Rattle.recording.specs.Lines.{untilFeed}
 use Rattle.seq.specs.declared.Seq.{Seq}
 use Rattle.msg.specs.declared.reliable.ReliableMsg.{ReliableMsg}
-use Rattle.engine.specs.declared.state.State.{State}
 use Rattle.replaying.specs.declared.session.Waiting.{Waiting}
 use Rattle.replaying.specs.declared.session.Waiting.the-variants.{Frame, Payload}
 use Rattle.replaying.specs.declared.session.Answer.{Answer}
 use Rattle.replaying.specs.declared.session.Answer.the-variants.{Nothing, Line}
 use Rattle.replaying.specs.declared.session.Replay.{Replay}
-use Rattle.replaying.specs.declared.session.Answered.{Answered}
 use Rattle.replaying.specs.declared.session.Session.{Session}
 use Rattle.replaying.specs.declared.feeding.Fed.{Fed}
 use Rattle.replaying.specs.declared.feeding.Closed.{Closed}
-use Rattle.replaying.specs.Taking.{ended}
-use Rattle.replaying.specs.Line.{received, awaited, answerOf, storeOf, every-answer}
+use Rattle.replaying.specs.Session.{begun, begunRecords}
+use Rattle.replaying.specs.Taking.{recorded, withoutAll, ended}
+use Rattle.replaying.specs.Line.{Left, left, endedWith, received, awaited, answerOf, every-answer}
 use Rattle.replaying.specs.Writing.{LINE_TEXT, textOf}
 
 -- the text that an answer writes: none, or a line
@@ -32,10 +31,11 @@ abbrev pub saidBy : Answer → List ℕ
 saidBy Nothing = []
 saidBy (Line number next) = textOf number (next .0)
 
--- a replay with its received store, and the text written so far
+-- a replay with its received store and its records, and the text written so far
 pub record Told : Type 0 where
   pub replay : Replay
   pub store : List ℕ
+  pub records : List ℕ
   pub text : List ℕ
 
 -- and with the unfinished line: a lent buffer of 2,080 bytes, and how many of them are the line's. A count above 2,080 says that the
@@ -46,12 +46,16 @@ pub record Carrying : Type 0 where
   pub count : ℕ
 
 -- a session with what is lent to it, before a call has written anything
-abbrev pub carrying : Session → List ℕ → List ℕ → Carrying
-carrying s store line = record {
-  told = record { replay = s .replay; store = store; text = [] };
+abbrev pub carrying : Session → (store records line : List ℕ) → Carrying
+carrying s store records line = record {
+  told = record { replay = s .replay; store = store; records = records; text = [] };
   line = line;
   count = s .count;
 }
+
+-- .. and one that begins
+abbrev pub begunWith : (store records line : List ℕ) → Carrying
+begunWith store records line = carrying (begun (length records)) store (begunRecords records) line
 
 abbrev pub sessionOf : Carrying → Session
 sessionOf c = record { replay = c .told .replay; count = c .count }
@@ -75,26 +79,27 @@ carriedCount count [] = count
 carriedCount count (b ∷ rest) = carriedCount (countWith count) rest
 
 -- "A longer line is dropped to its end and answered once as a bad line."
-unfoldable pub lineAnswer : Replay → ℕ → List ℕ → ℕ → Answered
-unfolding answerOf ended
-lineAnswer r store line count = cond (leb count MAX_LINE) (answerOf r store (take count line)) (ended 20 (r .state))
+unfoldable pub lineLeft : Replay → (store records line : List ℕ) → ℕ → Left
+unfolding answerOf ended withoutAll
+lineLeft r store records line count =
+    cond (leb count MAX_LINE) (answerOf r store records (take count line)) (endedWith 20 (recorded (r .state) records) store)
 
-unfoldable pub lineStore : Replay → List ℕ → List ℕ → ℕ → List ℕ
-unfolding storeOf
-lineStore r store line count = cond (leb count MAX_LINE) (storeOf r store (take count line)) store
+-- what is told once this is left, behind a text
+abbrev pub toldAfter : List ℕ → Left → Told
+toldAfter text l = record {
+  replay = l .said .replay;
+  store = l .store;
+  records = l .records;
+  text = text ++ saidBy (l .said .answer);
+}
 
 -- the end of the carried line
+abbrev pub leftOf : Carrying → Left
+leftOf c = lineLeft (c .told .replay) (c .told .store) (c .told .records) (c .line) (c .count)
+
 unfoldable pub lineEnded : Carrying → Carrying
-unfolding lineAnswer lineStore
-lineEnded c = record {
-  told = record {
-    replay = lineAnswer (c .told .replay) (length (c .told .store)) (c .line) (c .count) .replay;
-    store = lineStore (c .told .replay) (c .told .store) (c .line) (c .count);
-    text = c .told .text ++ saidBy (lineAnswer (c .told .replay) (length (c .told .store)) (c .line) (c .count) .answer);
-  };
-  line = c .line;
-  count = 0;
-}
+unfolding lineLeft
+lineEnded c = record { told = toldAfter (c .told .text) (leftOf c); line = c .line; count = 0 }
 
 -- one byte: a line feed ends the line, any other byte is carried
 unfoldable pub byteFed : Carrying → ℕ → Carrying
@@ -132,6 +137,9 @@ feedOf c piece room = record {
 abbrev pub feedStore : Carrying → List ℕ → ℕ → List ℕ
 feedStore c piece room = fedIn c piece room .told .store
 
+abbrev pub feedRecords : Carrying → List ℕ → ℕ → List ℕ
+feedRecords c piece room = fedIn c piece room .told .records
+
 abbrev pub feedLine : Carrying → List ℕ → ℕ → List ℕ
 feedLine c piece room = fedIn c piece room .line
 
@@ -144,35 +152,37 @@ unfolding fedIn
 feedOut c piece out = startingWith (fedIn c piece (length out) .told .text) out
 
 -- "a bad or absent payload .. gives hex 14": at the end of the input no payload is to come
-abbrev pub absentAs : Waiting → State → Answered → Answered
-absentAs Frame s a = a
-absentAs (Payload seq) s a = ended 20 s
+abbrev pub absentAs : Waiting → Left → Left
+absentAs Frame l = l
+absentAs (Payload seq) l = endedWith 20 (recorded (l .said .replay .state) (l .records)) (l .store)
 
-unfoldable pub absentOf : Answered → Answered
-unfolding ended
-absentOf a = absentAs (a .replay .waiting) (a .replay .state) a
+unfoldable pub absentOf : Left → Left
+unfolding ended withoutAll
+absentOf l = absentAs (l .said .replay .waiting) l
+
+-- what is told, with nothing said
+abbrev pub silent : Told → Left
+silent t = left (record { answer = Nothing; replay = t .replay }) (t .store) (t .records)
 
 -- "Only a closing call accepts a last line without a line feed."
-abbrev pub lastLine : Bool → Carrying → Answered
-lastLine true c = record { answer = Nothing; replay = c .told .replay }
-lastLine false c = lineAnswer (c .told .replay) (length (c .told .store)) (c .line) (c .count)
+unfoldable pub lastLine : Carrying → Left
+unfolding lineLeft
+lastLine c = cond (eqb (c .count) 0) (silent (c .told)) (leftOf c)
 
-unfoldable pub lastOf : Carrying → Answered
-unfolding absentOf lineAnswer
-lastOf c = absentOf (lastLine (eqb (c .count) 0) c)
+unfoldable pub lastOf : Carrying → Left
+unfolding absentOf lastLine
+lastOf c = absentOf (lastLine c)
 
-unfoldable pub closeStore : Carrying → List ℕ
-unfolding lineStore
-closeStore c = cond (eqb (c .count) 0) (c .told .store) (lineStore (c .told .replay) (c .told .store) (c .line) (c .count))
+abbrev pub closeStore : Carrying → List ℕ
+closeStore c = lastOf c .store
+
+abbrev pub closeRecords : Carrying → List ℕ
+closeRecords c = lastOf c .records
 
 -- what closing leads to
 unfoldable pub closed : Carrying → Told
-unfolding lastOf closeStore
-closed c = record {
-  replay = lastOf c .replay;
-  store = closeStore c;
-  text = c .told .text ++ saidBy (lastOf c .answer);
-}
+unfolding lastOf
+closed c = toldAfter (c .told .text) (lastOf c)
 
 abbrev pub closedAs : Replay → ℕ → Closed
 closedAs r wrote = record { session = record { replay = r; count = 0 }; wrote = wrote }
@@ -193,8 +203,8 @@ unfolding fedBy
 fed-append c [] b = refl
 fed-append c (x ∷ a) b = fed-append (byteFed c x) a b
 
-abbrev pub toldOf : Replay → List ℕ → List ℕ → Told
-toldOf r store text = record { replay = r; store = store; text = text }
+abbrev pub toldOf : Replay → (store records text : List ℕ) → Told
+toldOf r store records text = record { replay = r; store = store; records = records; text = text }
 
 abbrev pub carryingWith : Told → List ℕ → ℕ → Carrying
 carryingWith t line count = record { told = t; line = line; count = count }
@@ -217,50 +227,36 @@ until-carried t line count (b ∷ rest) =
     (ap (λ c. fedBy c (untilFeed rest)) (carry-byte t line count b e)
     ∙ until-carried t (lineWith line count b) (countWith count) rest))
 
-module _ (r : Replay) (store line : List ℕ) (count : ℕ) where
-  pub line-long : MAX_LINE < count → lineAnswer r (length store) line count ≡ ended 20 (r .state)
-  unfolding lineAnswer
+module _ (r : Replay) (store records line : List ℕ) (count : ℕ) where
+  pub line-long : MAX_LINE < count → lineLeft r store records line count ≡ endedWith 20 (recorded (r .state) records) store
+  unfolding lineLeft
   line-long h = simp (lt-leb count MAX_LINE h)
 
-  pub line-short : count ≤ MAX_LINE → lineAnswer r (length store) line count ≡ answerOf r (length store) (take count line)
-  unfolding lineAnswer
+  pub line-short : count ≤ MAX_LINE → lineLeft r store records line count ≡ answerOf r store records (take count line)
+  unfolding lineLeft
   line-short h = simp (le-leb count MAX_LINE h)
 
-  pub line-long-store : MAX_LINE < count → lineStore r store line count ≡ store
-  unfolding lineStore
-  line-long-store h = simp (lt-leb count MAX_LINE h)
-
-  pub line-short-store : count ≤ MAX_LINE → lineStore r store line count ≡ storeOf r store (take count line)
-  unfolding lineStore
-  line-short-store h = simp (le-leb count MAX_LINE h)
-
--- what holds of the end of a frame, of a message that is received and of a Data that waits holds of what the carried line answers
-pub every-line : (P : Answered → Type 0) (r : Replay) (store : ℕ) (line : List ℕ) (count : ℕ) → ((number : ℕ) → P (ended number (r .state)))
-    → ((msg : ReliableMsg) (seq : Seq) (len : ℕ) → len ≤ count → P (received (r .state) store msg seq len)) → ((seq : Seq) → P (awaited (r .state) seq)) → P (lineAnswer r store line count)
-unfolding lineAnswer answerOf
-every-line P r store line count ends receives awaits =
+-- what holds of the end of a frame, of a message that is received and of a Data that waits holds of what the carried line leaves
+pub every-line : (P : Left → Type 0) (r : Replay) (store records line : List ℕ) (count : ℕ) → ((number : ℕ) → P (endedWith number (recorded (r .state) records) store))
+    → ((msg : ReliableMsg) (seq : Seq) (bytes : List ℕ) → length bytes ≤ count → P (received (recorded (r .state) records) store msg seq bytes))
+    → ((seq : Seq) → P (awaited (recorded (r .state) records) store seq)) → P (lineLeft r store records line count)
+unfolding lineLeft answerOf
+every-line P r store records line count ends receives awaits =
     cases (leb count MAX_LINE)
     (λ t.
     simp t
-    (every-answer P (r .state) store (take count line) ends (λ msg seq len few. receives msg seq len (omega (arith, few, length-take count line))) awaits (r .waiting)))
+    (every-answer P (recorded (r .state) records) store (take count line) ends
+    (λ msg seq bytes few. receives msg seq bytes (omega (arith, few, length-take count line))) awaits (r .waiting)))
     (λ f. simp f (ends 20))
 
 module _ (c : Carrying) where
-  pub close-none : c .count ≡ 0 → lastOf c ≡ absentOf (record { answer = Nothing; replay = c .told .replay })
-  unfolding lastOf
+  pub close-none : c .count ≡ 0 → lastLine c ≡ silent (c .told)
+  unfolding lastLine
   close-none h = simp (eq-eqb (c .count) 0 h)
 
-  pub close-last : (c .count ≡ 0 → ⊥) → lastOf c ≡ absentOf (lineAnswer (c .told .replay) (length (c .told .store)) (c .line) (c .count))
-  unfolding lastOf
+  pub close-last : (c .count ≡ 0 → ⊥) → lastLine c ≡ leftOf c
+  unfolding lastLine
   close-last h = simp (ne-eqb (c .count) 0 h)
-
-  pub close-none-store : c .count ≡ 0 → closeStore c ≡ c .told .store
-  unfolding closeStore
-  close-none-store h = simp (eq-eqb (c .count) 0 h)
-
-  pub close-last-store : (c .count ≡ 0 → ⊥) → closeStore c ≡ lineStore (c .told .replay) (c .told .store) (c .line) (c .count)
-  unfolding closeStore
-  close-last-store h = simp (ne-eqb (c .count) 0 h)
 
 -- an answer's text is a line of twelve bytes, or none
 pub said-short : (a : Answer) → length (saidBy a) ≤ LINE_TEXT

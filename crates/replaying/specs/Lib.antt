@@ -1,3 +1,4 @@
+pub mod Sizes
 pub mod Writing
 pub mod Session
 pub mod Taking

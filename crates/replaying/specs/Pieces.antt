@@ -15,13 +15,13 @@ use Rattle.replaying.specs.declared.session.Session.{Session}
 use Rattle.replaying.specs.Session.{begun}
 use Rattle.recording.specs.Frames.{MAX_LINE}
 use Rattle.replaying.specs.Writing.{LINE_TEXT}
-use Rattle.replaying.specs.Feeding.{Told, Carrying, carrying, carryingWith, toldOf, sessionOf, saidBy, byteFed, fedBy, usedOf, fedIn, feedOf, feedStore, feedLine, feedOut, lastOf, closeStore, closed, closeOf, closeOut, fed-append, carry-byte}
+use Rattle.replaying.specs.Feeding.{Told, Carrying, carrying, begunWith, carryingWith, toldOf, sessionOf, saidBy, byteFed, fedBy, usedOf, fedIn, feedOf, feedStore, feedRecords, feedLine, feedOut, lastLine, lastOf, closeStore, closeRecords, closed, closeOf, closeOut, fed-append, carry-byte}
 use Rattle.replaying.specs.FeedLine.{behind, behind-fed, used-none, used-within}
 use Rattle.replaying.specs.Whole.{wholeOf, outputOf, fed-is-whole}
 
 -- what a host holds: the session, what it lends, and the text that it has written out; a call is given it without the text
 abbrev pub lent : Carrying → Carrying
-lent h = carrying (sessionOf h) (h .told .store) (h .line)
+lent h = carrying (sessionOf h) (h .told .store) (h .told .records) (h .line)
 
 -- one call, with some bytes and a buffer: what it wrote to the buffer's start is written out
 abbrev pub fedOnce : Carrying → List ℕ → List ℕ → Carrying
@@ -29,6 +29,7 @@ fedOnce h piece out = record {
   told = record {
     replay = feedOf (lent h) piece (length out) .session .replay;
     store = feedStore (lent h) piece (length out);
+    records = feedRecords (lent h) piece (length out);
     text = h .told .text ++ take (feedOf (lent h) piece (length out) .wrote) (feedOut (lent h) piece out);
   };
   line = feedLine (lent h) piece (length out);
@@ -55,13 +56,14 @@ abbrev pub closedOnce : Carrying → List ℕ → Told
 closedOnce h out = record {
   replay = closeOf (lent h) .session .replay;
   store = closeStore (lent h);
+  records = closeRecords (lent h);
   text = h .told .text ++ take (closeOf (lent h) .wrote) (closeOut (lent h) out);
 }
 
 -- ---- one call
 
 lent-behind : (h : Carrying) → behind (h .told .text) (lent h) ≡ h
-lent-behind h = ap (λ t. carryingWith (toldOf (h .told .replay) (h .told .store) t) (h .line) (h .count)) (append-nil (h .told .text))
+lent-behind h = ap (λ t. carryingWith (toldOf (h .told .replay) (h .told .store) (h .told .records) t) (h .line) (h .count)) (append-nil (h .told .text))
 
 -- it leads to where its bytes lead, as far as they are used, and writes their text
 pub once-is-fed : (h : Carrying) (piece out : List ℕ) → fedOnce h piece out ≡ fedBy h (take (usedOnce h piece out) piece)
@@ -69,7 +71,7 @@ unfolding feedOf feedOut fedIn
 once-is-fed h piece out =
     let u = usedOf (lent h) piece (length out) in
     let f = fedBy (lent h) (take u piece) in
-    ap (λ t. carryingWith (toldOf (f .told .replay) (f .told .store) (h .told .text ++ t)) (f .line) (f .count)) (take-at (f .told .text) (drop (length (f .told .text)) out) (length (f .told .text)) refl)
+    ap (λ t. carryingWith (toldOf (f .told .replay) (f .told .store) (f .told .records) (h .told .text ++ t)) (f .line) (f .count)) (take-at (f .told .text) (drop (length (f .told .text)) out) (length (f .told .text)) refl)
     ∙ sym (behind-fed (h .told .text) (lent h) (take u piece))
     ∙ ap (λ c. fedBy c (take u piece)) (lent-behind h)
 
@@ -129,15 +131,15 @@ fed-goes-on c k piece at room e =
     ∙ ap lent (sym (behind-fed (h .told .text) (lent h) xs) ∙ ap (λ x. fedBy x xs) (lent-behind h) ∙ sym (fed-append c (take at piece) xs) ∙ ap (fedBy c) (sym (take-add at u piece)))
 
 -- one turn of a loop that feeds what is left of a piece
-pub turn : (c : Carrying) (session : Session) (store line piece rest out : List ℕ) (at : ℕ)
-    → carrying session store line ≡ lent (fedBy c (take at piece)) → rest ≡ drop at piece → at < length piece → LINE_TEXT ≤ length out
-    → let fed = feedOf (carrying session store line) rest (length out) in
-    (carrying (fed .session) (feedStore (carrying session store line) rest (length out)) (feedLine (carrying session store line) rest (length out)) ≡ lent (fedBy c (take (at + fed .used) piece)))
+pub turn : (c : Carrying) (session : Session) (store records line piece rest out : List ℕ) (at : ℕ)
+    → carrying session store records line ≡ lent (fedBy c (take at piece)) → rest ≡ drop at piece → at < length piece → LINE_TEXT ≤ length out
+    → let fed = feedOf (carrying session store records line) rest (length out) in
+    (carrying (fed .session) (feedStore (carrying session store records line) rest (length out)) (feedRecords (carrying session store records line) rest (length out)) (feedLine (carrying session store records line) rest (length out)) ≡ lent (fedBy c (take (at + fed .used) piece)))
     × (0 < fed .used)
     × (at + fed .used ≤ length piece)
 unfolding feedOf
-turn c session store line piece rest out at e r less room =
-    let k = carrying session store line in
+turn c session store records line piece rest out at e r less room =
+    let k = carrying session store records line in
     let some = used-some k rest out room (omega (arith, ap length r, length-drop at piece)) in
     let most = used-within k rest (length out) in (
       ap (λ x. lent (fedIn k x (length out))) r ∙ fed-goes-on c k piece at (length out) e ∙ ap (λ x. lent (fedBy c (take (at + usedOf k x (length out)) piece))) (sym r),
@@ -172,27 +174,28 @@ pieces-are-fed outs h (piece ∷ rest) room =
     ∙ sym (fed-append h piece (joined rest))
 
 last-lent : (h : Carrying) → lastOf (lent h) ≡ lastOf h
-unfolding lastOf
-last-lent h = cases (eqb (h .count) 0) (λ y. simp y) (λ n. simp n)
+unfolding lastOf lastLine
+last-lent h = refl
 
 closed-is : (h : Carrying) (out : List ℕ) → closedOnce h out ≡ closed h
-unfolding closeOf closeOut closed closeStore
+unfolding closeOf closeOut closed
 closed-is h out =
-    let said = saidBy (lastOf h .answer) in
-    ap (λ a. toldOf (a .replay) (closeStore h) (h .told .text ++ take (length (saidBy (a .answer))) (saidBy (a .answer) ++ drop (length (saidBy (a .answer))) out))) (last-lent h)
-    ∙ ap (λ t. toldOf (lastOf h .replay) (closeStore h) (h .told .text ++ t)) (take-at said (drop (length said) out) (length said) refl)
+    let l = lastOf h in
+    let said = saidBy (l .said .answer) in
+    ap (λ x. toldOf (x .said .replay) (x .store) (x .records) (h .told .text ++ take (length (saidBy (x .said .answer))) (saidBy (x .said .answer) ++ drop (length (saidBy (x .said .answer))) out))) (last-lent h)
+    ∙ ap (λ t. toldOf (l .said .replay) (l .store) (l .records) (h .told .text ++ t)) (take-at said (drop (length said) out) (length said) refl)
 
 -- for every list of pieces, and every sizes of buffers in which a line fits, whatever they held: the text written is the text of the
--- whole input, and the replay and the store at the end are the same
-pub pieces-are-whole : (store line last : List ℕ) (pieces : List (List ℕ)) (outs : ℕ → ℕ → List ℕ) → length line ≡ MAX_LINE → ((i k : ℕ) → LINE_TEXT ≤ length (outs i k))
-    → closedOnce (fedPieces outs (carrying begun store line) pieces) last ≡ wholeOf store (joined pieces)
+-- whole input, and the replay, the store and the records at the end are the same
+pub pieces-are-whole : (store records line last : List ℕ) (pieces : List (List ℕ)) (outs : ℕ → ℕ → List ℕ) → length line ≡ MAX_LINE → ((i k : ℕ) → LINE_TEXT ≤ length (outs i k))
+    → closedOnce (fedPieces outs (begunWith store records line) pieces) last ≡ wholeOf store records (joined pieces)
 unfolding begun
-pieces-are-whole store line last pieces outs sized room =
-    closed-is (fedPieces outs (carrying begun store line) pieces) last
-    ∙ ap closed (pieces-are-fed outs (carrying begun store line) pieces room)
-    ∙ fed-is-whole store line (joined pieces) sized
+pieces-are-whole store records line last pieces outs sized room =
+    closed-is (fedPieces outs (begunWith store records line) pieces) last
+    ∙ ap closed (pieces-are-fed outs (begunWith store records line) pieces room)
+    ∙ fed-is-whole store records line (joined pieces) sized
 
-pub written-is-output : (store line last : List ℕ) (pieces : List (List ℕ)) (outs : ℕ → ℕ → List ℕ) → length line ≡ MAX_LINE → ((i k : ℕ) → LINE_TEXT ≤ length (outs i k))
-    → closedOnce (fedPieces outs (carrying begun store line) pieces) last .text ≡ outputOf store (joined pieces)
+pub written-is-output : (store records line last : List ℕ) (pieces : List (List ℕ)) (outs : ℕ → ℕ → List ℕ) → length line ≡ MAX_LINE → ((i k : ℕ) → LINE_TEXT ≤ length (outs i k))
+    → closedOnce (fedPieces outs (begunWith store records line) pieces) last .text ≡ outputOf store records (joined pieces)
 unfolding outputOf
-written-is-output store line last pieces outs sized room = ap (λ t. t .text) (pieces-are-whole store line last pieces outs sized room)
+written-is-output store records line last pieces outs sized room = ap (λ t. t .text) (pieces-are-whole store records line last pieces outs sized room)

@@ -6,6 +6,7 @@ use mathlib.Core.Bool.{true, false, Bool}
 use Prim.Native.Nat.{ℕ, _+_, _-_, _^_, _≤_, _<_}
 use native.Mathlib.Omega.{arith}
 use lib.Dec.{eqb}
+use mathlib.Core.List.{List}
 use lib.ListN.{length, length-set}
 use lib.Seq.{getD-set-same}
 use borrow.Author.Tests.{eq-eqb, ne-eqb, eqb-false, not-true}
@@ -20,9 +21,10 @@ use Rattle.link.specs.Row.{noRow}
 use Rattle.engine.specs.declared.state.Held.the-variants as helds
 use Rattle.engine.specs.declared.state.Receiving.{Receiving}
 use Rattle.engine.specs.declared.state.State.{State}
-use Rattle.engine.specs.Sizes.{SLOTS, CELLS}
-use Rattle.engine.specs.Received.{expectedAt, isFull}
-use Rattle.engine.specs.Decide.{soundb}
+use Rattle.engine.specs.Sizes.{SLOTS}
+use Rattle.engine.specs.Records.{isFull}
+use Rattle.engine.specs.Received.{RxTable, tableOf, expectedAt}
+use Rattle.engine.specs.Decide.{soundb, soundWithb}
 use Rattle.engine.specs.Totals.{fits, MAX_TOTAL}
 use Rattle.refusal.specs.Verdicts.{gate}
 use Rattle.engine.specs.Rows.{rowOf, row-of, slotOk}
@@ -30,10 +32,10 @@ use Rattle.engine.specs.declared.handing_out.TakeAck.{TakeAck}
 use Rattle.engine.specs.declared.handing_out.TakeAck.the-variants as acks
 use Rattle.engine.specs.declared.handing_out.HandOut.{HandOut}
 use Rattle.engine.specs.declared.handing_out.HandOut.the-variants as ready
-use Rattle.engine.specs.HandingOut.{takeAckOf, ackAs, ackAnswer, takenAckBy, takenAckState, readyOf, readyBytes, isReady, takeAckVerdict, handOutBy, dataLength, takeOf, takeVerdict, takenBy, takenState, takenRx, skipped, canSkip, passedBy}
+use Rattle.engine.specs.HandingOut.{takeAckOf, ackAs, ackAnswer, takenAckBy, takenAckState, readyOf, readyBytes, isReady, takeAckVerdict, handOutBy, dataLength, takeOf, takeRecords, takeVerdict, takenBy, recordsBy, takenState, takenTable, takenIn, skipped, canSkip, passedBy}
 use Rattle.engine.specs.Fields.{withRow}
 use Rattle.engine.specs.Turns.{turns-keep}
-use Rattle.replaying.specs.Taking.{isAck, isMessage, hasAck, afterAck, withoutAcks, hasMessage, afterMessage, withoutReady}
+use Rattle.replaying.specs.Taking.{isAck, isMessage, hasAck, afterAck, withoutAcks, Recorded, hasMessage, afterMessage, withoutReady}
 
 -- ---- acks
 
@@ -82,11 +84,21 @@ no-ack-left n s eight h =
 
 -- ---- ready messages
 
-none-ready : (sound total : Bool) (rx : Receiving) → isMessage (handOutBy (gate sound 1 (gate total 9 (gate false 19 verdicts.Pass))) rx) ≡ false
+none-ready : (long sound total : Bool) (t : RxTable) → isMessage (handOutBy (gate long 2 (gate sound 1 (gate total 9 (gate false 19 verdicts.Pass)))) t) ≡ false
 unfolding handOutBy
-none-ready true true rx = refl
-none-ready true false rx = refl
-none-ready false total rx = refl
+none-ready true true true t = refl
+none-ready true true false t = refl
+none-ready true false total t = refl
+none-ready false sound total t = refl
+
+-- a refused taking leaves the records as they came
+kept-records : (a : HandOut) (s : State) (records : List ℕ) → isMessage a ≡ false → recordsBy a s records ≡ records
+kept-records (ready.Message msg seq len) s records e = false-true (sym e)
+kept-records (ready.No r) s records e = refl
+
+pub untaken-records : (h : Recorded) → hasMessage h ≡ false → takeRecords (h .state) (h .records) ≡ h .records
+unfolding takeOf takeRecords
+untaken-records h e = kept-records (takeOf (h .state) (h .records) .answer) (h .state) (h .records) e
 
 -- the two numbers are 32 bits wide, and the next expected is not far past the oldest
 pub record Wide (rx : Receiving) : Type 0 where
@@ -116,56 +128,63 @@ plus-wide : (b : ℕ) → plus b 1 < 2 ^ 32
 unfolding plus
 plus-wide b = omega arith
 
-nothing-ready : (rx : Receiving) → rx .«rx_oldest» .0 ≡ rx .«rx_seq» .0 → readyOf CELLS rx ≡ helds.Nothing
+nothing-ready : (t : RxTable) → t .rx .«rx_oldest» .0 ≡ t .rx .«rx_seq» .0 → readyOf t ≡ helds.Nothing
 unfolding readyOf
-nothing-ready rx e = simp (eq-eqb (rx .«rx_oldest» .0) (rx .«rx_seq» .0) e)
+nothing-ready t e = simp (eq-eqb (t .rx .«rx_oldest» .0) (t .rx .«rx_seq» .0) e)
 
-pub no-message : (s : State) → s .rx .«rx_oldest» .0 ≡ s .rx .«rx_seq» .0 → hasMessage s ≡ false
+pub no-message : (h : Recorded) → h .state .rx .«rx_oldest» .0 ≡ h .state .rx .«rx_seq» .0 → hasMessage h ≡ false
 unfolding takeOf takeVerdict
-no-message s e =
-    let ready : isReady (s .rx) ≡ false = ap isFull (nothing-ready (s .rx) e) in
-    simp ready (none-ready (soundb s) (fits (s .rx .«rxed_reliable_consumed») (readyBytes (readyOf CELLS (s .rx))) MAX_TOTAL) (s .rx))
+no-message h e =
+    let t = tableOf (h .state .rx) (h .records) in
+    let ready : isReady t ≡ false = ap isFull (nothing-ready t e) in
+    simp ready
+    (none-ready (eqb (length (h .records)) (h .state .rx .cells)) (soundWithb (h .state) (h .records))
+    (fits (h .state .rx .«rxed_reliable_consumed») (readyBytes (readyOf t)) MAX_TOTAL) t)
 
-passing : (rx : Receiving) → canSkip CELLS rx ≡ true → rx .«rx_oldest» .0 ≡ rx .«rx_seq» .0 → ⊥
-unfolding canSkip
-passing rx t = eqb-false (rx .«rx_oldest» .0) (rx .«rx_seq» .0) (not-true (eqb (rx .«rx_oldest» .0) (rx .«rx_seq» .0)) (split _ _ t .0))
+module _ (N : ℕ) (records : List ℕ) where
+  passing : (rx : Receiving) → canSkip N records rx ≡ true → rx .«rx_oldest» .0 ≡ rx .«rx_seq» .0 → ⊥
+  unfolding canSkip
+  passing rx t = eqb-false (rx .«rx_oldest» .0) (rx .«rx_seq» .0) (not-true (eqb (rx .«rx_oldest» .0) (rx .«rx_seq» .0)) (split _ _ t .0))
 
--- skipping goes on towards the next expected number, and not past it
-skip-near : (k : ℕ) (rx : Receiving) → Wide rx → Wide (skipped CELLS k rx) × (expectedAt (skipped CELLS k rx) ≤ expectedAt rx)
-unfolding passedBy
-skip-near k rx w =
-    let Near : Receiving → Type 0 = λ r. Wide r × (expectedAt r ≤ expectedAt rx) in
-    turns-keep (canSkip CELLS) passedBy (λ k r. Near r) Near
-    (λ k r h t.
-    let less = gap-less r (h .0) (passing r t) in
-    (record { expected = h .0 .expected; oldest = plus-wide (r .«rx_oldest» .0); close = omega (arith, less, h .0 .close) }, omega (arith, less)))
-    (λ k r h f. h) (λ r h. h) k rx (w, omega arith)
+  -- skipping goes on towards the next expected number, and not past it
+  skip-near : (k : ℕ) (rx : Receiving) → Wide rx → Wide (skipped N k records rx) × (expectedAt (skipped N k records rx) ≤ expectedAt rx)
+  unfolding passedBy
+  skip-near k rx w =
+      let Near : Receiving → Type 0 = λ r. Wide r × (expectedAt r ≤ expectedAt rx) in
+      turns-keep (canSkip N records) passedBy (λ k r. Near r) Near
+      (λ k r h t.
+      let less = gap-less r (h .0) (passing r t) in
+      (record { expected = h .0 .expected; oldest = plus-wide (r .«rx_oldest» .0); close = omega (arith, less, h .0 .close) }, omega (arith, less)))
+      (λ k r h f. h) (λ r h. h) k rx (w, omega arith)
 
-taken-as : (a : HandOut) (s : State) → isMessage a ≡ true → (bytes : ℕ) × (takenBy a s ≡ takenState s bytes)
-taken-as (ready.Message msg seq len) s e = (dataLength msg len, refl)
-taken-as (ready.No r) s e = false-true e
+taken-as : (a : HandOut) (s : State) (records : List ℕ) → isMessage a ≡ true → (bytes : ℕ) × (takenBy a s records ≡ takenState s records bytes)
+taken-as (ready.Message msg seq len) s records e = (dataLength msg len, refl)
+taken-as (ready.No r) s records e = false-true e
 
-module _ (s : State) (w : Wide (s .rx)) (t : hasMessage s ≡ true) where
-  some-ready : s .rx .«rx_oldest» .0 ≡ s .rx .«rx_seq» .0 → ⊥
-  some-ready e = false-true (sym (no-message s e) ∙ t)
+module _ (h : Recorded) (w : Wide (h .state .rx)) (t : hasMessage h ≡ true) where
+  abbrev rx : Receiving
+  rx = h .state .rx
 
-  take-near : (bytes : ℕ) → Wide (takenRx CELLS (s .rx) bytes) × (expectedAt (takenRx CELLS (s .rx) bytes) + 1 ≤ expectedAt (s .rx))
-  unfolding takenRx
+  some-ready : rx .«rx_oldest» .0 ≡ rx .«rx_seq» .0 → ⊥
+  some-ready e = false-true (sym (no-message h e) ∙ t)
+
+  take-near : (bytes : ℕ) → let left = takenTable (h .state) (h .records) bytes .rx in Wide left × (expectedAt left + 1 ≤ expectedAt rx)
+  unfolding takenIn passedBy
   take-near bytes =
-      let less = gap-less (s .rx) w some-ready in
-      let still : past (s .rx .«rx_seq» .0) (plus (s .rx .«rx_oldest» .0) 1) < 2 ^ 30 = omega (arith, less, w .close) in
-      let rest = skip-near CELLS _ (record { expected = w .expected; oldest = plus-wide (s .rx .«rx_oldest» .0); close = still }) in
+      let less = gap-less rx w some-ready in
+      let still : past (rx .«rx_seq» .0) (plus (rx .«rx_oldest» .0) 1) < 2 ^ 30 = omega (arith, less, w .close) in
+      let rest = skip-near (rx .cells) _ (rx .cells) _ (record { expected = w .expected; oldest = plus-wide (rx .«rx_oldest» .0); close = still }) in
       (rest .0, omega (arith, rest .1, less))
 
-  taken-near : Wide (afterMessage s .rx) × (expectedAt (afterMessage s .rx) + 1 ≤ expectedAt (s .rx))
+  taken-near : Wide (afterMessage h .state .rx) × (expectedAt (afterMessage h .state .rx) + 1 ≤ expectedAt rx)
   unfolding takeOf takenState
   taken-near =
-      let a = taken-as (handOutBy (takeVerdict s) (s .rx)) s t in
+      let a = taken-as (handOutBy (takeVerdict (h .state) (h .records)) (tableOf rx (h .records))) (h .state) (h .records) t in
       rw (a .1) (take-near (a .0))
 
 -- as many turns as numbers are ready leave nothing to take
-pub no-message-left : (n : ℕ) (s : State) → Wide (s .rx) → expectedAt (s .rx) ≤ n → hasMessage (withoutReady n s) ≡ false
-no-message-left n s w h =
-    turns-keep hasMessage afterMessage (λ k s. Wide (s .rx) × (expectedAt (s .rx) ≤ k)) (λ s. hasMessage s ≡ false)
-    (λ k s h t. let near = taken-near s (h .0) t in (near .0, omega (arith, near .1)))
-    (λ k s h f. f) (λ s h. no-message s (gap-none (s .rx) (h .0) (h .1))) n s (w, h)
+pub no-message-left : (n : ℕ) (h : Recorded) → Wide (h .state .rx) → expectedAt (h .state .rx) ≤ n → hasMessage (withoutReady n h) ≡ false
+no-message-left n h w few =
+    turns-keep hasMessage afterMessage (λ k h. Wide (h .state .rx) × (expectedAt (h .state .rx) ≤ k)) (λ h. hasMessage h ≡ false)
+    (λ k h p t. let near = taken-near h (p .0) t in (near .0, omega (arith, near .1)))
+    (λ k h p f. f) (λ h p. no-message h (gap-none (h .state .rx) (p .0) (p .1))) n h (w, few)

@@ -11,81 +11,68 @@ use lib.Seq.{take-suc-set}
 use borrow.Author.Tests.{eqb-true, eqb-false, leb-true, leb-false, ltb-true, ltb-false}
 use borrow.Table.Steps.{cases}
 use Rattle.seq.specs.declared.Seq.{Seq}
-use Rattle.engine.specs.declared.state.State.{State}
+use Rattle.engine.specs.Receiving.{receiveStore}
 use Rattle.replaying.specs.declared.session.Waiting.{Waiting}
 use Rattle.replaying.specs.declared.session.Waiting.the-variants.{Frame, Payload}
 use Rattle.replaying.specs.declared.session.Answer.the-variants.{Nothing}
 use Rattle.replaying.specs.declared.session.Replay.{Replay}
-use Rattle.replaying.specs.declared.session.Answered.{Answered}
-use Rattle.replaying.specs.Session.{beginning}
+use Rattle.replaying.specs.Session.{beginning, begun, begunRecords}
 use Rattle.recording.specs.Frames.{MAX_LINE}
 use Rattle.recording.specs.Lines.{linesFrom, linesOf}
-use Rattle.replaying.specs.Taking.{ended}
-use Rattle.replaying.specs.Line.{received, answerOf, storeOf, long-answer, long-store, every-answer}
-use Rattle.replaying.specs.Feeding.{Told, saidBy, toldOf, carryingWith, lineWith, countWith, lineAnswer, lineStore, lineEnded, byteFed, fedBy, absentOf, closed, line-long, line-short, line-long-store, line-short-store, close-none, close-last, close-none-store, close-last-store}
+use Rattle.replaying.specs.Taking.{Recorded, recorded, ended}
+use Rattle.replaying.specs.Line.{Left, endedWith, received, answerOf, long-answer, every-answer}
+use Rattle.replaying.specs.Feeding.{Told, begunWith, saidBy, toldOf, toldAfter, carryingWith, lineWith, countWith, lineLeft, lineEnded, byteFed, fedBy, absentOf, silent, lastOf, closed, line-long, line-short, close-none, close-last}
 
 -- a line, and then the others
 unfoldable pub tell : Told → List ℕ → Told
-unfolding answerOf storeOf
-tell t line =
-    toldOf (answerOf (t .replay) (length (t .store)) line .replay) (storeOf (t .replay) (t .store) line)
-    (t .text ++ saidBy (answerOf (t .replay) (length (t .store)) line .answer))
+unfolding answerOf
+tell t line = toldAfter (t .text) (answerOf (t .replay) (t .store) (t .records) line)
 
 unfoldable pub tellAll : Told → List (List ℕ) → Told
 unfolding tell
 tellAll t [] = t
 tellAll t (line ∷ rest) = tellAll (tell t line) rest
 
-abbrev pub silent : Replay → Answered
-silent r = record { answer = Nothing; replay = r }
-
 -- "a bad or absent payload .. gives hex 14"
 unfoldable pub finished : Told → Told
 unfolding absentOf
-finished t = toldOf (absentOf (silent (t .replay)) .replay) (t .store) (t .text ++ saidBy (absentOf (silent (t .replay)) .answer))
+finished t = toldAfter (t .text) (absentOf (silent t))
 
--- the whole: what an input leads to from the beginning, over a received store
-unfoldable pub wholeOf : List ℕ → List ℕ → Told
+-- the whole: what an input leads to from the beginning, over a received store and a record space
+unfoldable pub wholeOf : (store records input : List ℕ) → Told
 unfolding finished tellAll linesFrom beginning
-wholeOf store input = finished (tellAll (toldOf beginning store []) (linesOf input))
+wholeOf store records input = finished (tellAll (toldOf (beginning (length records)) store (begunRecords records) []) (linesOf input))
 
 -- and the text that is written, byte for byte
-unfoldable pub outputOf : List ℕ → List ℕ → List ℕ
+unfoldable pub outputOf : (store records input : List ℕ) → List ℕ
 unfolding wholeOf
-outputOf store input = wholeOf store input .text
+outputOf store records input = wholeOf store records input .text
 
 -- ---- that input fed byte by byte, and closed, is the whole
 
-told-same : {r r′ : Replay} {store store′ text text′ : List ℕ} → r ≡ r′ → store ≡ store′ → text ≡ text′ → toldOf r store text ≡ toldOf r′ store′ text′
-told-same {r} {r′} {store} {store′} {text} {text′} p q e =
-    ap (λ x. toldOf x store text) p ∙ ap (λ x. toldOf r′ x text) q ∙ ap (toldOf r′ store′) e
-
 -- an answer after which a payload is awaited says nothing yet
-Quiet : Answered → Type 0
-Quiet a = (seq : Seq) → a .replay .waiting ≡ Payload seq → a .answer ≡ Nothing
+Quiet : Left → Type 0
+Quiet l = (seq : Seq) → l .said .replay .waiting ≡ Payload seq → l .said .answer ≡ Nothing
 
-quiet-ended : (number : ℕ) (s : State) → Quiet (ended number s)
+quiet-ended : (number : ℕ) (h : Recorded) (store : List ℕ) → Quiet (endedWith number h store)
 unfolding Quiet ended
-quiet-ended number s seq e = let z : _≡_ {A = ℕ} 0 1 = cc in absurd (omega arith)
+quiet-ended number h store seq e = let z : _≡_ {A = ℕ} 0 1 = cc in absurd (omega arith)
 
-quiet : (r : Replay) (store : ℕ) (line : List ℕ) → Quiet (answerOf r store line)
+quiet : (r : Replay) (store records line : List ℕ) → Quiet (answerOf r store records line)
 unfolding answerOf received Quiet
-quiet r store line =
-    every-answer Quiet (r .state) store line (λ number. quiet-ended number (r .state)) (λ msg seq len few. quiet-ended _ _) (λ seq n e. refl) (r .waiting)
+quiet r store records line =
+    let h = recorded (r .state) records in
+    every-answer Quiet h store line (λ number. quiet-ended number h store)
+    (λ msg seq bytes few. quiet-ended _ _ (receiveStore (r .state) store records 0 msg (seq .0) bytes)) (λ seq n e. refl) (r .waiting)
 
 -- an absent payload, told with the last line or after it
-absent-replay : (w : Waiting) (a : Answered) → a .replay .waiting ≡ w → absentOf a .replay ≡ absentOf (silent (a .replay)) .replay
-unfolding absentOf
-absent-replay Frame a e = simp e
-absent-replay (Payload seq) a e = simp e
-
-absent-said : (w : Waiting) (a : Answered) (said : List ℕ) → a .replay .waiting ≡ w → Quiet a
-    → said ++ saidBy (absentOf a .answer) ≡ said ++ saidBy (a .answer) ++ saidBy (absentOf (silent (a .replay)) .answer)
-unfolding absentOf Quiet
-absent-said Frame a said e q = simp e (sym (append-nil (said ++ saidBy (a .answer))))
-absent-said (Payload seq) a said e q =
+absent-told : (w : Waiting) (l : Left) (text : List ℕ) → l .said .replay .waiting ≡ w → Quiet l → toldAfter text (absentOf l) ≡ finished (toldAfter text l)
+unfolding absentOf finished Quiet
+absent-told Frame l text e q = simp e (ap (toldOf (l .said .replay) (l .store) (l .records)) (sym (append-nil (text ++ saidBy (l .said .answer)))))
+absent-told (Payload seq) l text e q =
     let n = q seq e in
-    simp (e, n) (ap (λ l. l ++ saidBy (ended 20 (a .replay .state) .answer)) (sym (append-nil said)))
+    let then = endedWith 20 (recorded (l .said .replay .state) (l .records)) (l .store) in
+    simp (e, n) (ap (λ x. toldAfter x then) (sym (append-nil text)))
 
 -- what the buffer and its count carry of a line
 record Carries (line : List ℕ) (count : ℕ) (l : List ℕ) : Type 0 where
@@ -134,39 +121,23 @@ carries-more line count l b k =
 
 -- the end of the carried line is the line
 module _ (t : Told) (line : List ℕ) (count : ℕ) (l : List ℕ) (k : Carries line count l) where
-  carried-answer : lineAnswer (t .replay) (length (t .store)) line count ≡ answerOf (t .replay) (length (t .store)) l
-  carried-answer =
+  carried-left : lineLeft (t .replay) (t .store) (t .records) line count ≡ answerOf (t .replay) (t .store) (t .records) l
+  carried-left =
       cases (leb (length l) MAX_LINE)
       (λ y.
       let h = leb-true (length l) MAX_LINE y in
       let e = k .short h in
-      line-short (t .replay) (t .store) line count (omega arith)
-      ∙ ap (λ n. answerOf (t .replay) (length (t .store)) (take n line)) e
-      ∙ ap (answerOf (t .replay) (length (t .store))) (k .same h))
+      line-short (t .replay) (t .store) (t .records) line count (omega arith)
+      ∙ ap (λ n. answerOf (t .replay) (t .store) (t .records) (take n line)) e
+      ∙ ap (answerOf (t .replay) (t .store) (t .records)) (k .same h))
       (λ n.
       let h = leb-false (length l) MAX_LINE n in
-      line-long (t .replay) (t .store) line count (k .long h)
-      ∙ sym (long-answer (t .replay) (length (t .store)) l h))
-
-  carried-store : lineStore (t .replay) (t .store) line count ≡ storeOf (t .replay) (t .store) l
-  carried-store =
-      cases (leb (length l) MAX_LINE)
-      (λ y.
-      let h = leb-true (length l) MAX_LINE y in
-      let e = k .short h in
-      line-short-store (t .replay) (t .store) line count (omega arith)
-      ∙ ap (λ n. storeOf (t .replay) (t .store) (take n line)) e
-      ∙ ap (storeOf (t .replay) (t .store)) (k .same h))
-      (λ n.
-      let h = leb-false (length l) MAX_LINE n in
-      line-long-store (t .replay) (t .store) line count (k .long h)
-      ∙ sym (long-store (t .replay) (t .store) l h))
+      line-long (t .replay) (t .store) (t .records) line count (k .long h)
+      ∙ sym (long-answer (t .replay) (t .store) (t .records) l h))
 
   carried-line : lineEnded (carryingWith t line count) ≡ carryingWith (tell t l) line 0
   unfolding lineEnded tell
-  carried-line =
-      ap (λ x. carryingWith x line 0)
-      (told-same (ap (λ a. a .replay) carried-answer) carried-store (ap (λ a. t .text ++ saidBy (a .answer)) carried-answer))
+  carried-line = ap (λ x. carryingWith (toldAfter (t .text) x) line 0) carried-left
 
   unempty : (length l ≡ 0 → ⊥) → count ≡ 0 → ⊥
   unempty h z =
@@ -175,21 +146,17 @@ module _ (t : Told) (line : List ℕ) (count : ℕ) (l : List ℕ) (k : Carries 
       (λ n. let e = k .long (leb-false (length l) MAX_LINE n) in omega arith)
 
   closed-none : length l ≡ 0 → closed (carryingWith t line count) ≡ finished t
-  unfolding closed finished
+  unfolding closed lastOf finished
   closed-none h =
       let none : count ≡ 0 = k .short (omega arith) ∙ h in
-      let e = close-none (carryingWith t line count) none in
-      told-same (ap (λ x. x .replay) e) (close-none-store (carryingWith t line count) none) (ap (λ x. t .text ++ saidBy (x .answer)) e)
+      ap (λ x. toldAfter (t .text) (absentOf x)) (close-none (carryingWith t line count) none)
 
   closed-last : (length l ≡ 0 → ⊥) → closed (carryingWith t line count) ≡ finished (tell t l)
-  unfolding closed finished tell
+  unfolding closed lastOf tell
   closed-last h =
-      let a = answerOf (t .replay) (length (t .store)) l in
-      let last = close-last (carryingWith t line count) (unempty h) ∙ ap absentOf carried-answer in
-      told-same
-      (ap (λ x. x .replay) last ∙ absent-replay (a .replay .waiting) a refl)
-      (close-last-store (carryingWith t line count) (unempty h) ∙ carried-store)
-      (ap (λ x. t .text ++ saidBy (x .answer)) last ∙ absent-said (a .replay .waiting) a (t .text) refl (quiet (t .replay) (length (t .store)) l))
+      let a = answerOf (t .replay) (t .store) (t .records) l in
+      ap (λ x. toldAfter (t .text) (absentOf x)) (close-last (carryingWith t line count) (unempty h) ∙ carried-left)
+      ∙ absent-told (a .said .replay .waiting) a (t .text) refl (quiet (t .replay) (t .store) (t .records) l)
 
 closed-from : (t : Told) (line : List ℕ) (count : ℕ) (l input : List ℕ) → Carries line count l
     → closed (fedBy (carryingWith t line count) input) ≡ finished (tellAll t (linesFrom l input))
@@ -213,7 +180,7 @@ closed-from t line count l (b ∷ rest) k =
     ∙ closed-from t (lineWith line count b) (countWith count) (l ++ (b ∷ [])) rest (carries-more line count l b k)
     ∙ sym (ap (λ ls. finished (tellAll t ls)) lines))
 
--- an input fed from the beginning, over any buffer of 2,080 bytes, and closed, is the whole: lines, replay and store
-pub fed-is-whole : (store line input : List ℕ) → length line ≡ MAX_LINE → closed (fedBy (carryingWith (toldOf beginning store []) line 0) input) ≡ wholeOf store input
-unfolding wholeOf
-fed-is-whole store line input h = closed-from (toldOf beginning store []) line 0 [] input (carries-none line h)
+-- an input fed from the beginning, over any buffer of 2,080 bytes, and closed, is the whole: lines, replay, store and records
+pub fed-is-whole : (store records line input : List ℕ) → length line ≡ MAX_LINE → closed (fedBy (begunWith store records line) input) ≡ wholeOf store records input
+unfolding wholeOf begun
+fed-is-whole store records line input h = closed-from (begunWith store records line .told) line 0 [] input (carries-none line h)

@@ -18,7 +18,8 @@ ghost use lib.ListN.{length, drop};
 ghost use Rattle.recording.specs.Lines.{untilFeed};
 ghost use Rattle.text.specs.Put.{putIn};
 ghost use Rattle.replaying.specs.Writing.{LINE_TEXT};
-ghost use Rattle.replaying.specs.Feeding.{saidBy, lineWith, countWith, carriedLine, carriedCount, lineAnswer, lineStore, absentOf, carrying, lastOf, feedOf, feedStore, feedLine, feedOut, closeOf, closeStore, closeOut};
+ghost use Rattle.replaying.specs.Line.{left};
+ghost use Rattle.replaying.specs.Feeding.{saidBy, lineWith, countWith, carriedLine, carriedCount, lineLeft, carrying, lastLine, lastOf, feedOf, feedStore, feedRecords, feedLine, feedOut, closeOf, closeStore, closeRecords, closeOut};
 ghost use Rattle.replaying.specs.FeedLine.{fedAs};
 
 // Where a call left a piece: the session to go on with, how many of the piece's bytes were used, and how many bytes of text written.
@@ -72,18 +73,17 @@ fn gather(line: &mut [u8; MAX_LINE], count: usize, piece: &[u8], at: usize) -> P
 }
 
 // The end of the line that is carried.
-fn end_line(r: Replay, store: &mut [u8], line: &[u8], count: usize) -> Answered
-    ensures { λ a. ⌜ a ≡ lineAnswer r (length (now (store .entry))) (now (line .entry)) count ⌝ }
-    ensures { λ _. ⌜ now (store .exit) ≡ lineStore r (now (store .entry)) (now (line .entry)) count ⌝ }
+fn end_line(r: Replay, store: &mut [u8], records: &mut [u64], line: &[u8], count: usize) -> Answered
+    ensures { λ a. ⌜ left a (now (store .exit)) (now (records .exit)) ≡ lineLeft r (now (store .entry)) (now (records .entry)) (now (line .entry)) count ⌝ }
 {
     let state = r.state;
     if MAX_LINE < count {
-        return end_frame(Refusal::Bytes.number(), state);
+        return end_frame(Refusal::Bytes.number(), state, records);
     }
     if line.len() < count {
-        return answer_line(r, store, line);
+        return answer_line(r, store, records, line);
     }
-    answer_line(r, store, &line[..count])
+    answer_line(r, store, records, &line[..count])
 }
 
 // Writes an answer's line at a place, if there is one, and says where its text ends.
@@ -120,14 +120,16 @@ fn fed_as(said: Answered, count: usize, used: usize, wrote: usize) -> Fed
 pub fn feed(
     session: Session,
     store: &mut [u8],
+    records: &mut [u64],
     line: &mut [u8; MAX_LINE],
     piece: &[u8],
     out: &mut [u8],
 ) -> Fed
-    ensures { λ f. ⌜ f ≡ feedOf (carrying session (now (store .entry)) (now (line .entry))) (now (piece .entry)) (length (now (out .entry))) ⌝ }
-    ensures { λ _. ⌜ now (store .exit) ≡ feedStore (carrying session (now (store .entry)) (now (line .entry))) (now (piece .entry)) (length (now (out .entry))) ⌝ }
-    ensures { λ _. ⌜ now (line .exit) ≡ feedLine (carrying session (now (store .entry)) (now (line .entry))) (now (piece .entry)) (length (now (out .entry))) ⌝ }
-    ensures { λ _. ⌜ now (out .exit) ≡ feedOut (carrying session (now (store .entry)) (now (line .entry))) (now (piece .entry)) (now (out .entry)) ⌝ }
+    ensures { λ f. ⌜ f ≡ feedOf (carrying session (now (store .entry)) (now (records .entry)) (now (line .entry))) (now (piece .entry)) (length (now (out .entry))) ⌝ }
+    ensures { λ _. ⌜ now (store .exit) ≡ feedStore (carrying session (now (store .entry)) (now (records .entry)) (now (line .entry))) (now (piece .entry)) (length (now (out .entry))) ⌝ }
+    ensures { λ _. ⌜ now (records .exit) ≡ feedRecords (carrying session (now (store .entry)) (now (records .entry)) (now (line .entry))) (now (piece .entry)) (length (now (out .entry))) ⌝ }
+    ensures { λ _. ⌜ now (line .exit) ≡ feedLine (carrying session (now (store .entry)) (now (records .entry)) (now (line .entry))) (now (piece .entry)) (length (now (out .entry))) ⌝ }
+    ensures { λ _. ⌜ now (out .exit) ≡ feedOut (carrying session (now (store .entry)) (now (records .entry)) (now (line .entry))) (now (piece .entry)) (now (out .entry)) ⌝ }
 {
     let first = session.replay;
     let mut said = Answered {
@@ -148,7 +150,7 @@ pub fn feed(
             return fed_as(said, count, used, wrote);
         }
         let replay = said.replay;
-        said = end_line(replay, store, line, count);
+        said = end_line(replay, store, records, line, count);
         let answer = said.answer;
         wrote = show(answer, out, wrote);
         count = 0;
@@ -157,48 +159,49 @@ pub fn feed(
     fed_as(said, count, used, wrote)
 }
 
-// A Data whose payload doesn't come any more.
-fn end_waiting(said: Answered) -> Answered
-    ensures { λ a. ⌜ a ≡ absentOf said ⌝ }
+// What the last line answers, if there is one.
+fn last_line(session: Session, store: &mut [u8], records: &mut [u64], line: &[u8]) -> Answered
+    ensures { λ a. ⌜ left a (now (store .exit)) (now (records .exit)) ≡ lastLine (carrying session (now (store .entry)) (now (records .entry)) (now (line .entry))) ⌝ }
 {
+    let replay = session.replay;
+    let count = session.count;
+    if count == 0 {
+        return Answered {
+            answer: Answer::Nothing,
+            replay,
+        };
+    }
+    end_line(replay, store, records, line, count)
+}
+
+// The last line, and a Data whose payload doesn't come any more.
+fn end_input(session: Session, store: &mut [u8], records: &mut [u64], line: &[u8]) -> Answered
+    ensures { λ a. ⌜ left a (now (store .exit)) (now (records .exit)) ≡ lastOf (carrying session (now (store .entry)) (now (records .entry)) (now (line .entry))) ⌝ }
+{
+    let said = last_line(session, store, records, line);
     let replay = said.replay;
     let state = replay.state;
     let waiting = replay.waiting;
     match waiting {
         Waiting::Frame => said,
-        Waiting::Payload(_) => end_frame(Refusal::Bytes.number(), state),
+        Waiting::Payload(_) => end_frame(Refusal::Bytes.number(), state, records),
     }
-}
-
-// What the last line answers, if there is one, and a Data that waits for its payload.
-fn end_input(session: Session, store: &mut [u8], line: &[u8]) -> Answered
-    ensures { λ a. ⌜ a ≡ lastOf (carrying session (now (store .entry)) (now (line .entry))) ⌝ }
-    ensures { λ _. ⌜ now (store .exit) ≡ closeStore (carrying session (now (store .entry)) (now (line .entry))) ⌝ }
-{
-    let replay = session.replay;
-    let count = session.count;
-    if count == 0 {
-        return end_waiting(Answered {
-            answer: Answer::Nothing,
-            replay,
-        });
-    }
-    let said = end_line(replay, store, line, count);
-    end_waiting(said)
 }
 
 // The end of the input: a last line without a line feed counts, and an absent payload is a bad one. At most one line is written.
 pub fn close(
     session: Session,
     store: &mut [u8],
+    records: &mut [u64],
     line: &[u8; MAX_LINE],
     out: &mut [u8; LINE_TEXT],
 ) -> Closed
-    ensures { λ c. ⌜ c ≡ closeOf (carrying session (now (store .entry)) (now (line .entry))) ⌝ }
-    ensures { λ _. ⌜ now (store .exit) ≡ closeStore (carrying session (now (store .entry)) (now (line .entry))) ⌝ }
-    ensures { λ _. ⌜ now (out .exit) ≡ closeOut (carrying session (now (store .entry)) (now (line .entry))) (now (out .entry)) ⌝ }
+    ensures { λ c. ⌜ c ≡ closeOf (carrying session (now (store .entry)) (now (records .entry)) (now (line .entry))) ⌝ }
+    ensures { λ _. ⌜ now (store .exit) ≡ closeStore (carrying session (now (store .entry)) (now (records .entry)) (now (line .entry))) ⌝ }
+    ensures { λ _. ⌜ now (records .exit) ≡ closeRecords (carrying session (now (store .entry)) (now (records .entry)) (now (line .entry))) ⌝ }
+    ensures { λ _. ⌜ now (out .exit) ≡ closeOut (carrying session (now (store .entry)) (now (records .entry)) (now (line .entry))) (now (out .entry)) ⌝ }
 {
-    let last = end_input(session, store, line);
+    let last = end_input(session, store, records, line);
     let answer = last.answer;
     let replay = last.replay;
     let wrote = show(answer, out, 0);

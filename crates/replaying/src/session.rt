@@ -1,10 +1,12 @@
 // What a replay keeps between two lines, what a line answers, and how a replay begins.
-use engine::MAX_RECV_BUFFER;
+use crate::sizes::CELLS;
+use crate::sizes::RECEIVED_BYTES;
 use engine::State;
 use link::MaxPing;
 use seq::Seq;
 ghost use mathlib.Core.Path.{_≡_};
-ghost use Rattle.replaying.specs.Session.{begun};
+ghost use lib.ListN.{length};
+ghost use Rattle.replaying.specs.Session.{begun, begunRecords};
 
 // What the next line is.
 pub enum Waiting {
@@ -37,11 +39,12 @@ pub struct Answered {
     pub replay: Replay,
 }
 
-// The round trip, the identity and the flags of link 0 reach no answer: nothing is sent here.
-pub fn begin() -> Session
-    ensures { λ r. ⌜ r ≡ begun ⌝ }
+// A session, and its records, which are empty then. The round trip, the identity and the flags of link 0 reach no answer: nothing is sent here.
+pub fn begin(records: &mut [u64]) -> Session
+    ensures { λ r. ⌜ r ≡ begun (length (now (records .entry))) ⌝ }
+    ensures { λ _. ⌜ now (records .exit) ≡ begunRecords (now (records .entry)) ⌝ }
 {
-    let made = engine::fresh(Seq::ZERO, MAX_RECV_BUFFER);
+    let made = engine::fresh(Seq::ZERO, RECEIVED_BYTES as u32, CELLS as u32, records);
     let empty = made.state;
     let added = engine::add(empty, 0, 0, MaxPing::Unlimited, false, false);
     let state = added.state;

@@ -3,15 +3,15 @@ use crate::session::Answer;
 use crate::session::Answered;
 use crate::session::Replay;
 use crate::session::Waiting;
-use engine::CELLS;
+use crate::sizes::CELLS;
 use engine::HandOut;
 use engine::State;
 use engine::TakeAck;
 use link::sizes::ACKS;
 ghost use mathlib.Core.Path.{_≡_};
 ghost use Rattle.link.specs.Sizes.{ACKS};
-ghost use Rattle.engine.specs.Sizes.{CELLS};
-ghost use Rattle.replaying.specs.Taking.{isAck, isMessage, withoutAcks, withoutReady, ended};
+ghost use Rattle.replaying.specs.Sizes.{CELLS};
+ghost use Rattle.replaying.specs.Taking.{isAck, isMessage, withoutAcks, recorded, withoutReady, withoutAll, ended};
 
 fn is_ack(answer: TakeAck) -> bool
     ensures { λ r. ⌜ r ≡ isAck answer ⌝ }
@@ -54,8 +54,8 @@ fn take_acks(s: State) -> State
 }
 
 // Takes every ready message: there are at most CELLS. Nothing is ready where the oldest number is the next expected.
-fn take_ready(s: State) -> State
-    ensures { λ r. ⌜ r ≡ withoutReady CELLS s ⌝ }
+fn take_ready(s: State, records: &mut [u64]) -> State
+    ensures { λ r. ⌜ recorded r (now (records .exit)) ≡ withoutReady CELLS (recorded s (now (records .entry))) ⌝ }
 {
     let mut out = s;
     let mut left: usize = CELLS;
@@ -64,7 +64,7 @@ fn take_ready(s: State) -> State
         if rx.rx_oldest.eq(rx.rx_seq) {
             return out;
         }
-        let taken = engine::take(out);
+        let taken = engine::take(out, records);
         let answer = taken.answer;
         if !is_message(answer) {
             return out;
@@ -76,10 +76,11 @@ fn take_ready(s: State) -> State
 }
 
 // The end of a frame: what is to be taken is taken, and the frame gets its line.
-pub fn end_frame(number: u8, s: State) -> Answered
-    ensures { λ r. ⌜ r ≡ ended number s ⌝ }
+pub fn end_frame(number: u8, s: State, records: &mut [u64]) -> Answered
+    ensures { λ r. ⌜ r ≡ ended number (recorded s (now (records .entry))) ⌝ }
+    ensures { λ _. ⌜ now (records .exit) ≡ withoutAll (recorded s (now (records .entry))) .records ⌝ }
 {
-    let state = take_ready(take_acks(s));
+    let state = take_ready(take_acks(s), records);
     let rx = state.rx;
     let next = rx.rx_seq;
     Answered {

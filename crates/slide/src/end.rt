@@ -7,20 +7,20 @@ use crate::air::RADIO;
 use crate::air::ROOM;
 use crate::air::Room;
 use crate::air::part;
+use crate::plan::SentStore;
 use crate::tally::AGAIN;
 use crate::tally::AHEAD;
 use crate::tally::DOUBTED;
 use crate::tally::REFUSED;
 use crate::tally::RESENT;
 use crate::tally::Tally;
+use crate::tally::WINDOW;
 use crate::tally::count;
 use engine::ConfirmTimeout;
 use engine::DATA_BYTES;
 use engine::Outcome;
 use engine::PACKETS;
-use engine::RECEIVED_BYTES;
 use engine::ResendAnswer;
-use engine::SENT_BYTES;
 use engine::SendAnswer;
 use engine::State;
 use engine::TakeAck;
@@ -31,11 +31,8 @@ use msg::Reading;
 use msg::ReliableMsg;
 use msg::Written;
 use msg::reliable::FromLink;
+use refusal::Refusal;
 use seq::Seq;
-
-pub type SentStore = [u8; SENT_BYTES];
-
-pub type ReceivedStore = [u8; RECEIVED_BYTES];
 
 // The links' slots are 0 to 2.
 const LINKS: u8 = 3;
@@ -81,16 +78,25 @@ fn note_arrival(tally: &mut Tally, expected: Seq, seq: Seq) {
     }
 }
 
+fn refuse(tally: &mut Tally, why: Refusal) {
+    count(tally, REFUSED);
+    match why {
+        Refusal::Window => count(tally, WINDOW),
+        _ => {}
+    }
+}
+
 fn note_refusal(tally: &mut Tally, outcome: Outcome) {
     match outcome {
         Outcome::Done => {}
-        Outcome::No(_) => count(tally, REFUSED),
+        Outcome::No(why) => refuse(tally, why),
     }
 }
 
 fn receive(
     s: State,
-    received: &mut ReceivedStore,
+    received: &mut [u8],
+    records: &mut [u64],
     tally: &mut Tally,
     slot: u8,
     msg: ReliableMsg,
@@ -99,7 +105,7 @@ fn receive(
 ) -> State {
     let rx = s.rx;
     note_arrival(tally, rx.rx_seq, seq);
-    let changed = engine::receive(s, received, slot, msg, seq, payload);
+    let changed = engine::receive(s, received, records, slot, msg, seq, payload);
     let outcome = changed.outcome;
     note_refusal(tally, outcome);
     changed.state
@@ -119,7 +125,8 @@ fn ack(s: State, tally: &mut Tally, slot: u8, msg: LinkMsg, now: u64) -> State {
 // A frame has arrived.
 fn arrive(
     s: State,
-    received: &mut ReceivedStore,
+    received: &mut [u8],
+    records: &mut [u64],
     tally: &mut Tally,
     room: &Room,
     now: u64,
@@ -135,6 +142,7 @@ fn arrive(
         FromLink::Reliable(reliable, seq) => receive(
             s,
             received,
+            records,
             tally,
             slot,
             reliable,
@@ -145,22 +153,38 @@ fn arrive(
     }
 }
 
+// What has arrived at a place, if it goes to this end.
+fn arrive_at(
+    s: State,
+    received: &mut [u8],
+    records: &mut [u64],
+    tally: &mut Tally,
+    air: &mut Air,
+    k: usize,
+    end: u8,
+    now: u64,
+) -> State {
+    let mut room = [0u8; ROOM];
+    if !air::take(air, k, end, &mut room) {
+        return s;
+    }
+    arrive(s, received, records, tally, &room, now)
+}
+
 // All that has arrived at an end.
 fn arrivals(
     s: State,
-    received: &mut ReceivedStore,
+    received: &mut [u8],
+    records: &mut [u64],
     tally: &mut Tally,
     air: &mut Air,
     end: u8,
     now: u64,
 ) -> State {
-    let mut room = [0u8; ROOM];
     let mut out = s;
     let mut k: usize = 0;
     while k < PLACES {
-        if air::take(air, k, end, &mut room) {
-            out = arrive(out, received, tally, &room, now);
-        }
+        out = arrive_at(out, received, records, tally, air, k, end, now);
         k += 1;
     }
     out
@@ -299,7 +323,8 @@ fn serve_all(
 pub fn turn(
     s: State,
     sent: &SentStore,
-    received: &mut ReceivedStore,
+    received: &mut [u8],
+    records: &mut [u64],
     tally: &mut Tally,
     air: &mut Air,
     end: u8,
@@ -307,7 +332,7 @@ pub fn turn(
     slot: u8,
     now: u64,
 ) -> State {
-    let arrived = arrivals(s, received, tally, air, end, now);
+    let arrived = arrivals(s, received, records, tally, air, end, now);
     let watched = watch(arrived, tally, now);
     let served = serve_all(watched, sent, tally, air, to, now);
     let flushed = engine::flush(served, slot, now);

@@ -10,6 +10,7 @@ use crate::tally::EVENT;
 use crate::tally::FINISHED;
 use crate::tally::FRAMES;
 use crate::tally::GOOD;
+use crate::tally::KINDS;
 use crate::tally::LOST;
 use crate::tally::REFUSED;
 use crate::tally::REPEATED;
@@ -29,14 +30,14 @@ use tiles::TILES;
 // The row that is arriving.
 pub type Row = [u8; 41];
 
-fn write(tally: &mut Tally, text: &[u8]) {
+pub fn write(tally: &mut Tally, text: &[u8]) {
     if !io::write_all(STDOUT_FILENO, text) {
         count(tally, UNWRITTEN);
     }
 }
 
 // A number in a column of this width.
-fn number(tally: &mut Tally, n: u64, width: usize) {
+pub fn number(tally: &mut Tally, n: u64, width: usize) {
     let mut digits = [0u8; 20];
     let places = io::decimal(n, &mut digits);
     let mut at = places;
@@ -79,8 +80,8 @@ pub fn put(n: u16, bytes: &[u8], tally: &mut Tally, row: &mut Row, tick: u64) {
     }
 }
 
-fn line(tally: &mut Tally, of: usize, what: &[u8]) {
-    if of < 18 {
+pub fn line(tally: &mut Tally, of: usize, what: &[u8]) {
+    if of < KINDS {
         let n = tally[of];
         number(tally, n, 6);
     }
@@ -127,6 +128,10 @@ pub fn report(tally: &mut Tally, empty: bool) {
     report_ends(tally);
     write(tally, b"\n");
     verdict(tally, empty);
+}
+
+// After everything: whether it could all be written.
+pub fn close(tally: &Tally) {
     if tally[UNWRITTEN] != 0 {
         io::write_all(STDERR_FILENO, b"slide: standard output cannot be written\n");
     }
@@ -137,7 +142,7 @@ fn is_whole(tally: &Tally, empty: bool) -> bool {
     tally[GOOD] == TILES as u64 && tally[WRONG] == 0 && tally[FINISHED] == 1 && empty
 }
 
-fn verdict(tally: &mut Tally, empty: bool) {
+pub fn verdict(tally: &mut Tally, empty: bool) {
     let good = tally[GOOD];
     if is_whole(tally, empty) {
         write(tally, b"WHOLE: ");

@@ -1,14 +1,19 @@
 // Every call of the engine that is given a state, with arguments that the good state accepts: the number that it answers, 0 for
 // success.
 use crate::good::FIRST;
+use crate::good::ROOM;
 use crate::good::ReceivedStore;
+use crate::good::Records;
 use crate::good::SentStore;
+use crate::good::fit;
 use crate::report;
 use crate::report::Tally;
+use crate::report::answered;
 use crate::same;
 use engine::AddAnswer;
 use engine::Changed;
 use engine::ConfirmTimeout;
+use engine::DATA_BYTES;
 use engine::Due;
 use engine::HandOut;
 use engine::Outcome;
@@ -16,15 +21,28 @@ use engine::ResendAnswer;
 use engine::SendAnswer;
 use engine::State;
 use engine::TakeAck;
+use engine::TakeResult;
 use link::AckTimeout;
 use link::MaxPing;
 use msg::ReliableMsg;
 use seq::Seq;
 
+// What the calls that are lent the records are to answer, and what the others.
+pub struct Dues {
+    pub with: u8,
+    pub without: u8,
+}
+
+// How many bytes of the received store are lent, and how many records.
+pub struct Lent {
+    pub bytes: usize,
+    pub words: usize,
+}
+
 // A time after the good state's.
 const NOW: u64 = 9;
 
-// What stands for the number of a refusal that did not leave the state as it came.
+// What stands for the number of a refusal that did not leave the state or the records as they came.
 const MOVED: u8 = 99;
 
 // .. and what for the answer that no packet is Sent, since the good state has one.
@@ -38,6 +56,14 @@ fn told(number: u8, before: State, after: State) -> u8 {
         number
     } else {
         MOVED
+    }
+}
+
+// The number of an outcome by itself.
+pub fn outcome(outcome: Outcome) -> u8 {
+    match outcome {
+        Outcome::Done => 0,
+        Outcome::No(e) => e.number(),
     }
 }
 
@@ -60,14 +86,22 @@ fn add(s: State) -> u8 {
     }
 }
 
-fn send(s: State, sent: &mut SentStore) -> u8 {
-    let out = engine::send(s, sent, 0, NOW, ReliableMsg::Data, b"more");
+pub fn send(s: State, sent: &mut [u8], payload: &[u8]) -> u8 {
+    let out = engine::send(s, sent, 0, NOW, ReliableMsg::Data, payload);
     let answer = out.answer;
     let after = out.state;
     match answer {
         SendAnswer::Number(_) => 0,
         SendAnswer::No(e) => told(e.number(), s, after),
     }
+}
+
+// A call that is to refuse is given more bytes than one that is to accept: the store shows if it wrote them.
+fn send_to(s: State, sent: &mut SentStore, due: u8) -> u8 {
+    if due == 0 {
+        return send(s, sent, b"more");
+    }
+    send(s, sent, b"refused")
 }
 
 // Number 0 was last sent over slot 2.
@@ -81,15 +115,47 @@ fn resend(s: State) -> u8 {
     }
 }
 
-fn receive(s: State, received: &mut ReceivedStore) -> u8 {
-    changed(
-        s,
-        engine::receive(s, received, 0, ReliableMsg::Data, Seq(0), b"MORE"),
-    )
+// A refusal leaves the records as they came.
+fn with_records(number: u8, now: Records, before: Records) -> u8 {
+    if number == 0 {
+        return 0;
+    }
+    if same::words(&now, &before) {
+        number
+    } else {
+        MOVED
+    }
 }
 
-fn showing(s: State, received: &ReceivedStore) -> u8 {
-    let answer = engine::showing(s, received);
+// With so many bytes of the received store, and so many of the records.
+fn receive_of(s: State, received: &mut [u8], records: Records, lent: Lent, payload: &[u8]) -> u8 {
+    let mut now = records;
+    let data = ReliableMsg::Data;
+    let m = fit(lent.bytes, received.len());
+    let n = fit(lent.words, ROOM);
+    let out = engine::receive(
+        s,
+        &mut received[0..m],
+        &mut now[0..n],
+        0,
+        data,
+        Seq(0),
+        payload,
+    );
+    with_records(changed(s, out), now, records)
+}
+
+fn receive(s: State, received: &mut ReceivedStore, records: Records, lent: Lent, due: u8) -> u8 {
+    if due == 0 {
+        return receive_of(s, received, records, lent, b"MORE");
+    }
+    receive_of(s, received, records, lent, b"REFUSED")
+}
+
+fn showing(s: State, received: &[u8], records: Records, lent: Lent) -> u8 {
+    let m = fit(lent.bytes, received.len());
+    let n = fit(lent.words, ROOM);
+    let answer = engine::showing(s, &received[0..m], &records[0..n]);
     match answer {
         HandOut::Message(_, _, _) => 0,
         HandOut::No(e) => e.number(),
@@ -97,19 +163,27 @@ fn showing(s: State, received: &ReceivedStore) -> u8 {
 }
 
 // A part carries no number: an empty one stands for 1.
-fn show(s: State, received: &ReceivedStore) -> u8 {
-    let part = engine::show(s, received);
+fn show(s: State, received: &[u8], records: Records, lent: Lent) -> u8 {
+    let m = fit(lent.bytes, received.len());
+    let n = fit(lent.words, ROOM);
+    let part = engine::show(s, &received[0..m], &records[0..n]);
     if part.len() == 0 { 1 } else { 0 }
 }
 
-fn take(s: State) -> u8 {
-    let out = engine::take(s);
+fn take_of(s: State, out: TakeResult) -> u8 {
     let answer = out.answer;
     let after = out.state;
     match answer {
         HandOut::Message(_, _, _) => 0,
         HandOut::No(e) => told(e.number(), s, after),
     }
+}
+
+fn take(s: State, records: Records, lent: Lent) -> u8 {
+    let mut now = records;
+    let n = fit(lent.words, ROOM);
+    let out = engine::take(s, &mut now[0..n]);
+    with_records(take_of(s, out), now, records)
 }
 
 fn take_ack(s: State) -> u8 {
@@ -122,7 +196,7 @@ fn take_ack(s: State) -> u8 {
     }
 }
 
-fn due(s: State) -> u8 {
+fn is_due(s: State) -> u8 {
     let answer = engine::is_consume_ack_required(s);
     match answer {
         Due::Is(_) => 0,
@@ -150,49 +224,85 @@ fn is_sound(s: State) -> u8 {
     if engine::is_sound(s) { 0 } else { 1 }
 }
 
-fn to_links(tally: &mut Tally, number: u8, s: State) {
-    report::answered(tally, add(s) == number);
-    report::answered(tally, changed(s, engine::remove(s, 0)) == number);
-    report::answered(tally, changed(s, engine::confirm(s, 2)) == number);
-    report::answered(tally, changed(s, engine::unconfirm(s, 0)) == number);
-    report::answered(tally, changed(s, engine::block(s, 0, true)) == number);
-    report::answered(tally, changed(s, engine::mark(s, 0, Seq(0))) == number);
-    report::answered(tally, changed(s, engine::ping(s, 0, NOW)) == number);
-    report::answered(tally, changed(s, engine::pong(s, 1, NOW)) == number);
+fn is_sound_with(s: State, records: Records, lent: Lent) -> u8 {
+    let n = fit(lent.words, ROOM);
+    if engine::is_sound_with(s, &records[0..n]) {
+        0
+    } else {
+        1
+    }
 }
 
-fn to_packets(sent: &mut SentStore, tally: &mut Tally, number: u8, s: State) {
-    report::answered(tally, changed(s, engine::flush(s, 0, NOW)) == number);
-    report::answered(tally, send(s, sent) == number);
-    report::answered(tally, resend(s) == number);
-    report::answered(tally, deadline(s) == number);
-    report::answered(
-        tally,
-        changed(s, engine::ack(s, 0, NOW, Seq(FIRST))) == number,
-    );
+// What stands for a refusal with this number where none is told.
+fn untold(number: u8) -> u8 {
+    if number == 0 { 0 } else { 1 }
 }
 
-fn to_cells(received: &mut ReceivedStore, tally: &mut Tally, number: u8, s: State) {
-    report::answered(tally, receive(s, received) == number);
-    report::answered(tally, showing(s, received) == number);
-    report::answered(tally, show(s, received) == number);
-    report::answered(tally, take(s) == number);
-    report::answered(tally, take_ack(s) == number);
-    report::answered(tally, due(s) == number);
-    report::answered(tally, changed(s, engine::close_reader(s)) == number);
-    report::answered(tally, is_sound(s) == number);
+fn to_links(tally: &mut Tally, due: u8, s: State) {
+    answered(tally, due, add(s));
+    answered(tally, due, changed(s, engine::remove(s, 0)));
+    answered(tally, due, changed(s, engine::confirm(s, 2)));
+    answered(tally, due, changed(s, engine::unconfirm(s, 0)));
+    answered(tally, due, changed(s, engine::block(s, 0, true)));
+    answered(tally, due, changed(s, engine::mark(s, 0, Seq(0))));
+    answered(tally, due, changed(s, engine::ping(s, 0, NOW)));
+    answered(tally, due, changed(s, engine::pong(s, 1, NOW)));
 }
 
-// Every call is to answer this number, and the line says how many do.
+fn to_packets(sent: &mut SentStore, tally: &mut Tally, due: u8, s: State) {
+    answered(tally, due, changed(s, engine::flush(s, 0, NOW)));
+    answered(tally, due, send_to(s, sent, due));
+    answered(tally, due, resend(s));
+    answered(tally, due, deadline(s));
+    answered(tally, due, changed(s, engine::ack(s, 0, NOW, Seq(FIRST))));
+}
+
+fn to_rest(tally: &mut Tally, due: u8, s: State) {
+    answered(tally, due, take_ack(s));
+    answered(tally, due, is_due(s));
+    answered(tally, due, changed(s, engine::close_reader(s)));
+    answered(tally, due, is_sound(s));
+}
+
+// The calls that are lent the records: what those answer that are lent the received store too, and what those that are not.
+pub fn to_records(
+    received: &mut ReceivedStore,
+    records: Records,
+    lent: Lent,
+    tally: &mut Tally,
+    shown: u8,
+    taken: u8,
+    s: State,
+) {
+    answered(tally, shown, receive(s, received, records, lent, shown));
+    answered(tally, shown, showing(s, received, records, lent));
+    answered(tally, untold(shown), show(s, received, records, lent));
+    answered(tally, taken, take(s, records, lent));
+    answered(tally, untold(taken), is_sound_with(s, records, lent));
+}
+
+// What the state's cell count asks for, or as much as there is.
+fn asked_by(s: State) -> Lent {
+    let words = fit(s.rx.cells as usize, ROOM);
+    Lent {
+        bytes: words * DATA_BYTES,
+        words,
+    }
+}
+
+// Every call is to answer as is due, and the line says how many do.
 pub fn every(
     sent: &mut SentStore,
     received: &mut ReceivedStore,
+    records: Records,
     tally: &mut Tally,
-    number: u8,
+    due: Dues,
     s: State,
 ) {
-    to_links(tally, number, s);
-    to_packets(sent, tally, number, s);
-    to_cells(received, tally, number, s);
-    report::line(tally, number);
+    to_links(tally, due.without, s);
+    to_packets(sent, tally, due.without, s);
+    to_rest(tally, due.without, s);
+    to_records(received, records, asked_by(s), tally, due.with, due.with, s);
+    report::line(tally);
+    report::state(tally);
 }

@@ -1,97 +1,95 @@
-// The receiving half.
+// The receiving half, but for what the records hold.
+use crate::good::BUFFER;
+use crate::good::FIRST;
 use crate::good::SECOND;
 use crate::report::named;
 use crate::set;
-use engine::Held;
+use crate::set::cells;
+use crate::set::ends;
 use engine::State;
-use msg::ReliableMsg;
 use seq::Seq;
 
-fn buffer(s: State, n: u32) -> State {
-    let mut half = s.rx;
-    half.recv_buffer = n;
-    let mut out = s;
-    out.rx = half;
-    out
-}
-
-// There are 9 untaken bytes.
+// There are 9 untaken bytes, and 64 cells.
 pub fn sizes(k: usize, s: State) -> State {
+    let largest = 0xFFFF_FFFF;
     match k {
-        0 => named(b"rxed_reliable_size one more", set::size(s, 10)),
-        1 => named(b"rxed_reliable_size one less", set::size(s, 8)),
-        2 => named(b"rxed_reliable_size 0", set::size(s, 0)),
-        3 => named(b"rxed_reliable_size 2^32 - 1", set::size(s, 0xFFFF_FFFF)),
-        4 => named(b"recv_buffer 0", buffer(s, 0)),
-        5 => named(b"recv_buffer 0 with nothing untaken", buffer(drained(s), 0)),
-        6 => named(b"recv_buffer below the untaken data", buffer(s, 8)),
-        7 => named(b"recv_buffer 65,537", buffer(s, 65_537)),
-        8 => named(b"recv_buffer 2^32 - 1", buffer(s, 0xFFFF_FFFF)),
-        _ => s,
-    }
-}
-
-fn between(s: State, oldest: u32, expected: u32) -> State {
-    let first = Seq(oldest);
-    let next = Seq(expected);
-    let mut half = s.rx;
-    half.rx_oldest = first;
-    half.rx_seq = next;
-    let mut out = s;
-    out.rx = half;
-    out
-}
-
-// With nothing ready and nothing held.
-fn drained(s: State) -> State {
-    let a = set::cell(s, SECOND, Held::Nothing);
-    let b = set::cell(a, 1, Held::Nothing);
-    set::size(between(b, 0, 0), 0)
-}
-
-// The oldest ready number is ffffffff, the next expected 0.
-pub fn ends(k: usize, s: State) -> State {
-    match k {
-        0 => named(b"rx_seq one more", between(s, SECOND, 1)),
-        1 => named(b"rx_seq one less", between(s, SECOND, SECOND)),
-        2 => named(b"rx_seq 65 past rx_oldest", between(s, SECOND, 64)),
+        0 => named(b"rxed_reliable_size 65,537", set::size(s, 65_537)),
+        1 => named(b"rxed_reliable_size 2^32 - 1", set::size(s, largest)),
+        2 => named(b"recv_buffer 0", cells(s, 64, 0)),
         3 => named(
-            b"rx_seq 2^31 past rx_oldest",
-            between(s, SECOND, 0x7FFF_FFFF),
+            b"recv_buffer 0 with nothing untaken",
+            cells(drained(s), 64, 0),
         ),
-        4 => named(b"rx_seq before rx_oldest", between(s, SECOND, 0xFFFF_FFFE)),
-        5 => named(b"rx_oldest one less", between(s, 0xFFFF_FFFE, 0)),
-        6 => named(b"rx_oldest 65 before rx_seq", between(s, 0xFFFF_FFBF, 0)),
-        7 => named(b"rx_oldest 2^31 before rx_seq", between(s, 0x8000_0000, 0)),
-        8 => named(b"rx_oldest past rx_seq", between(s, 1, 0)),
+        4 => named(b"recv_buffer below the untaken data", cells(s, 64, 8)),
+        5 => named(b"recv_buffer 65,537", cells(s, 64, 65_537)),
+        6 => named(b"recv_buffer 2^32 - 1", cells(s, 64, largest)),
+        7 => named(
+            b"recv_buffer 131,073 with 128 cells",
+            cells(drained(s), 128, 131_073),
+        ),
         _ => s,
     }
 }
 
-// The sums are made to fit where they can, so that it is the cell alone that is wrong.
-pub fn cells(k: usize, s: State) -> State {
-    let data = ReliableMsg::Data;
-    let here = set::cell(s, 0, Held::Message(data, 0));
-    let close = set::cell(s, SECOND, Held::Message(ReliableMsg::ReceiveClose, 0));
-    let none = set::cell(s, SECOND, Held::Nothing);
-    let ready = set::cell(s, SECOND, Held::Message(data, 1025));
-    let ended = set::cell(s, SECOND, Held::Message(ReliableMsg::SendFinish, 4));
-    let long = set::cell(s, 1, Held::Message(data, 1025));
-    let longest = set::cell(s, 1, Held::Message(data, 0xFFFF_FFFF));
-    let finish = set::cell(s, 1, Held::Message(ReliableMsg::SendFinish, 5));
-    let more = set::cell(s, 2, Held::Message(data, 6));
+// With nothing ready and nothing held: no cell is in use.
+fn drained(s: State) -> State {
+    set::size(ends(s, 0, 0, 0), 0)
+}
+
+// The oldest ready number is ffffffff, the next expected 0 and the end 2. 65 past the oldest its own cell is in use again, and the size
+// has its message twice.
+pub fn ends_of(k: usize, s: State) -> State {
+    let old = SECOND;
+    let half = 0x7FFF_FFFF;
     match k {
-        0 => named(b"a message held at the next expected", here),
-        1 => named(b"a ReceiveClose that is ready", set::size(close, 5)),
-        2 => named(b"nothing ready at rx_oldest", set::size(none, 5)),
-        3 => named(b"ready data of 1,025 bytes", set::size(ready, 1030)),
-        4 => named(b"ready data with a SendFinish", ended),
-        5 => named(b"held data of 1,025 bytes", set::size(long, 1029)),
-        6 => named(b"held data of 2^32 - 1 bytes", set::size(longest, 3)),
-        7 => named(b"held data with a SendFinish", finish),
-        8 => named(b"a held message that the size leaves out", more),
+        0 => named(b"rx_seq 65 past rx_oldest", ends(s, old, 64, 2)),
+        1 => named(b"rx_seq 2^31 past rx_oldest", ends(s, old, half, 2)),
+        2 => named(b"rx_seq before rx_oldest", ends(s, old, FIRST, 2)),
+        3 => named(b"rx_seq past rx_end", ends(s, old, 3, 2)),
+        4 => named(b"rx_oldest 65 before rx_seq", ends(s, 0xFFFF_FFBF, 0, 2)),
+        5 => named(b"rx_oldest 2^31 before rx_seq", ends(s, 0x8000_0000, 0, 2)),
+        6 => named(b"rx_oldest past rx_seq", ends(s, 1, 0, 2)),
+        7 => named(b"rx_end before rx_seq", ends(s, old, 0, old)),
+        8 => named(b"rx_end before rx_oldest", ends(s, old, 0, FIRST)),
+        9 => named(
+            b"rx_end 65 past rx_oldest",
+            set::size(ends(s, old, 0, 64), 13),
+        ),
+        10 => named(b"rx_end 2^31 past rx_oldest", ends(s, old, 0, half)),
         _ => s,
     }
+}
+
+// Cell counts that there are none of, where no cell is in use and the buffer fits; there is none that fits no cells.
+pub fn counts(k: usize, s: State) -> State {
+    let none = drained(s);
+    match k {
+        0 => named(b"no cells", cells(none, 0, 1)),
+        1 => named(b"1 cell", cells(none, 1, 1024)),
+        2 => named(b"32 cells", cells(none, 32, 32_768)),
+        3 => named(b"63 cells", cells(none, 63, 64_512)),
+        4 => named(b"65 cells", cells(none, 65, BUFFER)),
+        5 => named(b"96 cells", cells(none, 96, BUFFER)),
+        _ => s,
+    }
+}
+
+// Those that no store is large enough for: the calls that are lent the records answer 2, which comes before 1.
+pub fn too_many(k: usize, s: State) -> State {
+    let none = drained(s);
+    match k {
+        0 => named(b"131,072 cells", cells(none, 131_072, BUFFER)),
+        1 => named(b"2^32 - 1 cells", cells(none, 0xFFFF_FFFF, BUFFER)),
+        _ => s,
+    }
+}
+
+// What comes with a refusal of the fresh state.
+pub fn refused() -> State {
+    let mut records = [0u64; 64];
+    let out = engine::fresh(Seq(FIRST), 0, 64, &mut records);
+    let state = out.state;
+    named(b"the state of a refused fresh", state)
 }
 
 // Sound asks nothing of the reader.

@@ -1,11 +1,10 @@
-// Whether two states are the same in every field.
-use engine::CELLS;
+// Whether two states are the same in every field, and two record spaces in every word.
+use crate::good::ROOM;
+use crate::good::Records;
 use engine::Flushed;
-use engine::Held;
 use engine::InFlight;
 use engine::PACKETS;
 use engine::Receiving;
-use engine::RxCell;
 use engine::SLOTS;
 use engine::Sending;
 use engine::SentReliable;
@@ -219,52 +218,14 @@ fn sending(a: Sending, b: Sending) -> bool {
         && packets(a_packets, b_packets)
 }
 
-// The message, and whether there is one and how long it is.
-fn held(held: Held) -> ReliableMsg {
-    match held {
-        Held::Nothing => ReliableMsg::Data,
-        Held::Message(msg, _) => msg,
-    }
-}
-
-fn length(held: Held) -> Case {
-    match held {
-        Held::Nothing => Case { which: 0, held: 0 },
-        Held::Message(_, len) => Case {
-            which: 1,
-            held: len as u64,
-        },
-    }
-}
-
-fn cell(a: Held, b: Held) -> bool {
-    alike(length(a), length(b)) && message(held(a), held(b))
-}
-
-fn cells(a: [RxCell; CELLS], b: [RxCell; CELLS]) -> bool {
-    let mut i: usize = 0;
-    while i < CELLS {
-        let x = a[i];
-        let y = b[i];
-        let m = x.held;
-        let n = y.held;
-        if !cell(m, n) {
-            return false;
-        }
-        i += 1;
-    }
-    true
-}
-
 fn receiving(a: Receiving, b: Receiving) -> bool {
-    let a_cells = a.rxed_reliable;
-    let b_cells = b.rxed_reliable;
     a.rx_seq.eq(b.rx_seq)
         && a.rx_oldest.eq(b.rx_oldest)
         && a.rxed_reliable_size == b.rxed_reliable_size
         && a.rxed_reliable_consumed == b.rxed_reliable_consumed
         && a.recv_buffer == b.recv_buffer
-        && cells(a_cells, b_cells)
+        && a.cells == b.cells
+        && a.rx_end.eq(b.rx_end)
 }
 
 pub fn states(a: State, b: State) -> bool {
@@ -279,4 +240,27 @@ pub fn states(a: State, b: State) -> bool {
         && rows(a_rows, b_rows)
         && sending(a_tx, b_tx)
         && receiving(a_rx, b_rx)
+}
+
+// One more, if it is so; there are no more than the words.
+fn more(n: usize, is: bool) -> usize {
+    if !is {
+        return n;
+    }
+    if n < ROOM { n + 1 } else { n }
+}
+
+// How many words are the same in both.
+pub fn alike_words(a: &Records, b: &Records) -> usize {
+    let mut n: usize = 0;
+    let mut i: usize = 0;
+    while i < ROOM {
+        n = more(n, a[i] == b[i]);
+        i += 1;
+    }
+    n
+}
+
+pub fn words(a: &Records, b: &Records) -> bool {
+    alike_words(a, b) == ROOM
 }

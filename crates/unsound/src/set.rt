@@ -1,10 +1,12 @@
-// A state with a field set.
+// A state with a field set, and records with a word.
 use crate::good::FIRST;
+use crate::good::ROOM;
+use crate::good::Records;
+use crate::good::fit;
 use engine::Flushed;
-use engine::Held;
 use engine::InFlight;
 use engine::PACKETS;
-use engine::RxCell;
+use engine::Receiving;
 use engine::SLOTS;
 use engine::Sending;
 use engine::SentReliable;
@@ -87,21 +89,60 @@ pub fn flight(slot: u8, link: u64) -> SentReliableStatus {
     })
 }
 
+pub fn rx(s: State, rx: Receiving) -> State {
+    let mut out = s;
+    out.rx = rx;
+    out
+}
+
 // The untaken bytes.
 pub fn size(s: State, n: u32) -> State {
     let mut half = s.rx;
     half.rxed_reliable_size = n;
-    let mut out = s;
-    out.rx = half;
-    out
+    rx(s, half)
 }
 
-// What a number's receive cell holds.
-pub fn cell(s: State, n: u32, held: Held) -> State {
-    let at = n as usize % PACKETS;
+// The oldest number, the next expected one and the end.
+pub fn ends(s: State, oldest: u32, expected: u32, end: u32) -> State {
+    let first = Seq(oldest);
+    let next = Seq(expected);
+    let last = Seq(end);
     let mut half = s.rx;
-    half.rxed_reliable[at] = RxCell { held };
-    let mut out = s;
-    out.rx = half;
-    out
+    half.rx_oldest = first;
+    half.rx_seq = next;
+    half.rx_end = last;
+    rx(s, half)
+}
+
+// The cell count and the receive buffer.
+pub fn cells(s: State, n: u32, buffer: u32) -> State {
+    let mut half = s.rx;
+    half.cells = n;
+    half.recv_buffer = buffer;
+    rx(s, half)
+}
+
+// The word of a cell; the state goes through as it is.
+pub fn word(records: &mut Records, cell: usize, word: u64, s: State) -> State {
+    let at = cell % ROOM;
+    records[at] = word;
+    s
+}
+
+fn turn(at: usize, even: u64, odd: u64) -> u64 {
+    if at % 2 == 0 { even } else { odd }
+}
+
+fn by_turns(records: &mut [u64], from: usize, end: usize, even: u64, odd: u64) {
+    let last = fit(end, records.len());
+    let mut at = from;
+    while at < last {
+        records[at] = turn(at, even, odd);
+        at += 1;
+    }
+}
+
+// Two words by turns, in the cells from one up to another.
+pub fn turns(records: &mut Records, from: usize, end: usize, even: u64, odd: u64) {
+    by_turns(records, from, end, even, odd);
 }

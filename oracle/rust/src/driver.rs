@@ -21,7 +21,8 @@ use wokio::time;
 
 type End = Task<Wire, Wire, u64>;
 
-const CELLS: u32 = 64;
+/// The sent store's; the received store has as many as its `fresh` says.
+const SENT_CELLS: u32 = 64;
 const MOST_TEST_DATA: usize = 1_024;
 /// Kind, magic bytes and version: what document 01 looks at in a handshake.
 const HANDSHAKE_HEAD: usize = 7;
@@ -74,13 +75,15 @@ pub(crate) struct Driver {
     wires: Vec<Wire>,
     /// The last accepted time; the clock shows it.
     time: u64,
+    /// The cell count. The original has no cells; a dump names them.
+    cells: u32,
 }
 
 impl Driver {
     pub(crate) fn new(raw: bool) -> Self {
         // What a panic says is an answer here.
         panic::set_hook(Box::new(|_| ()));
-        Self { raw, end: None, wires: Vec::new(), time: 0 }
+        Self { raw, end: None, wires: Vec::new(), time: 0, cells: 0 }
     }
 
     /// The answer to a line, of which the port's answer starts with `told`.
@@ -130,7 +133,7 @@ impl Driver {
             time::set(time);
         }
         match call {
-            Call::Fresh { start, buffer } => self.fresh(start, buffer),
+            Call::Fresh { start, buffer, cells } => self.fresh(start, buffer, cells),
             Call::Add { identity, roundtrip, max_ping, blocked, unconfirmed } => {
                 self.add(identity, roundtrip, max_ping, blocked, unconfirmed)
             }
@@ -168,7 +171,7 @@ impl Driver {
     }
 
     /// Adaptation: the start number, in three fields.
-    fn fresh(&mut self, start: u32, buffer: u32) -> String {
+    fn fresh(&mut self, start: u32, buffer: u32, cells: u32) -> String {
         let mut end = new_end(NonZeroU32::new(buffer).expect("a receive buffer above 0"));
         end.tx_seq = Seq(start);
         end.rx_seq = Seq(start);
@@ -176,6 +179,7 @@ impl Driver {
         self.end = Some(end);
         self.wires.clear();
         self.time = 0;
+        self.cells = cells;
         time::set(0);
         "0".into()
     }
@@ -451,18 +455,18 @@ impl Driver {
     }
 
     fn dump(&mut self) -> String {
-        let time = self.time;
+        let (time, cells) = (self.time, self.cells);
         let mut out = String::from("0\n");
-        self.end().dump_to(&mut out, time).unwrap();
+        self.end().dump_to(&mut out, time, cells).unwrap();
         out + "."
     }
 }
 
 impl End {
-    fn dump_to(&self, out: &mut String, time: u64) -> fmt::Result {
+    fn dump_to(&self, out: &mut String, time: u64, cells: u32) -> fmt::Result {
         writeln!(
             out,
-            "end {} {} {} {} {} {} {} {} {} {} {} {time} {}",
+            "end {} {} {} {} {} {} {} {} {} {} {} {time} {} {cells}",
             self.tx_seq,
             self.txed_unacked,
             self.txed_unconsumed,
@@ -528,13 +532,13 @@ impl End {
         for packet in &self.txed_packets {
             match &*packet.status.borrow() {
                 SentReliableStatus::Sent { msg, .. } | SentReliableStatus::ResendQueued { msg, .. } => {
-                    cell(out, "sent", packet.seq, msg)?
+                    cell(out, "sent", SENT_CELLS, packet.seq, msg)?
                 }
                 SentReliableStatus::Received { .. } => (),
             }
         }
         for ReceivedReliableMsg { seq, msg } in ready.iter().chain(held) {
-            cell(out, "kept", *seq, msg)?;
+            cell(out, "kept", cells, *seq, msg)?;
         }
         Ok(())
     }
@@ -711,10 +715,10 @@ fn message(message: &ReliableMsg) -> String {
     format!("{} {count} {}", kind_of(message), data_of(message).len())
 }
 
-fn cell(out: &mut String, name: &str, number: Seq, message: &ReliableMsg) -> fmt::Result {
+fn cell(out: &mut String, name: &str, cells: u32, number: Seq, message: &ReliableMsg) -> fmt::Result {
     match data_of(message) {
         [] => Ok(()),
-        data => writeln!(out, "{name} {} {}", number.0 % CELLS, hex(data)),
+        data => writeln!(out, "{name} {} {}", number.0 % cells, hex(data)),
     }
 }
 

@@ -9,13 +9,15 @@ use crate::{
 
 /// More bytes, or more room, make a line that isn't a call.
 const MOST_BYTES: usize = 2_048;
-const MOST_LENT: u32 = 65_537;
+
+/// The cell count of a `fresh` that doesn't say one.
+const LEAST_CELLS: u32 = 64;
 
 /// The rows of the links. `slow` lends as many, or as it says, up to one more.
 pub(crate) const SLOTS: usize = 8;
 
 pub(crate) enum Call {
-    Fresh { start: u32, buffer: u32 },
+    Fresh { start: u32, buffer: u32, cells: u32 },
     Add { identity: u64, roundtrip: u64, max_ping: Option<u64>, blocked: bool, unconfirmed: bool },
     Remove { slot: usize },
     Confirm { slot: usize },
@@ -91,7 +93,12 @@ impl Call {
     pub(crate) fn parse(line: &str) -> Option<Self> {
         let words: Vec<_> = line.split(' ').collect();
         Some(match words[..] {
-            ["fresh", start, buffer] => Self::Fresh { start: number(start)?, buffer: number(buffer)? },
+            ["fresh", start, buffer] => {
+                Self::Fresh { start: number(start)?, buffer: number(buffer)?, cells: LEAST_CELLS }
+            }
+            ["fresh", start, buffer, cells] => {
+                Self::Fresh { start: number(start)?, buffer: number(buffer)?, cells: number(cells)? }
+            }
             ["add", identity, roundtrip, max_ping, blocked, unconfirmed] => Self::Add {
                 identity: number(identity)?,
                 roundtrip: number(roundtrip)?,
@@ -135,12 +142,22 @@ impl Call {
             ["write", room, ref message @ ..] => {
                 Self::Write { room: number(room).filter(|&room| room <= MOST_BYTES)?, message: asked(message)? }
             }
-            ["lend", "sent" | "received", length] => {
-                number::<u32>(length).filter(|&length| length <= MOST_LENT)?;
+            ["lend", what, length] => {
+                let most = most_lent(what)?;
+                number::<u32>(length).filter(|&length| length <= most)?;
                 Self::Lend
             }
             _ => return None,
         })
+    }
+}
+
+/// The greatest length that a store, or the record space, can be lent with.
+fn most_lent(what: &str) -> Option<u32> {
+    match what {
+        "sent" | "records" => Some(65_537),
+        "received" => Some(67_108_865),
+        _ => None,
     }
 }
 

@@ -1,4 +1,4 @@
--- The last text is a beginning of its buffer.
+-- The last text is one line at most.
 use mathlib.Core.Path.{sym}
 use denote.Ref.{now}
 use lib.Seq.{length-take-le}
@@ -16,23 +16,21 @@ show-counts-requires c κs = search needs
 
 array-share-prefix-text : tie.Need-array-share-prefix-text
 array-share-prefix-text c =
-    let a = c .before .before .before .before .before .before .before .args in
-    let k = c .before .before .before .close in
-    rw (k .ensures .0, k .ensures .1 .1) (closed-within (carrying (a .session) (now (a .store)) (now (a .line))) _)
+    let a = c .before .before .before .before .before .before .before .before .before .before .before .args in
+    let k = c .before .before .before .before .before .close in
+    rw (k .ensures .0, k .ensures .1 .1 .1) (closed-within (carrying (a .session) (now (a .store)) (now (a .records)) (now (a .line))) _)
 
 slice-aggregate-write-all : tie.Need-slice-aggregate-write-all
-slice-aggregate-write-all c =
-    let a = c .before .before .before .before .before .before .before .before .args in
-    let k = c .before .before .before .before .close in
-    sym
-    (length-take-le (k .result .wrote) (k .last .1 .1 .1 .0)
-    (rw (k .ensures .0, k .ensures .1 .1) (closed-within (carrying (a .session) (now (a .store)) (now (a .line))) _)))
+slice-aggregate-write-all c = sym (length-take-le (c .before .before .before .before .before .before .close .result .wrote) (c .before .before .before .before .before .before .close .last .1 .1 .1 .1 .0) (array-share-prefix-text (c .before)))
 
 write-all-requires : tie.Need-write-all-requires
 write-all-requires c κs = search needs
 
 same-length : tie.Need-same-length
 same-length c = search needs
+
+same-length-2 : tie.Need-same-length-2
+same-length-2 c = search needs
 
 returns : tie.Need-returns
 returns c = search needs
@@ -47,4 +45,5 @@ close-one-spec =
     slice-aggregate-write-all
     write-all-requires
     same-length
+    same-length-2
     returns)

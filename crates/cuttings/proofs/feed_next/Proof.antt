@@ -17,30 +17,33 @@ array-borrow-prefix-piece : tie.Need-array-borrow-prefix-piece
 array-borrow-prefix-piece c = search needs
 
 slice-aggregate-read-full : tie.Need-slice-aggregate-read-full
-slice-aggregate-read-full c = sym (length-take-le _ _ (omega (arith, c .before .before .pre .0)))
+slice-aggregate-read-full c = sym (length-take-le _ _ (omega (arith, c .before .before .before .pre .0)))
 
 read-full-requires : tie.Need-read-full-requires
 read-full-requires c κs = search needs
 
 array-share-prefix-piece : tie.Need-array-share-prefix-piece
-array-share-prefix-piece c = within _ (c .before .before .before .read-full .last .1 .0) _ (c .before .before .before .read-full .ensures .0)
+array-share-prefix-piece c = within _ (c .before .before .before .before .read-full .last .1 .0) _ (c .before .before .before .before .read-full .ensures .0)
 
 slice-aggregate-feed-one : tie.Need-slice-aggregate-feed-one
 slice-aggregate-feed-one c =
-    let r = c .before .before .before .before .read-full in
+    let r = c .before .before .before .before .before .read-full in
     sym (length-take-le (r .result) _ (within (r .result) (r .last .1 .0) _ (r .ensures .0)))
 
 array-borrow-prefix-out : tie.Need-array-borrow-prefix-out
 array-borrow-prefix-out c = search needs
 
 slice-aggregate-feed-one-2 : tie.Need-slice-aggregate-feed-one-2
-slice-aggregate-feed-one-2 c = sym (length-take-le _ _ (omega (arith, c .before .before .before .before .before .before .before .before .pre .1)))
+slice-aggregate-feed-one-2 c = sym (length-take-le _ _ (omega (arith, c .before .before .before .before .before .before .before .before .before .before .pre .1)))
 
 feed-one-requires : tie.Need-feed-one-requires
 feed-one-requires c κs = search needs
 
 same-length : tie.Need-same-length
 same-length c = search needs
+
+same-length-2 : tie.Need-same-length-2
+same-length-2 c = search needs
 
 returns : tie.Need-returns
 returns c = search needs
@@ -58,4 +61,5 @@ feed-next-spec =
     slice-aggregate-feed-one-2
     feed-one-requires
     same-length
+    same-length-2
     returns)

@@ -16,17 +16,12 @@ show-counts-requires c κs = search needs
 
 slice-reshare-prefix-write-all : tie.Need-slice-reshare-prefix-write-all
 slice-reshare-prefix-write-all c =
-    let a = c .before .before .before .before .before .before .before .before .before .before .before .before .args in
-    let e = c .before .before .before .before .before .feed .ensures in
-    rw (e .0, e .1 .1 .1) (wrote-within (carrying (a .session) (now (a .store)) (now (a .line))) (now (a .piece)) (now (a .out)))
+    let a = c .before .before .before .before .before .before .before .before .before .before .before .before .before .before .before .before .args in
+    let e = c .before .before .before .before .before .before .before .feed .ensures in
+    rw (e .0, e .1 .1 .1 .1) (wrote-within (carrying (a .session) (now (a .store)) (now (a .records)) (now (a .line))) (now (a .piece)) (now (a .out)))
 
 slice-aggregate-write-all : tie.Need-slice-aggregate-write-all
-slice-aggregate-write-all c =
-    let a = c .before .before .before .before .before .before .before .before .before .before .before .before .before .args in
-    let e = c .before .before .before .before .before .before .feed .ensures in
-    sym
-    (length-take-le _ _
-    (rw (e .0, e .1 .1 .1) (wrote-within (carrying (a .session) (now (a .store)) (now (a .line))) (now (a .piece)) (now (a .out)))))
+slice-aggregate-write-all c = sym (length-take-le _ _ (slice-reshare-prefix-write-all (c .before)))
 
 write-all-requires : tie.Need-write-all-requires
 write-all-requires c κs = search needs
@@ -36,6 +31,9 @@ same-length c = search needs
 
 same-length-2 : tie.Need-same-length-2
 same-length-2 c = search needs
+
+same-length-3 : tie.Need-same-length-3
+same-length-3 c = search needs
 
 returns : tie.Need-returns
 returns c = search needs
@@ -51,4 +49,5 @@ feed-one-spec =
     write-all-requires
     same-length
     same-length-2
+    same-length-3
     returns)

@@ -5,28 +5,16 @@ use Rattle.unsound.proofs.all.Statement.{statement}
 use Rattle.unsound.proofs.all.Tie as tie
 
 abbrev Inv-loop : tie.InvT-loop
-Inv-loop sent₀ received₀ tally₀ s k₀ sent received tally k = Unit {0}
+Inv-loop sent₀ received₀ records tally₀ s k₀ sent received tally k = Unit {0}
 
 abbrev μ-loop : tie.MeasureT-loop
-μ-loop sent₀ received₀ tally₀ s k₀ sent received tally k = 104 - k
+μ-loop sent₀ received₀ records tally₀ s k₀ sent received tally k = 139 - k
 
 loop-holds : tie.Need-loop-holds Inv-loop μ-loop
 loop-holds c = search needs
 
-kind-requires : tie.Need-kind-requires Inv-loop μ-loop
-kind-requires c κs = search needs
-
-states-requires : tie.Need-states-requires Inv-loop μ-loop
-states-requires c κs = search needs
-
-differs-requires : tie.Need-differs-requires Inv-loop μ-loop
-differs-requires c κs = search needs
-
-number-requires : tie.Need-number-requires Inv-loop μ-loop
-number-requires c κs = search needs
-
-every-requires : tie.Need-every-requires Inv-loop μ-loop
-every-requires c κs = search needs
+one-requires : tie.Need-one-requires Inv-loop μ-loop
+one-requires c κs = search needs
 
 add-k : tie.Need-add-k Inv-loop μ-loop
 add-k c = search needs
@@ -42,17 +30,4 @@ returns c = search needs
 
 pub all-spec : {M : Type 1} → statement M
 all-spec =
-    tie.close
-    (tie.spec
-    Inv-loop
-    μ-loop
-    loop-holds
-    kind-requires
-    states-requires
-    differs-requires
-    number-requires
-    every-requires
-    add-k
-    loop-less
-    loop-again
-    returns)
+    tie.close (tie.spec Inv-loop μ-loop loop-holds one-requires add-k loop-less loop-again returns)

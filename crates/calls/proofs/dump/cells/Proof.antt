@@ -1,15 +1,17 @@
--- The measure is how many cells are left.
+-- The measure is how many cells in use are left.
 use Prim.Native.Nat.{_-_}
 use borrow.Author.Needs.{needs}
-use Rattle.engine.specs.Sizes.{CELLS}
 use Rattle.calls.proofs.dump.cells.Statement.{statement}
 use Rattle.calls.proofs.dump.cells.Tie as tie
 
 abbrev Inv-loop : tie.InvT-loop
-Inv-loop out₀ at rx end₀ n₀ k₀ expected out end n k = Unit {0}
+Inv-loop out₀ at rx records end₀ n₀ k₀ used expected out end n k = Unit {0}
 
 abbrev μ-loop : tie.MeasureT-loop
-μ-loop out₀ at rx end₀ n₀ k₀ expected out end n k = CELLS - k
+μ-loop out₀ at rx records end₀ n₀ k₀ used expected out end n k = used - k
+
+in-use-requires : tie.Need-in-use-requires Inv-loop μ-loop
+in-use-requires c κs = search needs
 
 past-requires : tie.Need-past-requires Inv-loop μ-loop
 past-requires c κs = search needs
@@ -17,14 +19,8 @@ past-requires c κs = search needs
 loop-holds : tie.Need-loop-holds Inv-loop μ-loop
 loop-holds c = search needs
 
-cast-i : tie.Need-cast-i Inv-loop μ-loop
-cast-i c = search needs
-
-mul-cell : tie.Need-mul-cell Inv-loop μ-loop
-mul-cell c = search needs
-
-element-copy-out-cell : tie.Need-element-copy-out-cell Inv-loop μ-loop
-element-copy-out-cell c = search needs
+held-at-requires : tie.Need-held-at-requires Inv-loop μ-loop
+held-at-requires c κs = search needs
 
 waiting-requires : tie.Need-waiting-requires Inv-loop μ-loop
 waiting-requires c κs = search needs
@@ -50,11 +46,10 @@ cells-spec =
     (tie.spec
     Inv-loop
     μ-loop
+    in-use-requires
     past-requires
     loop-holds
-    cast-i
-    mul-cell
-    element-copy-out-cell
+    held-at-requires
     waiting-requires
     add-requires
     add-k

@@ -1,27 +1,26 @@
--- The measure is how many cells are left.
+-- The measure is how many cells in use are left.
 use Prim.Native.Nat.{_-_}
 use borrow.Author.Needs.{needs}
-use Rattle.engine.specs.Sizes.{CELLS}
 use Rattle.calls.proofs.dump.kept_cells.Statement.{statement}
 use Rattle.calls.proofs.dump.kept_cells.Tie as tie
 
 abbrev Inv-loop : tie.InvT-loop
-Inv-loop out₀ at store rx end₀ n₀ k₀ out end n k = Unit {0}
+Inv-loop out₀ at rx store records end₀ n₀ k₀ used out end n k = Unit {0}
 
 abbrev μ-loop : tie.MeasureT-loop
-μ-loop out₀ at store rx end₀ n₀ k₀ out end n k = CELLS - k
+μ-loop out₀ at rx store records end₀ n₀ k₀ used out end n k = used - k
+
+in-use-requires : tie.Need-in-use-requires Inv-loop μ-loop
+in-use-requires c κs = search needs
 
 loop-holds : tie.Need-loop-holds Inv-loop μ-loop
 loop-holds c = search needs
 
-cast-i : tie.Need-cast-i Inv-loop μ-loop
-cast-i c = search needs
+held-at-requires : tie.Need-held-at-requires Inv-loop μ-loop
+held-at-requires c κs = search needs
 
-mul-cell : tie.Need-mul-cell Inv-loop μ-loop
-mul-cell c = search needs
-
-element-copy-out-cell : tie.Need-element-copy-out-cell Inv-loop μ-loop
-element-copy-out-cell c = search needs
+cell-of-requires : tie.Need-cell-of-requires Inv-loop μ-loop
+cell-of-requires c κs = search needs
 
 kept-cell-requires : tie.Need-kept-cell-requires Inv-loop μ-loop
 kept-cell-requires c κs = search needs
@@ -47,10 +46,10 @@ kept-cells-spec =
     (tie.spec
     Inv-loop
     μ-loop
+    in-use-requires
     loop-holds
-    cast-i
-    mul-cell
-    element-copy-out-cell
+    held-at-requires
+    cell-of-requires
     kept-cell-requires
     add-requires
     add-k

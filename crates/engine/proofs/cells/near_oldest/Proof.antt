@@ -9,7 +9,7 @@ past-requires c κs = search needs
 
 returns : tie.Need-returns
 unfolding nearOldest
-returns c = simp (c .past .ensures)
+returns c = simp (c .before .past .ensures)
 
 pub near-oldest-spec : {M : Type 1} → statement M
 near-oldest-spec = tie.close (tie.spec past-requires returns)

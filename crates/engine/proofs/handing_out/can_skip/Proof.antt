@@ -12,15 +12,16 @@ returns : tie.Need-returns
 unfolding canSkip
 returns c = simp (sym (c .before .eq .ensures) ∙ c .if1 .taken)
 
-cell-of-requires : tie.Need-cell-of-requires
-cell-of-requires c κs = search needs
+held-at-requires : tie.Need-held-at-requires
+held-at-requires c κs = search needs
 
 is-full-requires : tie.Need-is-full-requires
 is-full-requires c κs = search needs
 
 returns-2 : tie.Need-returns-2
 unfolding canSkip
-returns-2 c = simp (sym (c .before .before .before .eq .ensures) ∙ c .before .before .if1 .left, c .is-full .ensures, c .before .cell-of .ensures)
+returns-2 c = simp (sym (c .before .before .before .eq .ensures) ∙ c .before .before .if1 .left, c .is-full .ensures, c .before .held-at .ensures)
 
 pub can-skip-spec : {M : Type 1} → statement M
-can-skip-spec = tie.close (tie.spec eq-requires returns cell-of-requires is-full-requires returns-2)
+can-skip-spec =
+    tie.close (tie.spec eq-requires returns held-at-requires is-full-requires returns-2)

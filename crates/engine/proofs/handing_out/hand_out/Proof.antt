@@ -11,7 +11,7 @@ enum-told : tie.Need-enum-told
 enum-told c = search needs
 
 oldest-ready-requires : tie.Need-oldest-ready-requires
-oldest-ready-requires c κs = search needs
+oldest-ready-requires c κs = c .before .before .before .pre (c .enum-told .given .1)
 
 msg-in-requires : tie.Need-msg-in-requires
 msg-in-requires c κs = search needs

@@ -12,12 +12,12 @@ returns : tie.Need-returns
 unfolding readyOf
 returns c = simp (sym (c .before .eq .ensures) ∙ c .if1 .taken)
 
-cell-of-requires : tie.Need-cell-of-requires
-cell-of-requires c κs = search needs
+held-at-requires : tie.Need-held-at-requires
+held-at-requires c κs = search needs
 
 returns-2 : tie.Need-returns-2
 unfolding readyOf
-returns-2 c = simp (sym (c .before .before .eq .ensures) ∙ c .before .if1 .left, c .cell-of .ensures)
+returns-2 c = simp (sym (c .before .before .eq .ensures) ∙ c .before .if1 .left, c .held-at .ensures)
 
 pub oldest-ready-spec : {M : Type 1} → statement M
-oldest-ready-spec = tie.close (tie.spec eq-requires returns cell-of-requires returns-2)
+oldest-ready-spec = tie.close (tie.spec eq-requires returns held-at-requires returns-2)

@@ -1,112 +1,44 @@
--- The gates, in the order of the definition.
-use Rattle.engine.specs.Receiving.{receiveVerdict}
+-- Each refusal by its own test.
+use mathlib.Core.Path.{sym, _∙_}
+use borrow.Author.Tests.{not-true, not-false}
+use Rattle.engine.specs.Receiving.{receiveVerdict, sound-lent}
 use borrow.Author.Needs.{needs}
 use Rattle.engine.proofs.receiving.receive_verdict.Statement.{statement}
 use Rattle.engine.proofs.receiving.receive_verdict.Tie as tie
 
-is-repeat-requires : tie.Need-is-repeat-requires
-is-repeat-requires c κs = search needs
-
-past-requires : tie.Need-past-requires
-past-requires c κs = search needs
-
-either-requires : tie.Need-either-requires
-either-requires c κs = search needs
-
-near-oldest-requires : tie.Need-near-oldest-requires
-near-oldest-requires c κs = search needs
-
-either-requires-2 : tie.Need-either-requires-2
-either-requires-2 c κs = search needs
-
-row-of-requires : tie.Need-row-of-requires
-row-of-requires c κs = search needs
-
-sum-fits-requires : tie.Need-sum-fits-requires
-sum-fits-requires c κs = search needs
-
-either-requires-3 : tie.Need-either-requires-3
-either-requires-3 c κs = search needs
-
-count-requires : tie.Need-count-requires
-count-requires c κs = search needs
-
-either-requires-4 : tie.Need-either-requires-4
-either-requires-4 c κs = search needs
-
-gate-requires : tie.Need-gate-requires
-gate-requires c κs = search needs
-
-gate-requires-2 : tie.Need-gate-requires-2
-gate-requires-2 c κs = search needs
-
-gate-requires-3 : tie.Need-gate-requires-3
-gate-requires-3 c κs = search needs
-
-gate-requires-4 : tie.Need-gate-requires-4
-gate-requires-4 c κs = search needs
-
-gate-requires-5 : tie.Need-gate-requires-5
-gate-requires-5 c κs = search needs
-
-is-near-requires : tie.Need-is-near-requires
-is-near-requires c κs = search needs
-
-gate-requires-6 : tie.Need-gate-requires-6
-gate-requires-6 c κs = search needs
-
-length-ok-requires : tie.Need-length-ok-requires
-length-ok-requires c κs = search needs
-
-gate-requires-7 : tie.Need-gate-requires-7
-gate-requires-7 c κs = search needs
-
-slot-ok-requires : tie.Need-slot-ok-requires
-slot-ok-requires c κs = search needs
-
-gate-requires-8 : tie.Need-gate-requires-8
-gate-requires-8 c κs = search needs
-
-gate-requires-9 : tie.Need-gate-requires-9
-gate-requires-9 c κs = search needs
-
-is-sound-requires : tie.Need-is-sound-requires
-is-sound-requires c κs = search needs
-
-gate-requires-10 : tie.Need-gate-requires-10
-gate-requires-10 c κs = search needs
+lengths-ok-requires : tie.Need-lengths-ok-requires
+lengths-ok-requires c κs = search needs
 
 returns : tie.Need-returns
 unfolding receiveVerdict
-returns c =
-    simp (c .gate10 .ensures, c .before .is-sound .ensures, c .before .before .gate9 .ensures, c .before .before .before .gate8 .ensures, c .before .before .before .before .slot-ok .ensures, c .before .before .before .before .before .gate7 .ensures, c .before .before .before .before .before .before .length-ok .ensures, c .before .before .before .before .before .before .before .gate6 .ensures, c .before .before .before .before .before .before .before .before .is-near .ensures, c .before .before .before .before .before .before .before .before .before .gate5 .ensures, c .before .before .before .before .before .before .before .before .before .before .gate4 .ensures, c .before .before .before .before .before .before .before .before .before .before .before .gate3 .ensures, c .before .before .before .before .before .before .before .before .before .before .before .before .gate2 .ensures, c .before .before .before .before .before .before .before .before .before .before .before .before .before .gate .ensures, c .before .before .before .before .before .before .before .before .before .before .before .before .before .before .either4 .ensures, c .before .before .before .before .before .before .before .before .before .before .before .before .before .before .before .before .count .ensures, c .before .before .before .before .before .before .before .before .before .before .before .before .before .before .before .before .before .either3 .ensures, c .before .before .before .before .before .before .before .before .before .before .before .before .before .before .before .before .before .before .sum-fits .ensures, c .before .before .before .before .before .before .before .before .before .before .before .before .before .before .before .before .before .before .before .before .row-of .ensures, c .before .before .before .before .before .before .before .before .before .before .before .before .before .before .before .before .before .before .before .before .before .either2 .ensures, c .before .before .before .before .before .before .before .before .before .before .before .before .before .before .before .before .before .before .before .before .before .before .near-oldest .ensures, c .before .before .before .before .before .before .before .before .before .before .before .before .before .before .before .before .before .before .before .before .before .before .before .either .ensures, c .before .before .before .before .before .before .before .before .before .before .before .before .before .before .before .before .before .before .before .before .before .before .before .before .past .ensures, c .before .before .before .before .before .before .before .before .before .before .before .before .before .before .before .before .before .before .before .before .before .before .before .before .before .is-repeat .ensures)
+returns c = simp (sym (c .before .lengths-ok .ensures) ∙ not-true (c .before .lengths-ok .result) (c .if1 .taken))
+
+is-sound-with-requires : tie.Need-is-sound-with-requires
+is-sound-with-requires c κs = search needs
+
+returns-2 : tie.Need-returns-2
+unfolding receiveVerdict
+returns-2 c =
+    let long = sym (c .before .before .before .lengths-ok .ensures) ∙ not-false (c .before .before .before .lengths-ok .result) (c .before .before .if1 .left) in
+    simp (long, sym (c .before .is-sound-with .ensures) ∙ not-true (c .before .is-sound-with .result) (c .if2 .taken))
+
+message-verdict-requires : tie.Need-message-verdict-requires
+message-verdict-requires c κs = sound-lent (c .before .before .before .before .before .args .s) (c .before .before .before .before .before .args .records .now) (sym (c .before .is-sound-with .ensures) ∙ not-false (c .before .is-sound-with .result) (c .if2 .left))
+
+returns-3 : tie.Need-returns-3
+unfolding receiveVerdict
+returns-3 c =
+    let long = sym (c .before .before .before .before .lengths-ok .ensures) ∙ not-false (c .before .before .before .before .lengths-ok .result) (c .before .before .before .if1 .left) in
+    let ok = sym (c .before .before .is-sound-with .ensures) ∙ not-false (c .before .before .is-sound-with .result) (c .before .if2 .left) in
+    simp (long, ok, c .message-verdict .ensures)
 
 pub receive-verdict-spec : {M : Type 1} → statement M
 receive-verdict-spec =
     tie.close
     (tie.spec
-    is-repeat-requires
-    past-requires
-    either-requires
-    near-oldest-requires
-    either-requires-2
-    row-of-requires
-    sum-fits-requires
-    either-requires-3
-    count-requires
-    either-requires-4
-    gate-requires
-    gate-requires-2
-    gate-requires-3
-    gate-requires-4
-    gate-requires-5
-    is-near-requires
-    gate-requires-6
-    length-ok-requires
-    gate-requires-7
-    slot-ok-requires
-    gate-requires-8
-    gate-requires-9
-    is-sound-requires
-    gate-requires-10
-    returns)
+    lengths-ok-requires
+    returns
+    is-sound-with-requires
+    returns-2
+    message-verdict-requires
+    returns-3)

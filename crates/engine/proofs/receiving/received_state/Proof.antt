@@ -1,5 +1,5 @@
 -- The row and the two halves, each by its own promise.
-use Rattle.engine.specs.Receiving.{receivedState}
+use Rattle.engine.specs.Receiving.{effectState}
 use borrow.Author.Needs.{needs}
 use Rattle.engine.proofs.receiving.received_state.Statement.{statement}
 use Rattle.engine.proofs.receiving.received_state.Tie as tie
@@ -16,20 +16,11 @@ with-row-requires c κs = search needs
 effect-tx-requires : tie.Need-effect-tx-requires
 effect-tx-requires c κs = search needs
 
-stored-rx-requires : tie.Need-stored-rx-requires
-stored-rx-requires c κs = search needs
-
 returns : tie.Need-returns
-unfolding receivedState
-returns c = simp (c .stored-rx .ensures, c .before .effect-tx .ensures, c .before .before .with-row .ensures, c .before .before .before .queue-ack .ensures, c .before .before .before .before .row-of .ensures)
+unfolding effectState
+returns c = simp (c .effect-tx .ensures, c .before .with-row .ensures, c .before .before .queue-ack .ensures, c .before .before .before .row-of .ensures)
 
 pub received-state-spec : {M : Type 1} → statement M
 received-state-spec =
     tie.close
-    (tie.spec
-    row-of-requires
-    queue-ack-requires
-    with-row-requires
-    effect-tx-requires
-    stored-rx-requires
-    returns)
+    (tie.spec row-of-requires queue-ack-requires with-row-requires effect-tx-requires returns)

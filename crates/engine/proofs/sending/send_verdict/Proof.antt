@@ -1,4 +1,4 @@
--- The gates, in the order of their numbers.
+-- The gates, in the order of the definition.
 use Rattle.engine.specs.Sending.{sendVerdict}
 use borrow.Author.Needs.{needs}
 use Rattle.engine.proofs.sending.send_verdict.Statement.{statement}

@@ -1,14 +1,14 @@
 -- The tests are those of `foundSound`, each by its own promise, joined in the same order.
-use Rattle.engine.specs.Found.{rowsFrom, distinctBelow, sendingb, receivingb, linksb, foundSound}
+use Rattle.engine.specs.Found.{rowsFrom, distinctBelow, sendingb, linksb, foundSound}
 use mathlib.Core.Path.{_≡_, refl, sym, ap, _∙_}
 use mathlib.Core.Bool.{_&&_}
 use lib.Dec.{eqb, leb}
 use borrow.Author.Tests.{le-leb, lt-leb}
 use Rattle.engine.specs.Roster.{rosterOf}
 use Rattle.engine.specs.Tally.{tallyOf}
+use Rattle.refusal.specs.Tests.{and-eq, and-true-first}
 use borrow.Author.Needs.{needs}
 use Rattle.engine.proofs.sound.found_sound.Statement.{statement}
-use Rattle.refusal.specs.Tests.{and-eq, and-true-first}
 use Rattle.engine.proofs.sound.found_sound.Tie as tie
 
 returns : tie.Need-returns
@@ -19,22 +19,16 @@ of-requires : tie.Need-of-requires
 of-requires c κs = search needs
 
 tallied-requires : tie.Need-tallied-requires
-tallied-requires c κs = c .before .if1 .left
-
-cells-tallied-requires : tie.Need-cells-tallied-requires
-cells-tallied-requires c κs = search needs
+tallied-requires c κs = search needs
 
 first-ok-requires : tie.Need-first-ok-requires
-first-ok-requires c κs = c .before .before .before .before .if1 .left
+first-ok-requires c κs = search needs
 
 rows-ok-requires : tie.Need-rows-ok-requires
 rows-ok-requires c κs = search needs
 
 distinct-requires : tie.Need-distinct-requires
 distinct-requires c κs = search needs
-
-past-requires : tie.Need-past-requires
-past-requires c κs = search needs
 
 both-requires : tie.Need-both-requires
 both-requires c κs = search needs
@@ -51,6 +45,9 @@ both-requires-4 c κs = search needs
 both-requires-5 : tie.Need-both-requires-5
 both-requires-5 c κs = search needs
 
+receiving-ok-requires : tie.Need-receiving-ok-requires
+receiving-ok-requires c κs = search needs
+
 both-requires-6 : tie.Need-both-requires-6
 both-requires-6 c κs = search needs
 
@@ -63,45 +60,20 @@ both-requires-8 c κs = search needs
 both-requires-9 : tie.Need-both-requires-9
 both-requires-9 c κs = search needs
 
-both-requires-10 : tie.Need-both-requires-10
-both-requires-10 c κs = search needs
-
-both-requires-11 : tie.Need-both-requires-11
-both-requires-11 c κs = search needs
-
-both-requires-12 : tie.Need-both-requires-12
-both-requires-12 c κs = search needs
-
-both-requires-13 : tie.Need-both-requires-13
-both-requires-13 c κs = search needs
-
-both-requires-14 : tie.Need-both-requires-14
-both-requires-14 c κs = search needs
-
 returns-2 : tie.Need-returns-2
-unfolding foundSound sendingb receivingb linksb
+unfolding foundSound sendingb linksb
 returns-2 c =
-    let s = c .before .before .before .before .before .before .before .before .before .before .before .before .before .before .before .before .before .before .before .before .before .before .before .before .before .before .before .before .before .before .before .before .before .before .before .before .args .s in
-    let t : c .before .before .before .before .before .before .before .before .before .before .before .before .before .before .before .before .before .before .before .before .before .before .before .before .before .before .before .before .before .tallied .result ≡ tallyOf (s .tx) (rosterOf (s .links)) (s .time) =
-    c .before .before .before .before .before .before .before .before .before .before .before .before .before .before .before .before .before .before .before .before .before .before .before .before .before .before .before .before .before .tallied .ensures ∙ ap (λ r. tallyOf (s .tx) r (s .time)) (c .before .before .before .before .before .before .before .before .before .before .before .before .before .before .before .before .before .before .before .before .before .before .before .before .before .before .before .before .before .before .of .ensures)
-    in
+    let s = c .before .before .before .before .before .before .before .before .before .before .before .before .before .before .before .before .before .before .before .before .before .before .before .before .before .before .before .before .before .args .s in
+    let t : c .before .before .before .before .before .before .before .before .before .before .before .before .before .before .before .before .before .before .before .before .before .before .tallied .result ≡ tallyOf (s .tx) (rosterOf (s .links)) (s .time) = c .before .before .before .before .before .before .before .before .before .before .before .before .before .before .before .before .before .before .before .before .before .before .tallied .ensures ∙ ap (λ r. tallyOf (s .tx) r (s .time)) (c .before .before .before .before .before .before .before .before .before .before .before .before .before .before .before .before .before .before .before .before .before .before .before .of .ensures) in
     let n = s .tx .«resend_count» in
-    let sums = c .before .before .before .before .before .before .before .before .before .before .before .before .before .before .before .before .before .before .both .ensures ∙ ap (λ x. eqb (x .unacked) (s .tx .«txed_unacked») && eqb (x .unconsumable) (s .tx .«txed_unconsumable»)) t in
-    let queue = c .before .before .before .before .before .before .before .before .before .before .before .before .before .before .both2 .ensures ∙ ap (λ x. eqb (x .queued) n && leb n 64) t in
-    let sending =
-    c .before .before .before .before .before .before .before .before .before .before .before .both5 .ensures
-    ∙ and-eq (ap (λ x. x .ok) t) (c .before .before .before .before .before .before .before .before .before .before .before .before .both4 .ensures ∙ and-eq (c .before .before .before .before .before .before .before .before .before .before .before .before .before .before .before .before .before .before .before .before .before .before .before .before .before .before .first-ok .ensures) (c .before .before .before .before .before .before .before .before .before .before .before .before .before .both3 .ensures ∙ and-eq queue sums))
-    in
-    let size = s .rx .«rxed_reliable_size» in
-    let u = c .before .before .before .before .before .before .before .before .before .before .before .before .before .before .before .before .before .before .before .before .before .before .before .before .before .before .before .cells-tallied .ensures in
-    let bytes = c .before .before .before .before .before .before .before .before .before .both6 .ensures ∙ ap (λ x. eqb (x .size) size && leb size (s .rx .«recv_buffer»)) u in
-    let near = c .before .before .before .before .before .before .before .both8 .ensures ∙ and-eq (ap (λ x. leb x 64) (c .before .before .before .before .before .before .before .before .before .before .before .before .before .before .before .before .before .before .before .before .before .before .before .past .ensures)) (c .before .before .before .before .before .before .before .before .both7 .ensures) in
-    let receiving = c .before .before .before .before .before .both10 .ensures ∙ and-eq (ap (λ x. x .ok) u) (c .before .before .before .before .before .before .both9 .ensures ∙ and-eq bytes near) in
-    let rows = c .before .before .before .before .before .before .before .before .before .before .before .before .before .before .before .before .before .before .before .before .before .before .before .before .before .rows-ok .ensures ∙ ap (λ x. rowsFrom (s .links) (x .on) (s .time) 0 8) t in
-    let alone = c .before .before .before .both11 .ensures ∙ and-eq (c .before .before .before .before .before .before .before .before .before .before .before .before .before .before .before .before .before .before .before .before .before .before .before .before .distinct .ensures ∙ ap (λ r. distinctBelow r 8) (c .before .before .before .before .before .before .before .before .before .before .before .before .before .before .before .before .before .before .before .before .before .before .before .before .before .before .before .before .before .before .of .ensures)) refl in
-    c .both14 .ensures
-    ∙ and-eq sending (c .before .both13 .ensures ∙ and-eq receiving (c .before .before .both12 .ensures ∙ and-eq rows alone))
-    ∙ sym (and-true-first (le-leb _ _ (c .before .before .before .before .before .before .before .before .before .before .before .before .before .before .before .before .before .before .before .before .before .before .before .before .before .before .before .before .before .before .before .if1 .left)))
+    let sums = c .before .before .before .before .before .before .before .before .before .before .before .before .before .both .ensures ∙ ap (λ x. eqb (x .unacked) (s .tx .«txed_unacked») && eqb (x .unconsumable) (s .tx .«txed_unconsumable»)) t in
+    let queue = c .before .before .before .before .before .before .before .before .before .both2 .ensures ∙ ap (λ x. eqb (x .queued) n && leb n 64) t in
+    let sending = c .before .before .before .before .before .before .both5 .ensures ∙ and-eq (ap (λ x. x .ok) t) (c .before .before .before .before .before .before .before .both4 .ensures ∙ and-eq (c .before .before .before .before .before .before .before .before .before .before .before .before .before .before .before .before .before .before .before .before .first-ok .ensures) (c .before .before .before .before .before .before .before .before .both3 .ensures ∙ and-eq queue sums)) in
+    let rows = c .before .before .before .before .before .before .before .before .before .before .before .before .before .before .before .before .before .before .before .rows-ok .ensures ∙ ap (λ x. rowsFrom (s .links) (x .on) (s .time) 0 8) t in
+    let alone = c .before .before .before .both6 .ensures ∙ and-eq (c .before .before .before .before .before .before .before .before .before .before .before .before .before .before .before .before .before .before .distinct .ensures ∙ ap (λ r. distinctBelow r 8) (c .before .before .before .before .before .before .before .before .before .before .before .before .before .before .before .before .before .before .before .before .before .before .before .of .ensures)) refl in
+    c .both9 .ensures
+    ∙ and-eq sending (c .before .both8 .ensures ∙ and-eq (c .before .before .before .before .before .receiving-ok .ensures) (c .before .before .both7 .ensures ∙ and-eq rows alone))
+    ∙ sym (and-true-first (le-leb _ _ (c .before .before .before .before .before .before .before .before .before .before .before .before .before .before .before .before .before .before .before .before .before .before .before .before .if1 .left)))
 
 pub found-sound-spec : {M : Type 1} → statement M
 found-sound-spec =
@@ -110,23 +82,17 @@ found-sound-spec =
     returns
     of-requires
     tallied-requires
-    cells-tallied-requires
     first-ok-requires
     rows-ok-requires
     distinct-requires
-    past-requires
     both-requires
     both-requires-2
     both-requires-3
     both-requires-4
     both-requires-5
+    receiving-ok-requires
     both-requires-6
     both-requires-7
     both-requires-8
     both-requires-9
-    both-requires-10
-    both-requires-11
-    both-requires-12
-    both-requires-13
-    both-requires-14
     returns-2)

@@ -6,7 +6,7 @@ use native.Mathlib.Omega.{arith}
 use denote.Ref.{now}
 use lib.ListN.{length}
 use Rattle.replaying.specs.Writing.{LINE_TEXT}
-use Rattle.replaying.specs.Feeding.{saidBy, carrying, startingWith, closed, closedAs, closeOf, closeOut, said-short}
+use Rattle.replaying.specs.Feeding.{saidBy, startingWith, closed, closedAs, closeOf, closeOut, said-short}
 use Rattle.replaying.specs.FeedLine.{put-start}
 use borrow.Author.Needs.{needs}
 use Rattle.replaying.proofs.feeding.close.Statement.{statement}
@@ -21,20 +21,26 @@ show-requires c κs = search needs
 same-length : tie.Need-same-length
 same-length c = search needs
 
+same-length-2 : tie.Need-same-length-2
+same-length-2 c = search needs
+
 returns : tie.Need-returns
 unfolding closeOf closeOut closed
 returns c =
-    let a = c .before .before .before .before .before .before .before .before .before .args in
-    let e = c .before .before .before .before .before .end-input in
-    let k = carrying (a .session) (now (a .store)) (now (a .line)) in
+    let a = c .before .before .before .before .before .before .before .before .before .before .before .before .before .args in
+    let e = c .before .before .before .before .before .before .before .end-input in
     let room : LINE_TEXT ≤ length (now (a .out)) = search needs in
     let short = said-short (e .result .answer) in (
-      ap (closedAs (e .result .replay)) (c .show .ensures .0 ∙ zero-add _) ∙ ap (λ x. closedAs (x .replay) (length (saidBy (x .answer)))) (e .ensures .0),
+      ap (closedAs (e .result .replay)) (c .show .ensures .0 ∙ zero-add _) ∙ ap (λ x. closedAs (x .said .replay) (length (saidBy (x .said .answer)))) (e .ensures),
       (
-        e .ensures .1,
-        c .show .ensures .1 ∙ put-start (saidBy (e .result .answer)) (now (a .out)) (omega (arith, short, room)) ∙ ap (λ x. startingWith (saidBy (x .answer)) (now (a .out))) (e .ensures .0),
+        ap (λ x. x .store) (e .ensures),
+        (
+          ap (λ x. x .records) (e .ensures),
+          c .show .ensures .1 ∙ put-start (saidBy (e .result .answer)) (now (a .out)) (omega (arith, short, room)) ∙ ap (λ x. startingWith (saidBy (x .said .answer)) (now (a .out))) (e .ensures),
+        ),
       ),
     )
 
 pub close-spec : {M : Type 1} → statement M
-close-spec = tie.close (tie.spec end-input-requires show-requires same-length returns)
+close-spec =
+    tie.close (tie.spec end-input-requires show-requires same-length same-length-2 returns)

@@ -1,23 +1,22 @@
--- The measure is how many places are left.
+-- The measure is how many places are left. No call changes a length.
+use mathlib.Core.Path.{_≡_}
 use Prim.Native.Nat.{_-_}
+use lib.ListN.{length}
 use borrow.Author.Needs.{needs}
 use Rattle.slide.proofs.end.arrivals.Statement.{statement}
 use Rattle.slide.proofs.end.arrivals.Tie as tie
 
 abbrev Inv-loop : tie.InvT-loop
-Inv-loop received₀ tally₀ air₀ end now room₀ out₀ k₀ received tally air room out k = Unit {0}
+Inv-loop received₀ records₀ tally₀ air₀ end now out₀ k₀ received records tally air out k = (length received ≡ length received₀) × (length records ≡ length records₀)
 
 abbrev μ-loop : tie.MeasureT-loop
-μ-loop received₀ tally₀ air₀ end now room₀ out₀ k₀ received tally air room out k = 128 - k
+μ-loop received₀ records₀ tally₀ air₀ end now out₀ k₀ received records tally air out k = 128 - k
 
 loop-holds : tie.Need-loop-holds Inv-loop μ-loop
 loop-holds c = search needs
 
-take-requires : tie.Need-take-requires Inv-loop μ-loop
-take-requires c κs = search needs
-
-arrive-requires : tie.Need-arrive-requires Inv-loop μ-loop
-arrive-requires c κs = search needs
+arrive-at-requires : tie.Need-arrive-at-requires Inv-loop μ-loop
+arrive-at-requires c κs = search needs
 
 add-k : tie.Need-add-k Inv-loop μ-loop
 add-k c = search needs
@@ -27,6 +26,12 @@ loop-less c = search needs
 
 loop-again : tie.Need-loop-again Inv-loop μ-loop
 loop-again c = search needs
+
+same-length : tie.Need-same-length Inv-loop μ-loop
+same-length c = search needs
+
+same-length-2 : tie.Need-same-length-2 Inv-loop μ-loop
+same-length-2 c = search needs
 
 returns : tie.Need-returns Inv-loop μ-loop
 returns c = search needs
@@ -38,9 +43,10 @@ arrivals-spec =
     Inv-loop
     μ-loop
     loop-holds
-    take-requires
-    arrive-requires
+    arrive-at-requires
     add-k
     loop-less
     loop-again
+    same-length
+    same-length-2
     returns)

@@ -1,17 +1,20 @@
--- The measure is how many ticks are left.
+-- The measure is how many ticks are left. No call changes a length.
+use mathlib.Core.Path.{_≡_}
 use Prim.Native.Nat.{_-_}
+use native.Mathlib.Omega.{arith}
+use lib.ListN.{length}
 use borrow.Author.Needs.{needs}
 use Rattle.slide.proofs.journey.run.Statement.{statement}
 use Rattle.slide.proofs.journey.run.Tie as tie
 
 abbrev Inv-loop : tie.InvT-loop
-Inv-loop scanner-sent₀ scanner-received₀ server-sent₀ server-received₀ chance₀ tally₀ air₀ row₀ ends₀ tick₀ scanner-sent scanner-received server-sent server-received chance tally air row ends tick = Unit {0}
+Inv-loop plan scanner-sent₀ scanner-received₀ scanner-records₀ server-sent₀ server-received₀ server-records₀ chance₀ tally₀ air₀ row₀ ends₀ tick₀ scanner-sent scanner-received scanner-records server-sent server-received server-records chance tally air row ends tick = (length server-received ≡ length server-received₀) × (length server-records ≡ length server-records₀)
 
 abbrev μ-loop : tie.MeasureT-loop
-μ-loop scanner-sent₀ scanner-received₀ server-sent₀ server-received₀ chance₀ tally₀ air₀ row₀ ends₀ tick₀ scanner-sent scanner-received server-sent server-received chance tally air row ends tick = 20000 - tick
+μ-loop plan scanner-sent₀ scanner-received₀ scanner-records₀ server-sent₀ server-received₀ server-records₀ chance₀ tally₀ air₀ row₀ ends₀ tick₀ scanner-sent scanner-received scanner-records server-sent server-received server-records chance tally air row ends tick = 20000 - tick
 
-begin-requires : tie.Need-begin-requires Inv-loop μ-loop
-begin-requires c κs = search needs
+start-requires : tie.Need-start-requires Inv-loop μ-loop
+start-requires c κs = search needs
 
 loop-holds : tie.Need-loop-holds Inv-loop μ-loop
 loop-holds c = search needs
@@ -25,17 +28,29 @@ pass-tick-requires c κs = search needs
 is-over-requires : tie.Need-is-over-requires Inv-loop μ-loop
 is-over-requires c κs = search needs
 
+same-length : tie.Need-same-length Inv-loop μ-loop
+same-length c = omega (arith, c .before .before .before .before .before .before .server-received, c .before .before .before .before .before .before .before .before .before .before .before .before .before .before .before .before .before .before .before .loop)
+
+same-length-2 : tie.Need-same-length-2 Inv-loop μ-loop
+same-length-2 c = omega (arith, c .before .before .before .before .server-records2, c .before .before .before .before .before .before .before .before .before .before .before .before .before .before .before .before .before .before .before .loop, c .before .before .before .before .before .before .before .before .before .before .before .before .before .before .before .before .before .before .before .before .before .server-records)
+
 returns : tie.Need-returns Inv-loop μ-loop
 returns c = search needs
 
 add-tick : tie.Need-add-tick Inv-loop μ-loop
-add-tick c = search needs
+add-tick c = omega (arith, c .before .before .before .before .before .before .before .before .before .before .before .before .before .before .before .before .before .before .loop-test)
 
 loop-less : tie.Need-loop-less Inv-loop μ-loop
-loop-less c = search needs
+loop-less c = omega (arith, c .before .before .before .before .before .before .before .before .before .before .before .before .before .before .before .before .before .before .loop-test)
 
 loop-again : tie.Need-loop-again Inv-loop μ-loop
-loop-again c = search needs
+loop-again c = (omega (arith, c .before .before .before .before .before .before .server-received, c .before .before .before .before .before .before .before .before .before .before .before .before .before .before .before .before .before .before .before .loop), omega (arith, c .before .before .before .before .server-records2, c .before .before .before .before .before .before .before .before .before .before .before .before .before .before .before .before .before .before .before .loop))
+
+same-length-3 : tie.Need-same-length-3 Inv-loop μ-loop
+same-length-3 c = search needs
+
+same-length-4 : tie.Need-same-length-4 Inv-loop μ-loop
+same-length-4 c = search needs
 
 returns-2 : tie.Need-returns-2 Inv-loop μ-loop
 returns-2 c = search needs
@@ -46,13 +61,17 @@ run-spec =
     (tie.spec
     Inv-loop
     μ-loop
-    begin-requires
+    start-requires
     loop-holds
     mul-pass-tick
     pass-tick-requires
     is-over-requires
+    same-length
+    same-length-2
     returns
     add-tick
     loop-less
     loop-again
+    same-length-3
+    same-length-4
     returns-2)

@@ -1,19 +1,24 @@
--- The measure is how many messages are left.
+-- The measure is how many messages are left. No call changes a length.
+use mathlib.Core.Path.{_≡_}
+use lib.ListN.{length}
 use borrow.Author.Needs.{needs}
 use Rattle.slide.proofs.server.take_ready.Statement.{statement}
 use Rattle.slide.proofs.server.take_ready.Tie as tie
 
 abbrev Inv-loop : tie.InvT-loop
-Inv-loop received tally₀ row₀ tick out₀ more₀ tally row out more = Unit {0}
+Inv-loop plan received records₀ tally₀ row₀ tick out₀ more₀ records tally row out more = length records ≡ length records₀
 
 abbrev μ-loop : tie.MeasureT-loop
-μ-loop received tally₀ row₀ tick out₀ more₀ tally row out more = more
+μ-loop plan received records₀ tally₀ row₀ tick out₀ more₀ records tally row out more = more
 
 loop-holds : tie.Need-loop-holds Inv-loop μ-loop
 loop-holds c = search needs
 
 is-drained-requires : tie.Need-is-drained-requires Inv-loop μ-loop
 is-drained-requires c κs = search needs
+
+same-length : tie.Need-same-length Inv-loop μ-loop
+same-length c = search needs
 
 returns : tie.Need-returns Inv-loop μ-loop
 returns c = search needs
@@ -30,6 +35,9 @@ enum-known-answer c = search needs
 enum-told : tie.Need-enum-told Inv-loop μ-loop
 enum-told c = search needs
 
+same-length-2 : tie.Need-same-length-2 Inv-loop μ-loop
+same-length-2 c = search needs
+
 returns-2 : tie.Need-returns-2 Inv-loop μ-loop
 returns-2 c = search needs
 
@@ -45,6 +53,9 @@ loop-less c = search needs
 loop-again : tie.Need-loop-again Inv-loop μ-loop
 loop-again c = search needs
 
+same-length-3 : tie.Need-same-length-3 Inv-loop μ-loop
+same-length-3 c = search needs
+
 returns-3 : tie.Need-returns-3 Inv-loop μ-loop
 returns-3 c = search needs
 
@@ -56,14 +67,17 @@ take-ready-spec =
     μ-loop
     loop-holds
     is-drained-requires
+    same-length
     returns
     show-requires
     take-requires
     enum-known-answer
     enum-told
+    same-length-2
     returns-2
     look-at-requires
     sub-more
     loop-less
     loop-again
+    same-length-3
     returns-3)
