@@ -32,7 +32,7 @@ ghost use Rattle.engine.specs.Acking.{settledRow, receivedTx, settledTx,
 ghost use Rattle.engine.specs.Sizes.{PACKETS};
 
 // The row, where the packet was Sent over its slot.
-fn settle_row(row: LinkRow, p: SentReliable, slot: u8, time: u64) -> LinkRow
+pub fn settle_row(row: LinkRow, p: SentReliable, slot: u8, time: u64) -> LinkRow
     ensures { λ r. ⌜ r ≡ settledRow row p slot time ⌝ }
 {
     let status = p.status;

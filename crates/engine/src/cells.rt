@@ -18,7 +18,7 @@ ghost use Rattle.engine.specs.CellTally.{Lent};
 ghost use Rattle.engine.specs.Cells.{nearOldest, isRepeat, canAdvance, oldestAfter, passedOver, advanced, endAfter, openedRecords};
 
 // What the number's record says.
-pub(crate) fn held_at(rx: Receiving, records: &[u64], seq: Seq) -> Held
+pub fn held_at(rx: Receiving, records: &[u64], seq: Seq) -> Held
     requires { ⌜ Lent rx (length (now records)) ⌝ }
     ensures { λ r. ⌜ r ≡ heldAt (rx .cells) (now (records .entry)) (seq .0) ⌝ }
 {
@@ -45,14 +45,14 @@ fn cell_of(rx: Receiving, records: &[u64], seq: Seq) -> Held
 }
 
 // Whether the number is less than the cell count past the one that refusal 12 counts from.
-pub(crate) fn near_oldest(rx: Receiving, seq: Seq) -> bool
+pub fn near_oldest(rx: Receiving, seq: Seq) -> bool
     ensures { λ r. ⌜ r ≡ nearOldest (rx .cells) rx (seq .0) ⌝ }
 {
     seq.past(rx.rx_oldest) < rx.cells
 }
 
 // Whether the number was received already: it is before the next expected, or held.
-pub(crate) fn is_repeat(rx: Receiving, records: &[u64], seq: Seq) -> bool
+pub fn is_repeat(rx: Receiving, records: &[u64], seq: Seq) -> bool
     requires { ⌜ Lent rx (length (now records)) ⌝ }
     ensures { λ r. ⌜ r ≡ isRepeat (rx .cells) (tableOf rx (now (records .entry))) (seq .0) ⌝ }
 {
@@ -106,7 +106,7 @@ fn pass(rx: Receiving, records: &mut [u64]) -> Receiving
 }
 
 // Consecutive messages advance the next expected number.
-pub(crate) fn advance(rx: Receiving, records: &mut [u64]) -> Receiving
+pub fn advance(rx: Receiving, records: &mut [u64]) -> Receiving
     requires { ⌜ Lent rx (length (now records)) ⌝ }
     ensures { λ r. ⌜ r ≡ advanced (rx .cells) (rx .cells) (tableOf rx (now (records .entry))) .rx ⌝ }
     ensures { λ _. ⌜ now (records .exit) ≡ advanced (rx .cells) (rx .cells) (tableOf rx (now (records .entry))) .records ⌝ }
@@ -138,7 +138,7 @@ fn empty_cells(cells: u32, records: &mut [u64], from: Seq, count: u32)
 }
 
 // A number at or past the end comes into use, and those before it from the end on, whose cells are emptied: the end after that.
-pub(crate) fn open_cells(rx: Receiving, records: &mut [u64], seq: Seq) -> Seq
+pub fn open_cells(rx: Receiving, records: &mut [u64], seq: Seq) -> Seq
     requires { ⌜ Lent rx (length (now records)) × (isUsed rx (seq .0) ≡ false → past (seq .0) (rx .«rx_end» .0) ≤ rx .cells) ⌝ }
     ensures { λ r. ⌜ r ≡ endAfter rx (seq .0) ⌝ }
     ensures { λ _. ⌜ now (records .exit) ≡ openedRecords (rx .cells) (tableOf rx (now (records .entry))) (seq .0) ⌝ }

@@ -38,7 +38,7 @@ pub enum ConfirmTimeout {
     No(Refusal),
 }
 
-fn in_flight(status: SentReliableStatus) -> FirstSent
+pub fn in_flight(status: SentReliableStatus) -> FirstSent
     ensures { λ r. ⌜ r ≡ inFlight status ⌝ }
 {
     match status {
@@ -66,7 +66,7 @@ fn first_sent(tx: Sending) -> FirstSent
     FirstSent::Nothing
 }
 
-fn was_flushed(flushed: Flushed) -> bool
+pub fn was_flushed(flushed: Flushed) -> bool
     ensures { λ r. ⌜ r ≡ wasFlushed flushed ⌝ }
 {
     match flushed {
@@ -76,7 +76,7 @@ fn was_flushed(flushed: Flushed) -> bool
 }
 
 // The flush time, or else the send time.
-fn definitely_sent(flight: InFlight) -> u64
+pub fn definitely_sent(flight: InFlight) -> u64
     ensures { λ r. ⌜ r ≡ definitelySent flight ⌝ }
 {
     let flushed = flight.flushed;

@@ -21,7 +21,7 @@ ghost use Rattle.engine.specs.Flushing.{flushedPacket, flushedState, flu
 ghost use Rattle.engine.specs.Sizes.{PACKETS};
 
 // A Sent packet of the slot without a flush time gets the present one.
-fn flush_packet(p: SentReliable, slot: u8, time: u64) -> SentReliable
+pub fn flush_packet(p: SentReliable, slot: u8, time: u64) -> SentReliable
     ensures { λ r. ⌜ r ≡ flushedPacket slot time p ⌝ }
 {
     let status = p.status;

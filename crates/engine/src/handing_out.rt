@@ -44,7 +44,7 @@ pub enum HandOut {
 }
 
 // The oldest ready message, where there is one.
-fn oldest_ready(rx: Receiving, records: &[u64]) -> Held
+pub fn oldest_ready(rx: Receiving, records: &[u64]) -> Held
     requires { ⌜ Lent rx (length (now records)) ⌝ }
     ensures { λ r. ⌜ r ≡ readyOf (tableOf rx (now (records .entry))) ⌝ }
 {
@@ -55,7 +55,7 @@ fn oldest_ready(rx: Receiving, records: &[u64]) -> Held
 }
 
 // The message that a cell holds; that of an empty one is never asked.
-fn msg_in(held: Held) -> ReliableMsg
+pub fn msg_in(held: Held) -> ReliableMsg
     ensures { λ r. ⌜ r ≡ msgIn held ⌝ }
 {
     match held {
@@ -81,14 +81,14 @@ fn hand_out(verdict: Verdict, rx: Receiving, records: &[u64]) -> HandOut
 }
 
 // The data bytes of a message: only Data has any.
-fn data_length(msg: ReliableMsg, len: u32) -> u32
+pub fn data_length(msg: ReliableMsg, len: u32) -> u32
     ensures { λ r. ⌜ r ≡ dataLength msg len ⌝ }
 {
     if is_data(msg) { len } else { 0 }
 }
 
 // The data bytes that taking would take.
-fn ready_bytes(held: Held) -> u32
+pub fn ready_bytes(held: Held) -> u32
     ensures { λ r. ⌜ r ≡ readyBytes held ⌝ }
 {
     match held {
@@ -197,7 +197,7 @@ fn skip(rx: Receiving, records: &[u64]) -> Receiving
 }
 
 // The receive table without its oldest ready message, of so many data bytes.
-fn take_message(rx: Receiving, records: &mut [u64], bytes: u32) -> Receiving
+pub fn take_message(rx: Receiving, records: &mut [u64], bytes: u32) -> Receiving
     requires { ⌜ Lent rx (length (now records)) × (rx .«rxed_reliable_consumed» + bytes < 2 ^ 32) ⌝ }
     ensures { λ r. ⌜ r ≡ takenIn (rx .cells) (tableOf rx (now (records .entry))) bytes .rx ⌝ }
     ensures { λ _. ⌜ now (records .exit) ≡ takenIn (rx .cells) (tableOf rx (now (records .entry))) bytes .records ⌝ }

@@ -1,23 +1,24 @@
 // The engine (000, agg/task.rs): its state, when that is sound, and a module for each family of calls. What a host uses is
-// passed on here, flat: `engine::State`, `engine::send`. A family's module is public so that `laws` can name its promises.
+// passed on here, flat: `engine::State`, `engine::send`. A family's module is public so that `laws` can name its promises, and what else is public is
+// a part of a call that the calls in place over words (crate `words`) are made of too: docs/EXCEPTIONS.md lists them.
 pub mod acking;
 pub mod answer;
-mod cells;
+pub mod cells;
 pub mod closing;
 pub mod deadlines;
 pub mod flushing;
 mod gates;
 pub mod handing_out;
 pub mod links;
-mod packet;
-mod packets;
+pub mod packet;
+pub mod packets;
 mod queue;
-mod received;
+pub mod received;
 pub mod receiving;
 pub mod records;
 pub mod resending;
-mod ring;
-mod roster;
+pub mod ring;
+pub mod roster;
 pub mod rows;
 pub mod sending;
 pub mod sizes;
@@ -26,7 +27,7 @@ pub mod sound;
 pub mod starting;
 pub mod state;
 pub mod table;
-mod totals;
+pub mod totals;
 pub mod unconfirming;
 
 pub use acking::ack;

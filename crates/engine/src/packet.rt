@@ -9,7 +9,7 @@ ghost use mathlib.Core.Path.{_≡_};
 ghost use Rattle.engine.specs.Fields.{newFlight, flushedFlight, newPacket, withStatus};
 
 impl InFlight {
-    pub(crate) fn new(time: u64, slot: u8, link: u64, resent: bool) -> InFlight
+    pub fn new(time: u64, slot: u8, link: u64, resent: bool) -> InFlight
         ensures { λ r. ⌜ r ≡ newFlight time slot link resent ⌝ }
     {
         InFlight {
@@ -22,7 +22,7 @@ impl InFlight {
     }
 
     // A flush time that is there stays.
-    pub(crate) fn flush(self, time: u64) -> InFlight
+    pub fn flush(self, time: u64) -> InFlight
         ensures { λ r. ⌜ r ≡ flushedFlight self time ⌝ }
     {
         let flushed = self.flushed;
@@ -40,12 +40,7 @@ impl InFlight {
 }
 
 impl SentReliable {
-    pub(crate) fn new(
-        seq: Seq,
-        msg: ReliableMsg,
-        len: u32,
-        status: SentReliableStatus,
-    ) -> SentReliable
+    pub fn new(seq: Seq, msg: ReliableMsg, len: u32, status: SentReliableStatus) -> SentReliable
         ensures { λ r. ⌜ r ≡ newPacket seq msg len status ⌝ }
     {
         SentReliable {
@@ -56,7 +51,7 @@ impl SentReliable {
         }
     }
 
-    pub(crate) fn with_status(self, status: SentReliableStatus) -> SentReliable
+    pub fn with_status(self, status: SentReliableStatus) -> SentReliable
         ensures { λ r. ⌜ r ≡ withStatus self status ⌝ }
     {
         let seq = self.seq;

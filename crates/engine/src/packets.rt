@@ -21,7 +21,7 @@ ghost use Rattle.engine.specs.Tally.{lengthOk, flushedOk, statusOk, pack
 ghost use Rattle.engine.specs.Sizes.{PACKETS};
 
 // What a pass has found: whether all was well, and the sums.
-pub(crate) struct Tally {
+pub struct Tally {
     pub ok: bool,
     pub on: [u32; SLOTS],
     pub unacked: u32,
@@ -29,14 +29,14 @@ pub(crate) struct Tally {
     pub queued: usize,
 }
 
-pub(crate) fn is_data(msg: ReliableMsg) -> bool
+pub fn is_data(msg: ReliableMsg) -> bool
     ensures { λ r. ⌜ r ≡ isData msg ⌝ }
 {
     msg.kind() == LinkMsg::MSG_DATA
 }
 
 // Whether a message may have a length: only Data has bytes, and at most 1,024.
-pub(crate) fn length_ok(msg: ReliableMsg, len: usize) -> bool
+pub fn length_ok(msg: ReliableMsg, len: usize) -> bool
     ensures { λ r. ⌜ r ≡ lengthOk msg len ⌝ }
 {
     if len == 0 {
@@ -45,7 +45,7 @@ pub(crate) fn length_ok(msg: ReliableMsg, len: usize) -> bool
     both(len <= DATA_BYTES, is_data(msg))
 }
 
-pub(crate) fn is_sent(status: SentReliableStatus) -> bool
+pub fn is_sent(status: SentReliableStatus) -> bool
     ensures { λ r. ⌜ r ≡ isSent status ⌝ }
 {
     match status {
@@ -55,7 +55,7 @@ pub(crate) fn is_sent(status: SentReliableStatus) -> bool
     }
 }
 
-pub(crate) fn is_received(status: SentReliableStatus) -> bool
+pub fn is_received(status: SentReliableStatus) -> bool
     ensures { λ r. ⌜ r ≡ isReceived status ⌝ }
 {
     match status {
@@ -65,7 +65,7 @@ pub(crate) fn is_received(status: SentReliableStatus) -> bool
     }
 }
 
-pub(crate) fn is_queued(status: SentReliableStatus) -> bool
+pub fn is_queued(status: SentReliableStatus) -> bool
     ensures { λ r. ⌜ r ≡ isQueued status ⌝ }
 {
     match status {
@@ -100,7 +100,7 @@ fn status_ok(status: SentReliableStatus, seq: Seq, next: Seq, roster: Roster, ti
     }
 }
 
-fn packet_ok(p: SentReliable, n: Seq, next: Seq, roster: Roster, time: u64) -> bool
+pub fn packet_ok(p: SentReliable, n: Seq, next: Seq, roster: Roster, time: u64) -> bool
     ensures { λ r. ⌜ r ≡ packetOk p n next roster time ⌝ }
 {
     let seq = p.seq;
@@ -112,7 +112,7 @@ fn packet_ok(p: SentReliable, n: Seq, next: Seq, roster: Roster, time: u64) -> b
 }
 
 // The tally with one packet more. Sums go round at 2^32, which a table that is well cannot reach.
-fn weigh(t: Tally, status: SentReliableStatus, len: u32, ok: bool) -> Tally
+pub fn weigh(t: Tally, status: SentReliableStatus, len: u32, ok: bool) -> Tally
     ensures { λ r. ⌜ r ≡ weighed status t len ok ⌝ }
 {
     let mut out = t;
@@ -137,7 +137,7 @@ fn weigh(t: Tally, status: SentReliableStatus, len: u32, ok: bool) -> Tally
 }
 
 // The whole table's tally, from its first packet on.
-pub(crate) fn tallied(tx: Sending, roster: Roster, time: u64) -> Tally
+pub fn tallied(tx: Sending, roster: Roster, time: u64) -> Tally
     requires { ⌜ tx .«txed_count» ≤ PACKETS ⌝ }
     ensures { λ r. ⌜ r ≡ tallyOf tx roster time ⌝ }
 {

@@ -16,7 +16,7 @@ ghost use Rattle.engine.specs.Received.{tableOf};
 ghost use Rattle.engine.specs.CellTally.{Lent, Judged, cellOk, recordWeighed, recordTallyOf, newestOk, foundRecords};
 
 // What a pass has found: whether all was well, and the data bytes.
-pub(crate) struct CellTally {
+pub struct CellTally {
     pub ok: bool,
     pub size: u32,
 }
@@ -91,7 +91,7 @@ fn newest_ok(rx: Receiving, records: &[u64]) -> bool
 }
 
 // What the pass finds.
-pub(crate) fn found_records(rx: Receiving, records: &[u64]) -> bool
+pub fn found_records(rx: Receiving, records: &[u64]) -> bool
     requires { ⌜ Judged rx (length (now records)) ⌝ }
     ensures { λ r. ⌜ r ≡ foundRecords (tableOf rx (now (records .entry))) ⌝ }
 {

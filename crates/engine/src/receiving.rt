@@ -70,7 +70,7 @@ fn message_verdict(
 }
 
 // Whether the received store and the record space have the lengths that the state's cell count asks for.
-pub(crate) fn lengths_ok(rx: Receiving, store: usize, records: usize) -> bool
+pub fn lengths_ok(rx: Receiving, store: usize, records: usize) -> bool
     ensures { λ r. ⌜ r ≡ lengthsOk rx store records ⌝ }
 {
     let cells = rx.cells as usize;
@@ -111,7 +111,7 @@ fn effect_tx(tx: Sending, msg: ReliableMsg) -> Sending
 }
 
 // A new message's record in its cell, and then what is consecutive passed.
-fn store_message(
+pub fn store_message(
     rx: Receiving,
     records: &mut [u64],
     msg: ReliableMsg,

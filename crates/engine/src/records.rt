@@ -8,7 +8,7 @@ use refusal::either;
 ghost use mathlib.Core.Path.{_≡_};
 ghost use Rattle.engine.specs.Records.{isFull, isReadyKind, heldBytes, heldAs, heldOf, recordOf, RecordFits, isRecord, keptOf, keptRecord};
 
-pub(crate) fn is_full(held: Held) -> bool
+pub fn is_full(held: Held) -> bool
     ensures { λ r. ⌜ r ≡ isFull held ⌝ }
 {
     match held {
@@ -17,7 +17,7 @@ pub(crate) fn is_full(held: Held) -> bool
     }
 }
 
-pub(crate) fn held_bytes(held: Held) -> u32
+pub fn held_bytes(held: Held) -> u32
     ensures { λ r. ⌜ r ≡ heldBytes held ⌝ }
 {
     match held {
@@ -26,7 +26,7 @@ pub(crate) fn held_bytes(held: Held) -> u32
     }
 }
 
-pub(crate) fn is_ready_kind(msg: ReliableMsg) -> bool
+pub fn is_ready_kind(msg: ReliableMsg) -> bool
     ensures { λ r. ⌜ r ≡ isReadyKind msg ⌝ }
 {
     either(is_data(msg), msg.kind() == LinkMsg::MSG_SEND_FINISH)
@@ -65,7 +65,7 @@ pub fn held_of(word: u64) -> Held
 }
 
 // The record of what a cell holds.
-pub(crate) fn record_of(held: Held) -> u64
+pub fn record_of(held: Held) -> u64
     requires { ⌜ RecordFits held ⌝ }
     ensures { λ r. ⌜ r ≡ recordOf held ⌝ }
 {
@@ -80,7 +80,7 @@ pub(crate) fn record_of(held: Held) -> u64
 }
 
 // Whether a word is the record of what it says.
-pub(crate) fn is_record(word: u64) -> bool
+pub fn is_record(word: u64) -> bool
     ensures { λ r. ⌜ r ≡ isRecord word ⌝ }
 {
     let held = held_of(word);
@@ -102,7 +102,7 @@ fn kept(held: Held) -> Held
     }
 }
 
-pub(crate) fn kept_record(word: u64) -> u64
+pub fn kept_record(word: u64) -> u64
     ensures { λ r. ⌜ r ≡ keptRecord word ⌝ }
 {
     let held = held_of(word);

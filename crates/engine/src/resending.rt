@@ -35,7 +35,7 @@ pub struct ResendResult {
 }
 
 // The identity that a packet was last sent on.
-fn last_link(status: SentReliableStatus) -> u64
+pub fn last_link(status: SentReliableStatus) -> u64
     ensures { λ r. ⌜ r ≡ lastLink status ⌝ }
 {
     match status {

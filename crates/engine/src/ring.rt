@@ -5,7 +5,7 @@ ghost use Prim.Native.Nat.{_%_, _<_};
 ghost use Rattle.engine.specs.Ring.{nextCell};
 
 // The cell after another of so many cells, going round.
-pub(crate) fn next_cell(cells: usize, at: usize) -> usize
+pub fn next_cell(cells: usize, at: usize) -> usize
     ensures { λ r. ⌜ r ≡ nextCell cells at ⌝ }
 {
     if cells <= at {
@@ -15,7 +15,7 @@ pub(crate) fn next_cell(cells: usize, at: usize) -> usize
 }
 
 // The cell of a number in the receive table.
-pub(crate) fn cell_at(cells: u32, seq: Seq) -> usize
+pub fn cell_at(cells: u32, seq: Seq) -> usize
     requires { ⌜ 0 < cells ⌝ }
     ensures { λ r. ⌜ r ≡ seq .0 % cells ⌝ }
 {

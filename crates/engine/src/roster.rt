@@ -4,13 +4,13 @@ use link::LinkRow;
 ghost use mathlib.Core.Path.{_≡_};
 ghost use Rattle.engine.specs.Roster.{rosterOf, livesIn, livesBefore};
 
-pub(crate) struct Roster {
+pub struct Roster {
     pub live: [bool; SLOTS],
     pub ids: [u64; SLOTS],
 }
 
 impl Roster {
-    pub(crate) fn of(links: [LinkRow; SLOTS]) -> Roster
+    pub fn of(links: [LinkRow; SLOTS]) -> Roster
         ensures { λ r. ⌜ r ≡ rosterOf links ⌝ }
     {
         Roster {
@@ -38,7 +38,7 @@ impl Roster {
     }
 
     // Whether a slot holds a live link with the identity.
-    pub(crate) fn lives_in(self, slot: usize, id: u64) -> bool
+    pub fn lives_in(self, slot: usize, id: u64) -> bool
         ensures { λ r. ⌜ r ≡ livesIn self slot id ⌝ }
     {
         if SLOTS <= slot {
@@ -52,7 +52,7 @@ impl Roster {
     }
 
     // Whether one of the first n slots holds a live link with the identity.
-    pub(crate) fn lives_before(self, n: usize, id: u64) -> bool
+    pub fn lives_before(self, n: usize, id: u64) -> bool
         ensures { λ r. ⌜ r ≡ livesBefore self n id ⌝ }
     {
         let mut left = n;

@@ -46,14 +46,14 @@ pub struct SendResult {
 }
 
 // Whether a message may be given at all: no more data after the end of sending.
-fn open_ok(finished: bool, msg: ReliableMsg) -> bool
+pub fn open_ok(finished: bool, msg: ReliableMsg) -> bool
     ensures { λ r. ⌜ r ≡ openOk finished msg ⌝ }
 {
     either(!finished, !is_ready_kind(msg))
 }
 
 // Whether a Consumed tells of bytes that were taken and not told yet.
-fn told_ok(msg: ReliableMsg, untold: u32) -> bool
+pub fn told_ok(msg: ReliableMsg, untold: u32) -> bool
     ensures { λ r. ⌜ r ≡ toldOk msg untold ⌝ }
 {
     let n = msg.count();

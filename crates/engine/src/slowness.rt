@@ -85,7 +85,7 @@ fn list_over(rows: [LinkRow; SLOTS]) -> SlowLinks
 }
 
 // The slow links among eight rows in slot order.
-fn slow_rows(rows: [LinkRow; SLOTS]) -> SlowLinks
+pub fn slow_rows(rows: [LinkRow; SLOTS]) -> SlowLinks
     ensures { λ r. ⌜ r ≡ slowOf rows ⌝ }
 {
     if all_slow(rows) {

@@ -36,7 +36,7 @@ fn first_ok(tx: Sending) -> bool
 }
 
 // A link's unacked bytes are the sum of its Sent data, and its counts and times within their sizes. An empty slot has no link.
-fn row_ok(row: LinkRow, sum: u32, time: u64) -> bool
+pub fn row_ok(row: LinkRow, sum: u32, time: u64) -> bool
     ensures { λ r. ⌜ r ≡ rowOk row sum time ⌝ }
 {
     if !row.live {
@@ -60,7 +60,7 @@ fn rows_ok(links: [LinkRow; SLOTS], on: [u32; SLOTS], time: u64) -> bool
 }
 
 // No identity lives twice: nobody below a live slot has its identity.
-fn distinct(roster: Roster) -> bool
+pub fn distinct(roster: Roster) -> bool
     ensures { λ r. ⌜ r ≡ distinctBelow roster SLOTS ⌝ }
 {
     let mut left: usize = SLOTS;
@@ -76,7 +76,7 @@ fn distinct(roster: Roster) -> bool
 }
 
 // "64 cells times a power of two, up to 65,536 cells".
-pub(crate) fn is_cell_count(cells: u32) -> bool
+pub fn is_cell_count(cells: u32) -> bool
     ensures { λ r. ⌜ r ≡ isCellCount cells ⌝ }
 {
     let large = either(
@@ -97,7 +97,7 @@ pub(crate) fn is_cell_count(cells: u32) -> bool
 }
 
 // The receiving half but for what the records hold: its settings, and the order of its numbers.
-fn receiving_ok(rx: Receiving) -> bool
+pub fn receiving_ok(rx: Receiving) -> bool
     ensures { λ r. ⌜ r ≡ receivingb rx ⌝ }
 {
     let expected = rx.rx_seq.past(rx.rx_oldest);

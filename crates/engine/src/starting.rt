@@ -72,7 +72,7 @@ fn fresh_state(start: Seq, recv_buffer: u32, cells: u32) -> State
     }
 }
 
-fn fresh_verdict(recv_buffer: u32, cells: u32, records: usize) -> Verdict
+pub fn fresh_verdict(recv_buffer: u32, cells: u32, records: usize) -> Verdict
     ensures { λ r. ⌜ r ≡ freshVerdict «recv_buffer» cells records ⌝ }
 {
     let most = cells as usize * DATA_BYTES;
@@ -86,7 +86,7 @@ fn fresh_verdict(recv_buffer: u32, cells: u32, records: usize) -> Verdict
 }
 
 // Leaves every record empty, whatever it held.
-fn empty_records(records: &mut [u64])
+pub fn empty_records(records: &mut [u64])
     ensures { λ _. ⌜ now (records .exit) ≡ replicate (length (now (records .entry))) 0 ⌝ }
 {
     let mut i: usize = 0;

@@ -25,7 +25,7 @@ ghost use Rattle.engine.specs.Unconfirming.{unconfirmedPacket, unconfirm
 ghost use Rattle.engine.specs.Sizes.{PACKETS};
 
 // A packet Sent over the slot becomes ResendQueued, and remembers the identity.
-fn unconfirm_packet(p: SentReliable, slot: u8) -> SentReliable
+pub fn unconfirm_packet(p: SentReliable, slot: u8) -> SentReliable
     ensures { λ r. ⌜ r ≡ unconfirmedPacket slot p ⌝ }
 {
     let status = p.status;
