@@ -1,5 +1,6 @@
 -- Words that a call in place is given: those of a sound state. Assumes nothing.
 use mathlib.Core.Path.{_≡_, refl, sym, ap, _∙_, subst}
+use mathlib.Core.Logic.{_≢_}
 use mathlib.Core.Bool.{true}
 use mathlib.Core.List.{List, [], map}
 use Prim.Native.Nat.{ℕ, _%_, _^_, _<_}
@@ -23,6 +24,10 @@ pub record Ready (w : List ℕ) : Type 0 where
 
 pub ready-sound : (w : List ℕ) → Ready w → Sound (stateOf w)
 ready-sound w r = sound (stateOf w) (r .judged)
+
+-- "state and lent bytes stay as they came": of a refusal's number, and of any but 0, every word is as it was
+abbrev pub Left : ℕ → List ℕ → List ℕ → Type 0
+Left number old new = number ≢ 0 → new ≡ old
 
 -- every word is one of 64 bits
 abbrev pub Words64 : List ℕ → Type 0

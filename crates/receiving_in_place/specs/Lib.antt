@@ -1,0 +1,2 @@
+pub mod ReadyWith
+pub mod Acked

@@ -1,0 +1,6 @@
+pub mod Table
+pub mod RowsBare
+pub mod Swept
+pub mod Requeue
+pub mod Changing
+pub mod Clearing
