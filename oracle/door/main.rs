@@ -60,7 +60,7 @@ mod door {
         pub fn fk_is_consume_ack_required(words: *const u64, n: usize, values: *mut u64) -> u64;
         pub fn fk_close_reader(words: *mut u64, n: usize) -> u64;
         pub fn fk_earliest_confirm_timeout(words: *const u64, n: usize, trip: u64, resent: u64, unreliable: u64, min: u64, max: u64, is: bool, values: *mut u64) -> u64;
-        pub fn fk_slow(words: *const u64, n: usize, values: *mut u64) -> u64;
+        pub fn fk_slow(words: *const u64, n: usize, slots: *mut u64, values: *mut u64) -> u64;
     }
 }
 
@@ -204,9 +204,9 @@ impl End {
                     (told, if values[0] == UNTOLD { 0 } else { 3 })
                 }
                 Call::Slow { .. } => {
-                    let told = door::fk_slow(w, n, v);
-                    let slots = (0..8).filter(|slot| values[0] >> slot & 1 == 1).map(|slot| format!(" {slot}"));
-                    return slots.fold(told.to_string(), |line, slot| line + &slot);
+                    let mut slots = [UNTOLD; 8];
+                    let told = door::fk_slow(w, n, slots.as_mut_ptr(), v);
+                    return slots[..values[0] as usize].iter().fold(told.to_string(), |line, slot| line + " " + &slot.to_string());
                 }
                 Call::Dump => return self.dump(),
                 Call::Fresh { .. } | Call::Read { .. } | Call::Write { .. } | Call::Lend => unreachable!(),

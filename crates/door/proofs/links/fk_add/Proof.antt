@@ -31,7 +31,7 @@ same-length-2 : tie.Need-same-length-2
 same-length-2 c = search needs
 
 returns-2 : tie.Need-returns-2
-returns-2 c = 
+returns-2 c =
     let e = rw (c .before .before .before .before .before .before .max-ping-given .ensures) at (c .before .before .before .before .add .ensures) in
     let t = c .tell-added .ensures in
     (t .0 ∙ ap (λ x. addTold x .number) (e .0), (e .1 .0, (t .1 ∙ ap (λ x. sets (c .before .before .before .before .before .before .before .before .before .before .before .args .values .now) 0 (addTold x .values)) (e .0), λ ne. e .1 .1 (λ z. ne (t .0 ∙ z)))))

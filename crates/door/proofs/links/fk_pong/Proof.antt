@@ -29,7 +29,7 @@ same-length-2 : tie.Need-same-length-2
 same-length-2 c = search needs
 
 returns-2 : tie.Need-returns-2
-returns-2 c = 
+returns-2 c =
     let e = c .before .before .before .pong .ensures in
     let t = c .tell .ensures in
     (t ∙ ap (λ x. outcomeTold x .number) (e .0), (e .1 .0, λ ne. e .1 .1 (λ z. ne (t ∙ z))))

@@ -22,7 +22,7 @@ tell-due-requires : tie.Need-tell-due-requires
 tell-due-requires c κs = search needs
 
 returns-2 : tie.Need-returns-2
-returns-2 c = 
+returns-2 c =
     let e = c .before .before .is-consume-ack-required .ensures in
     let t = c .tell-due .ensures in
     (t .0 ∙ ap (λ x. dueTold x .number) e, t .1 ∙ ap (λ x. sets (c .before .before .before .before .before .before .args .values .now) 0 (dueTold x .values)) e)

@@ -32,7 +32,7 @@ tell-message-requires : tie.Need-tell-message-requires
 tell-message-requires c κs = search needs
 
 returns-3 : tie.Need-returns-3
-returns-3 c = 
+returns-3 c =
     let e = c .before .before .showing .ensures in
     let t = c .tell-message .ensures in
     (t .0 ∙ ap (λ x. handOutTold x .number) e, t .1 ∙ ap (λ x. sets (c .before .before .before .before .before .before .before .before .before .before .before .args .values .now) 0 (handOutTold x .values)) e)

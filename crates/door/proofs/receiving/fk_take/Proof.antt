@@ -47,7 +47,7 @@ same-length-5 : tie.Need-same-length-5
 same-length-5 c = search needs
 
 returns-3 : tie.Need-returns-3
-returns-3 c = 
+returns-3 c =
     let e = c .before .before .before .before .before .before .take .ensures in
     let t = c .tell-message .ensures in
     (t .0 ∙ ap (λ x. handOutTold x .number) (e .0), (e .1 .0, (e .1 .1 .0, (t .1 ∙ ap (λ x. sets (c .before .before .before .before .before .before .before .before .before .before .before .before .before .before .before .before .before .before .before .args .values .now) 0 (handOutTold x .values)) (e .0), λ ne. e .1 .1 .1 (λ z. ne (t .0 ∙ z))))))

@@ -50,7 +50,7 @@ same-length-6 : tie.Need-same-length-6
 same-length-6 c = search needs
 
 returns-3 : tie.Need-returns-3
-returns-3 c = 
+returns-3 c =
     let e = c .before .before .before .before .before .before .before .receive .ensures in
     let t = c .tell .ensures in
     (t ∙ ap (λ x. outcomeTold x .number) (e .0), (e .1 .0, (e .1 .1 .0, (e .1 .1 .1 .0, λ ne. e .1 .1 .1 .1 (λ z. ne (t ∙ z))))))

@@ -22,7 +22,7 @@ tell-timeout-requires : tie.Need-tell-timeout-requires
 tell-timeout-requires c κs = search needs
 
 returns-2 : tie.Need-returns-2
-returns-2 c = 
+returns-2 c =
     let e = c .before .before .earliest-confirm-timeout .ensures in
     let t = c .tell-timeout .ensures in
     (t .0 ∙ ap (λ x. confirmTimeoutTold x .number) e, t .1 ∙ ap (λ x. sets (c .before .before .before .before .before .before .args .values .now) 0 (confirmTimeoutTold x .values)) e)

@@ -29,7 +29,7 @@ same-length-2 : tie.Need-same-length-2
 same-length-2 c = search needs
 
 returns-2 : tie.Need-returns-2
-returns-2 c = 
+returns-2 c =
     let e = c .before .before .before .before .resend .ensures in
     let t = c .tell-resent .ensures in
     (t .0 ∙ ap (λ x. resendTold x .number) (e .0), (e .1 .0, (t .1 ∙ ap (λ x. sets (c .before .before .before .before .before .before .before .before .before .before .args .values .now) 0 (resendTold x .values)) (e .0), λ ne. e .1 .1 (λ z. ne (t .0 ∙ z)))))

@@ -35,7 +35,7 @@ same-length-3 : tie.Need-same-length-3
 same-length-3 c = search needs
 
 returns-3 : tie.Need-returns-3
-returns-3 c = 
+returns-3 c =
     let e = c .before .before .before .before .before .before .send .ensures in
     let t = c .tell-sent .ensures in
     (t .0 ∙ ap (λ x. sendTold x .number) (e .0), (e .1 .0, (e .1 .1 .0, (t .1 ∙ ap (λ x. sets (c .before .before .before .before .before .before .before .before .before .before .before .before .before .before .before .before .args .values .now) 0 (sendTold x .values)) (e .0), λ ne. e .1 .1 .1 (λ z. ne (t .0 ∙ z))))))
