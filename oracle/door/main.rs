@@ -1,12 +1,14 @@
 //! Answers a script of calls (docs/CALLS.md) through the exported calls in place, over words, stores and records that this program holds.
 //!
-//! Standard input is the script; standard output its answers. A `read` or `write` of a message needs no state and is answered `@`.
+//! Standard input is the script; standard output its answers.
 
+#[allow(dead_code)]
 #[path = "../rust/src/script.rs"]
 mod script;
 
-/// What script.rs names of the original: here nothing is done with them.
+/// What script.rs names of the original.
 mod msg {
+    #[derive(Clone, Copy)]
     pub enum RefusedReason {
         Closed,
         NotListening,
@@ -14,7 +16,6 @@ mod msg {
         LinkRefused,
     }
 
-    #[allow(dead_code)]
     pub enum LinkMsg {
         Accepted,
         Refused { reason: RefusedReason },
@@ -35,6 +36,46 @@ mod msg {
 
 mod seq {
     pub struct Seq(pub u32);
+}
+
+/// Kind and numbers, as `fk_write` is given them.
+fn numbers(message: &msg::LinkMsg) -> (u8, u32, u32) {
+    use msg::LinkMsg::*;
+    match message {
+        Accepted => (3, 0, 0),
+        Refused { reason } => (4, 1 + *reason as u32, 0),
+        Ping => (5, 0, 0),
+        Pong => (6, 0, 0),
+        Data { seq } => (7, seq.0, 0),
+        Ack { received } => (8, received.0, 0),
+        Consumed { seq, consumed } => (9, seq.0, *consumed),
+        SendFinish { seq } => (10, seq.0, 0),
+        ReceiveClose { seq } => (11, seq.0, 0),
+        ReceiveFinish { seq } => (12, seq.0, 0),
+        TestData { size } => (13, *size as u32, 0),
+        SetBlock { blocked } => (14, *blocked as u32, 0),
+        Goodbye => (15, 0, 0),
+        Terminate => (16, 0, 0),
+    }
+}
+
+/// The answer to a `read`: what the message carries, or the refusal, which writes no value.
+fn read(bytes: &[u8]) -> String {
+    let mut values = [UNTOLD; 3];
+    let number = unsafe { door::fk_read(bytes.as_ptr(), bytes.len(), values.as_mut_ptr()) };
+    assert!(number == 0 || values == [UNTOLD; 3], "a refusal wrote a value");
+    values.iter().take_while(|&&v| v != UNTOLD).fold(number.to_string(), |line, value| line + " " + &value.to_string())
+}
+
+/// The answer to a `write` into so many bytes, of which only the message's own are written.
+fn write_message(room: usize, (kind, first, second): (u8, u32, u32)) -> String {
+    let mut buffer = vec![0xee; room];
+    let mut values = [UNTOLD; 3];
+    let number = unsafe { door::fk_write(buffer.as_mut_ptr(), room, kind, first, second, values.as_mut_ptr()) };
+    let length = if number == 0 { values[0] as usize } else { 0 };
+    assert!(buffer[length..].iter().all(|&byte| byte == 0xee), "a byte that is not the message's was written");
+    assert!(number == 0 || values == [UNTOLD; 3], "a refusal wrote a value");
+    if number == 0 { format!("0 {}", hex(&buffer[..length])) } else { number.to_string() }
 }
 
 mod door {
@@ -60,11 +101,13 @@ mod door {
         pub fn fk_is_consume_ack_required(words: *const u64, n: usize, values: *mut u64) -> u64;
         pub fn fk_close_reader(words: *mut u64, n: usize) -> u64;
         pub fn fk_earliest_confirm_timeout(words: *const u64, n: usize, trip: u64, resent: u64, unreliable: u64, min: u64, max: u64, is: bool, values: *mut u64) -> u64;
+        pub fn fk_read(bytes: *const u8, b: usize, values: *mut u64) -> u64;
+        pub fn fk_write(buffer: *mut u8, b: usize, kind: u8, first: u32, second: u32, values: *mut u64) -> u64;
         pub fn fk_slow(words: *const u64, n: usize, slots: *mut u64, values: *mut u64) -> u64;
     }
 }
 
-use script::Call;
+use script::{Asked, Call};
 use std::{
     fmt::Write as _,
     io::{self, BufRead, Write as _},
@@ -305,7 +348,9 @@ impl End {
     fn answer(&mut self, line: &str) -> String {
         match Call::parse(line) {
             None => "?".into(),
-            Some(Call::Read { .. } | Call::Write { .. }) => "@".into(),
+            Some(Call::Read { bytes }) => read(&bytes),
+            Some(Call::Write { room, message: Asked::Handshake }) => write_message(room, (1, 0, 0)),
+            Some(Call::Write { room, message: Asked::Message(message) }) => write_message(room, numbers(&message)),
             Some(Call::Fresh { start, buffer, cells }) => self.fresh(start, buffer, cells),
             Some(_) if !self.begun => "?".into(),
             Some(Call::Lend) => {

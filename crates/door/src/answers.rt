@@ -33,7 +33,7 @@ pub(crate) fn refused(e: Refusal) -> u64
     e.number() as u64
 }
 
-fn word(seq: Seq) -> u64
+pub(crate) fn word(seq: Seq) -> u64
     ensures { λ r. ⌜ r ≡ seq .0 ⌝ }
 {
     seq.0 as u64

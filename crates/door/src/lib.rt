@@ -3,7 +3,9 @@
 mod answers;
 mod given;
 pub mod links;
+pub mod messages;
 pub mod reader;
 pub mod receiving;
 pub mod sending;
+pub mod slowness;
 pub mod state;
