@@ -1,6 +1,7 @@
 //! A tile's round through the original's own functions, one wrapper for each, so that a profiler can tell them apart. A child of task.rs, as the oracle's driver is.
 
 use super::*;
+use futures::FutureExt;
 use std::{
     hint::black_box,
     num::NonZeroU32,
@@ -84,6 +85,11 @@ fn new_end() -> End {
     end
 }
 
+/// The transport's part: what was written is taken.
+fn drained(end: &mut End, slot: usize) {
+    while end.links[slot].as_mut().unwrap().event().now_or_never().is_some() {}
+}
+
 #[unsafe(no_mangle)]
 #[inline(never)]
 fn bench_send(end: &mut End, slot: usize, data: &Bytes) -> Seq {
@@ -153,6 +159,7 @@ pub(crate) fn rounds(packets: u32, cells: u32, count: u32, slot: usize) -> usize
     for n in 0..count + packets - 1 {
         time::set(1_000_000 * u64::from(n));
         let seq = bench_send(&mut a, slot, &data);
+        drained(&mut a, slot);
         sum += bench_receive(&mut b, slot, seq, &data) as usize;
         if n >= packets - 1 || n - taken >= cells - 1 {
             sum += bench_show(&b) + bench_take(&mut b);
@@ -164,6 +171,7 @@ pub(crate) fn rounds(packets: u32, cells: u32, count: u32, slot: usize) -> usize
             acked += 1;
         }
         bench_frame(&mut a, slot, seq, &data);
+        drained(&mut a, slot);
     }
     black_box(sum)
 }
@@ -190,6 +198,7 @@ pub(crate) fn unconfirm(packets: u32, slot: usize) {
     let data = Bytes::from(vec![7; 1024]);
     for _ in 0..packets {
         bench_send(&mut a, slot, &data);
+        drained(&mut a, slot);
     }
     bench_unconfirm(&mut a, slot);
 }
