@@ -2,7 +2,6 @@
 // use, with neither the state nor a row's acks read.
 mod packet;
 mod pass;
-mod places;
 mod roster;
 pub mod sound;
 

@@ -1,6 +1,4 @@
 // A packet judged by its words. What it says is read no further than the tests go.
-use crate::places::CELL;
-use crate::places::CELLS;
 use crate::roster::lives_in;
 use engine::DATA_BYTES;
 use engine::Held;
@@ -9,6 +7,8 @@ use engine::held_of;
 use engine::packets::length_ok;
 use msg::LinkMsg;
 use seq::Seq;
+use words::layout::PACKET;
+use words::layout::PACKETS_START;
 use words::queues::queued_at;
 ghost use mathlib.Core.Path.{_≡_};
 ghost use Prim.Native.Nat.{_/_, _%_, _<_};
@@ -122,8 +122,8 @@ pub(crate) fn weight_at(words: &[u64], at: usize, n: Seq, queued: usize, time: u
     requires { ⌜ (length (now words) ≡ WORDS) × (at < 64) ⌝ }
     ensures { λ r. ⌜ r ≡ weightOf (getD (stateOf (now (words .entry)) .tx .«txed_packets») at noPacket) n (getD (stateOf (now (words .entry)) .tx .«resend_queue») (queued % 64) (seqOf 0)) (rosterOf (stateOf (now (words .entry)) .links)) time ⌝ }
 {
-    let start = CELLS + at * CELL;
-    let end = start + CELL;
+    let start = PACKETS_START + at * PACKET;
+    let end = start + PACKET;
     let part = &words[start..end];
     weight_in(words, part, n, queued, time)
 }

@@ -1,8 +1,8 @@
 // Who lives in which slot, by the first two words of each row.
-use crate::places::ROW;
-use crate::places::ROWS;
 use engine::SLOTS;
 use engine::roster::Roster;
+use words::layout::ROW;
+use words::layout::ROWS;
 ghost use mathlib.Core.Path.{_≡_};
 ghost use Prim.Native.Nat.{_<_};
 ghost use lib.ListN.{length};

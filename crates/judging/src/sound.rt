@@ -1,6 +1,5 @@
 // The whole judgement.
 use crate::pass::tallied;
-use crate::places::TIME;
 use crate::roster::roster_of;
 use engine::PACKETS;
 use engine::SLOTS;
@@ -13,6 +12,7 @@ use engine::sound::row_ok;
 use link::sizes::MAX_TIME;
 use refusal::both;
 use seq::Seq;
+use words::layout::TIME;
 use words::layout::WORDS;
 use words::packet::packet_at;
 use words::receiving::rx_of;

@@ -62,7 +62,7 @@ module _ (r : LinkRow) where
   pub bare-ponged : (t : ℕ) → over r (ponged (bare r) t) ≡ ponged r t
   bare-ponged t = ponged-as (r .«current_ping_sent») t
 
-  acked-as : (m : Limit) (a : ℕ) → over r (markAckedAs m (bare r) a) ≡ markAckedAs m r a
+  pub acked-as : (m : Limit) (a : ℕ) → over r (markAckedAs m (bare r) a) ≡ markAckedAs m r a
   unfolding markAckedAs
   acked-as Clear a = refl
   acked-as (At m) a = cases (before a (m .0)) (λ t. simp t) (λ t. simp t)
@@ -70,7 +70,7 @@ module _ (r : LinkRow) where
   pub bare-acked : (a : ℕ) → over r (markAcked (bare r) a) ≡ markAcked r a
   bare-acked a = acked-as (r .«limit_increased») a
 
-  resent-as : (m : Limit) (n : ℕ) → over r (markResentAs m (bare r) n) ≡ markResentAs m r n
+  pub resent-as : (m : Limit) (n : ℕ) → over r (markResentAs m (bare r) n) ≡ markResentAs m r n
   unfolding markResentAs
   resent-as Clear n = refl
   resent-as (At m) n = cases (before n (m .0)) (λ t. simp t) (λ t. simp t)

@@ -10,6 +10,9 @@ use link::sizes::max_ping_within;
 use refusal::Refusal;
 use refusal::both;
 use words::gates::slot_ok;
+use words::layout::ACKS_START;
+use words::layout::ROW;
+use words::layout::ROWS;
 use words::row::put_row;
 ghost use mathlib.Core.Path.{_≡_};
 ghost use mathlib.Core.Bool.{_&&_};
@@ -26,12 +29,8 @@ ghost use Rattle.words.specs.Layout.{WORDS};
 ghost use Rattle.words.specs.Meaning.{stateOf};
 ghost use Rattle.words.specs.Ready.{Ready, Left};
 
-// Where the identity of the first row stands, the first slot's acks, and how far it is to the next (docs/WORDS.md).
-const IDENTITY: usize = 33;
-
-const ROW: usize = 16;
-
-const ACKS_START: usize = 160;
+// Where the identity of the first row stands.
+const IDENTITY: usize = ROWS + 1;
 
 // The lowest slot without a link, or SLOTS.
 fn lowest_empty(words: &[u64]) -> u8
@@ -85,7 +84,7 @@ fn clear_acks(words: &mut [u64], slot: usize)
 }
 
 // A row with no ack in a slot.
-fn put_new(words: &mut [u64], slot: usize, row: LinkRow)
+pub fn put_new(words: &mut [u64], slot: usize, row: LinkRow)
     requires { ⌜ (length (now words) ≡ WORDS) × (slot < 8) ⌝ }
     ensures { λ _. ⌜ stateOf (now (words .exit)) ≡ withRow (stateOf (now (words .entry))) slot (withAcks row noAcks (row .«ack_count»)) ⌝ }
 {

@@ -3,4 +3,3 @@ pub mod RowsBare
 pub mod Swept
 pub mod Requeue
 pub mod Changing
-pub mod Clearing

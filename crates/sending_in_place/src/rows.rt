@@ -1,9 +1,7 @@
 // The rows of a state in words.
 use engine::sizes::SLOT_END;
 use link::LinkRow;
-use link::sizes::ACKS;
-use seq::Seq;
-use words::queues::put_ack;
+use links_in_place::adding::put_new;
 use words::row::put_row;
 use words::row::row_at;
 ghost use mathlib.Core.Path.{_≡_};
@@ -38,23 +36,10 @@ pub(crate) fn put_more(words: &mut [u64], slot: u8, len: u32)
     put_row(words, slot as usize, next);
 }
 
-// A slot's acks are all 0, and as many count as did.
-fn clear_acks(words: &mut [u64], slot: usize)
-    requires { ⌜ (length (now words) ≡ WORDS) × (slot < 8) ⌝ }
-    ensures { λ _. ⌜ stateOf (now (words .exit)) ≡ withRow (stateOf (now (words .entry))) slot (bare (rowAt (stateOf (now (words .entry))) slot)) ⌝ }
-{
-    let mut i: usize = 0;
-    while i < ACKS {
-        put_ack(words, slot, i, Seq::ZERO);
-        i += 1;
-    }
-}
-
 // A slot without a link.
 pub(crate) fn put_empty(words: &mut [u64], slot: u8)
     requires { ⌜ (length (now words) ≡ WORDS) × (slot < 8) ⌝ }
     ensures { λ _. ⌜ stateOf (now (words .exit)) ≡ withRow (stateOf (now (words .entry))) slot emptyRow ⌝ }
 {
-    clear_acks(words, slot as usize);
-    put_row(words, slot as usize, LinkRow::empty());
+    put_new(words, slot as usize, LinkRow::empty());
 }

@@ -2,7 +2,7 @@
 use crate::bits::is_set;
 use crate::bits::seq_word;
 use crate::layout::PACKET;
-use crate::layout::PACKETS;
+use crate::layout::PACKETS_START;
 use engine::Flushed;
 use engine::Held;
 use engine::InFlight;
@@ -95,7 +95,7 @@ pub fn packet_at(words: &[u64], at: usize) -> SentReliable
     ensures { λ r. ⌜ r ≡ getD (stateOf (now (words .entry)) .tx .«txed_packets») at noPacket ⌝ }
     ensures { λ r. ⌜ r .len < 2 ^ 24 ⌝ }
 {
-    let start = PACKETS + at * PACKET;
+    let start = PACKETS_START + at * PACKET;
     let end = start + PACKET;
     packet_in(&words[start..end])
 }
@@ -168,7 +168,7 @@ pub fn put_packet(words: &mut [u64], at: usize, p: SentReliable)
     requires { ⌜ (length (now words) ≡ WORDS) × (at < 64) × (p .len < 2 ^ 24) ⌝ }
     ensures { λ _. ⌜ stateOf (now (words .exit)) ≡ withTx (stateOf (now (words .entry))) (withPackets (stateOf (now (words .entry)) .tx) (set (stateOf (now (words .entry)) .tx .«txed_packets») at p)) ⌝ }
 {
-    let start = PACKETS + at * PACKET;
+    let start = PACKETS_START + at * PACKET;
     let end = start + PACKET;
     write_packet(&mut words[start..end], p);
 }

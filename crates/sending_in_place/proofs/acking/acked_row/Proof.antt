@@ -14,7 +14,8 @@ use Rattle.engine.specs.Acking.{ackedRow}
 use Rattle.words.specs.Meaning.{stateOf}
 use Rattle.words.specs.Ready.{ready-sound, shaped-words}
 use Rattle.sending_in_place.specs.Table.{heldIn, cell-looked}
-use Rattle.sending_in_place.specs.RowsBare.{mark-acked-bare, acked-bare}
+use Rattle.links_in_place.specs.RowsBare.{bare-acked}
+use Rattle.sending_in_place.specs.RowsBare.{acked-bare}
 use Rattle.sending_in_place.proofs.acking.acked_row.Statement.{statement}
 use Rattle.sending_in_place.proofs.acking.acked_row.Tie as tie
 
@@ -37,7 +38,7 @@ returns c =
     let s = stateOf (start .args .words .now) in
     let out : inTable (s .tx) (start .args .seq .0) ≡ false = ap (λ n. heldIn n (start .args .seq .0)) (sym (c .before .before .tx-of .ensures)) ∙ sym (c .before .in-table .ensures) ∙ not-true (c .before .in-table .result) (c .if1 .taken) in
     let row = row-of s (start .args .slot) (start .pre .1) in
-    simp (out, row) (rw (c .before .before .before .mark-acked .ensures, c .before .before .before .before .row-at .ensures) (mark-acked-bare ((rowAt s (start .args .slot)) .«limit_increased») (rowAt s (start .args .slot)) (start .args .seq .0)))
+    simp (out, row) (rw (c .before .before .before .mark-acked .ensures, c .before .before .before .before .row-at .ensures) (bare-acked (rowAt s (start .args .slot)) (start .args .seq .0)))
 
 cell-of-requires : tie.Need-cell-of-requires
 cell-of-requires c κs = search needs

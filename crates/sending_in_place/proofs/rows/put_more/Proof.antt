@@ -4,7 +4,7 @@ use borrow.Author.Needs.{needs}
 use Rattle.engine.specs.Sound.{rowAt}
 use Rattle.engine.specs.Fields.{withRow}
 use Rattle.words.specs.Meaning.{stateOf}
-use Rattle.sending_in_place.specs.RowsBare.{unacked-bare}
+use Rattle.links_in_place.specs.RowsBare.{bare-unacked}
 use Rattle.sending_in_place.proofs.rows.put_more.Statement.{statement}
 use Rattle.sending_in_place.proofs.rows.put_more.Tie as tie
 
@@ -27,7 +27,7 @@ returns : tie.Need-returns
 returns c =
     let start = c .before .before .before .before .before .before .before .before .before in
     let s = stateOf (start .args .words .now) in
-    simp (c .before .before .put-row .ensures, c .before .before .before .before .with-unacked .ensures, c .before .before .before .before .before .before .row-at .ensures) (ap (withRow s (start .args .slot)) (unacked-bare (rowAt s (start .args .slot)) _))
+    simp (c .before .before .put-row .ensures, c .before .before .before .before .with-unacked .ensures, c .before .before .before .before .before .before .row-at .ensures) (ap (withRow s (start .args .slot)) (bare-unacked (rowAt s (start .args .slot)) _))
 
 pub put-more-spec : {M : Type 1} → statement M
 put-more-spec =
