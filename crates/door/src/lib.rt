@@ -6,6 +6,7 @@ pub mod links;
 pub mod messages;
 pub mod reader;
 pub mod receiving;
+pub mod running;
 pub mod sending;
 pub mod slowness;
 pub mod state;

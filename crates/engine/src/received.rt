@@ -7,13 +7,18 @@ use crate::records::is_ready_kind;
 use crate::records::is_record;
 use crate::ring::cell_at;
 use crate::ring::next_cell;
+use crate::sizes::DATA_BYTES;
 use crate::state::Held;
 use crate::state::Receiving;
+use msg::LinkMsg;
 use refusal::both;
 ghost use mathlib.Core.Path.{_≡_};
 ghost use lib.ListN.{length};
 ghost use Rattle.engine.specs.Received.{tableOf};
 ghost use Rattle.engine.specs.CellTally.{Lent, Judged, cellOk, recordWeighed, recordTallyOf, newestOk, foundRecords};
+
+// The record of a Data of the most bytes: a word of that kind above it is too long, or no record.
+const LONGEST_DATA: u64 = LinkMsg::MSG_DATA as u64 + 0x100 * DATA_BYTES as u64;
 
 // What a pass has found: whether all was well, and the data bytes.
 pub struct CellTally {
@@ -46,13 +51,27 @@ fn cell_ok(held: Held, k: usize, expected: usize) -> bool
 }
 
 // The tally with one cell more. The sum goes round at 2^32, which a table that is well cannot reach.
-fn weigh_record(t: CellTally, word: u64, k: usize, expected: usize) -> CellTally
+fn weigh_other(t: CellTally, word: u64, k: usize, expected: usize) -> CellTally
     ensures { λ r. ⌜ r ≡ recordWeighed t word k expected ⌝ }
 {
     let held = held_of(word);
     CellTally {
         ok: both(t.ok, both(is_record(word), cell_ok(held, k, expected))),
         size: std::num::wrapping_add_u32(t.size, held_bytes(held)),
+    }
+}
+
+// .. where a Data is told first, by its word alone, since most records are a Data's.
+fn weigh_record(t: CellTally, word: u64, k: usize, expected: usize) -> CellTally
+    ensures { λ r. ⌜ r ≡ recordWeighed t word k expected ⌝ }
+{
+    if word % 0x100 != LinkMsg::MSG_DATA as u64 {
+        return weigh_other(t, word, k, expected);
+    }
+    let fine = both(k != expected, word <= LONGEST_DATA);
+    CellTally {
+        ok: both(t.ok, fine),
+        size: std::num::wrapping_add_u32(t.size, (word / 0x100 % 0x100_0000) as u32),
     }
 }
 

@@ -1,18 +1,19 @@
--- One record's tests and bytes are added.
-use Rattle.engine.specs.CellTally.{recordWeighed}
+-- A Data by its word; any other as it says.
+use mathlib.Core.Path.{sym}
 use Rattle.seq.specs.Numbers.{plus}
+use Rattle.engine.specs.CellTally.{data-weighed}
 use borrow.Author.Needs.{needs}
 use Rattle.engine.proofs.received.weigh_record.Statement.{statement}
 use Rattle.engine.proofs.received.weigh_record.Tie as tie
 
-held-of-requires : tie.Need-held-of-requires
-held-of-requires c κs = search needs
+cast-if1 : tie.Need-cast-if1
+cast-if1 c = search needs
 
-is-record-requires : tie.Need-is-record-requires
-is-record-requires c κs = search needs
+weigh-other-requires : tie.Need-weigh-other-requires
+weigh-other-requires c κs = search needs
 
-cell-ok-requires : tie.Need-cell-ok-requires
-cell-ok-requires c κs = search needs
+returns : tie.Need-returns
+returns c = search needs
 
 both-requires : tie.Need-both-requires
 both-requires c κs = search needs
@@ -20,26 +21,25 @@ both-requires c κs = search needs
 both-requires-2 : tie.Need-both-requires-2
 both-requires-2 c κs = search needs
 
-held-bytes-requires : tie.Need-held-bytes-requires
-held-bytes-requires c κs = search needs
+cast-wrapping-add-u32 : tie.Need-cast-wrapping-add-u32
+cast-wrapping-add-u32 c = search needs
 
 wrapping-add-u32-requires : tie.Need-wrapping-add-u32-requires
 wrapping-add-u32-requires c κs = search needs
 
-returns : tie.Need-returns
-unfolding recordWeighed plus
-returns c =
-    simp (c .wrapping-add-u32 .ensures, c .before .held-bytes .ensures, c .before .before .both2 .ensures, c .before .before .before .both .ensures, c .before .before .before .before .cell-ok .ensures, c .before .before .before .before .before .is-record .ensures, c .before .before .before .before .before .before .held-of .ensures)
+returns-2 : tie.Need-returns-2
+unfolding plus
+returns-2 c = simp (c .wrapping-add-u32 .ensures, c .before .both2 .ensures, c .before .before .both .ensures) (sym (data-weighed (c .before .before .before .before .args .word) (c .before .before .before .if1 .left) (c .before .before .before .before .args .t) (c .before .before .before .before .args .k) (c .before .before .before .before .args .expected)))
 
 pub weigh-record-spec : {M : Type 1} → statement M
 weigh-record-spec =
     tie.close
     (tie.spec
-    held-of-requires
-    is-record-requires
-    cell-ok-requires
+    cast-if1
+    weigh-other-requires
+    returns
     both-requires
     both-requires-2
-    held-bytes-requires
+    cast-wrapping-add-u32
     wrapping-add-u32-requires
-    returns)
+    returns-2)

@@ -1,0 +1,16 @@
+-- By the number of the refusal.
+use borrow.Author.Needs.{needs}
+use Rattle.runs.proofs.answers.refused.Statement.{statement}
+use Rattle.runs.proofs.answers.refused.Tie as tie
+
+number-requires : tie.Need-number-requires
+number-requires c κs = search needs
+
+cast-t3 : tie.Need-cast-t3
+cast-t3 c = search needs
+
+returns : tie.Need-returns
+returns c = simp (c .number .ensures)
+
+pub refused-spec : {M : Type 1} → statement M
+refused-spec = tie.close (tie.spec number-requires cast-t3 returns)
