@@ -1,6 +1,6 @@
 //! Answers a script of calls (docs/CALLS.md) through the exported calls in place, over words, stores and records that this program holds.
 //!
-//! Standard input is the script; standard output its answers.
+//! Standard input is the script; standard output its answers. With `--runs N` the calls that can be in a run go through `fk_run`, up to N of them at once.
 
 #[allow(dead_code)]
 #[path = "../rust/src/script.rs"]
@@ -101,6 +101,7 @@ mod door {
         pub fn fk_is_consume_ack_required(words: *const u64, n: usize, values: *mut u64) -> u64;
         pub fn fk_close_reader(words: *mut u64, n: usize) -> u64;
         pub fn fk_earliest_confirm_timeout(words: *const u64, n: usize, trip: u64, resent: u64, unreliable: u64, min: u64, max: u64, is: bool, values: *mut u64) -> u64;
+        pub fn fk_run(words: *mut u64, n: usize, sent: *mut u8, s: usize, received: *mut u8, r: usize, records: *mut u64, k: usize, calls: *const u64, c: usize, bytes: *const u8, b: usize, answers: *mut u64, a: usize) -> u64;
         pub fn fk_read(bytes: *const u8, b: usize, values: *mut u64) -> u64;
         pub fn fk_write(buffer: *mut u8, b: usize, kind: u8, first: u32, second: u32, values: *mut u64) -> u64;
         pub fn fk_slow(words: *const u64, n: usize, slots: *mut u64, values: *mut u64) -> u64;
@@ -128,6 +129,42 @@ struct End {
     // with how many the stores and the records are lent
     lent: [usize; 3],
     records_set: bool,
+    // the calls of a run that is not done yet, how many values each tells, and the bytes that they name
+    calls: Vec<[u64; 8]>,
+    counts: Vec<usize>,
+    bytes: Vec<u8>,
+}
+
+/// A call's words (docs/RUNS.md) and how many values it tells; none for what is asked by itself.
+fn words_of(call: &Call, from: usize) -> Option<([u64; 8], usize)> {
+    let (w, count): (&[u64], usize) = match call {
+        Call::Add { identity, roundtrip, max_ping, blocked, unconfirmed } => {
+            (&[1, *identity, *roundtrip, max_ping.is_some() as u64, max_ping.unwrap_or(7), *blocked as u64, *unconfirmed as u64], 1)
+        }
+        Call::Remove { slot } => (&[2, *slot as u64], 0),
+        Call::Confirm { slot } => (&[3, *slot as u64], 0),
+        Call::Unconfirm { slot } => (&[4, *slot as u64], 0),
+        Call::Block { slot, blocked } => (&[5, *slot as u64, *blocked as u64], 0),
+        Call::Mark { slot, number } => (&[6, *slot as u64, number.0.into()], 0),
+        Call::Ping { slot, time } => (&[7, *slot as u64, *time], 0),
+        Call::Pong { slot, time } => (&[8, *slot as u64, *time], 0),
+        Call::Flush { slot, time } => (&[9, *slot as u64, *time], 0),
+        Call::Send { slot, time, kind, count, bytes } => {
+            (&[10, *slot as u64, *time, (*kind).into(), (*count).into(), from as u64, bytes.len() as u64], 1)
+        }
+        Call::Ack { slot, time, number } => (&[12, *slot as u64, *time, number.0.into()], 0),
+        Call::Receive { slot, kind, number, count, bytes } => {
+            (&[13, *slot as u64, (*kind).into(), number.0.into(), (*count).into(), from as u64, bytes.len() as u64], 0)
+        }
+        Call::Take => (&[15], 3),
+        Call::TakeAck { slot } => (&[16, *slot as u64], 1),
+        Call::Due => (&[17], 1),
+        Call::Close => (&[18], 0),
+        _ => return None,
+    };
+    let mut call = [UNTOLD; 8];
+    call[..w.len()].copy_from_slice(w);
+    Some((call, count))
 }
 
 impl End {
@@ -140,7 +177,56 @@ impl End {
             records: Vec::new(),
             lent: [SENT, 0, 0],
             records_set: false,
+            calls: Vec::new(),
+            counts: Vec::new(),
+            bytes: Vec::new(),
         }
+    }
+
+    /// The answers of the calls that wait, one line each.
+    fn run(&mut self) -> Vec<String> {
+        if self.calls.is_empty() {
+            return Vec::new();
+        }
+        let calls: Vec<u64> = self.calls.iter().flatten().copied().collect();
+        let mut answers = vec![UNTOLD; 4 * self.calls.len()];
+        let [s, r, k] = self.lent;
+        let number = unsafe {
+            door::fk_run(
+                self.words.as_mut_ptr(), WORDS, self.sent.as_mut_ptr(), s, self.received.as_mut_ptr(), r, self.records.as_mut_ptr(), k,
+                calls.as_ptr(), calls.len(), self.bytes.as_ptr(), self.bytes.len(), answers.as_mut_ptr(), answers.len(),
+            )
+        };
+        assert_eq!(number, 0, "a run on a state that is not sound");
+        let lines = answers.chunks(4).zip(&self.counts).map(|(answer, &count)| {
+            let told = if answer[0] == 0 { count } else { 0 };
+            assert!(answer[1 + told..].iter().all(|&value| value == 0), "a value too many");
+            answer[1..=told].iter().fold(answer[0].to_string(), |line, value| line + " " + &value.to_string())
+        });
+        let lines = lines.collect();
+        self.calls.clear();
+        self.counts.clear();
+        self.bytes.clear();
+        lines
+    }
+
+    /// The answers that a line brings: its own, or none yet where its call waits for a run, with those of the calls before it where it can't wait.
+    fn answers(&mut self, line: &str, most: usize) -> Vec<String> {
+        if self.begun && most > 0 {
+            if let Some(call) = Call::parse(line) {
+                if let Some((words, count)) = words_of(&call, self.bytes.len()) {
+                    if let Call::Send { bytes, .. } | Call::Receive { bytes, .. } = &call {
+                        self.bytes.extend(bytes);
+                    }
+                    self.calls.push(words);
+                    self.counts.push(count);
+                    return if self.calls.len() < most { Vec::new() } else { self.run() };
+                }
+            }
+        }
+        let mut lines = self.run();
+        lines.push(self.answer(line));
+        lines
     }
 
     fn cells(&self) -> usize {
@@ -369,6 +455,11 @@ fn hex(bytes: &[u8]) -> String {
 }
 
 fn main() -> io::Result<()> {
+    let most = match &std::env::args().skip(1).collect::<Vec<_>>()[..] {
+        [] => 0,
+        [word, most] if word == "--runs" => most.parse().unwrap(),
+        _ => panic!("usage: door [--runs N]"),
+    };
     let mut end = End::new();
     let mut out = io::BufWriter::new(io::stdout().lock());
     let mut line = Vec::new();
@@ -377,8 +468,13 @@ fn main() -> io::Result<()> {
         if line.last() == Some(&b'\n') {
             line.pop();
         }
-        writeln!(out, "{}", end.answer(&String::from_utf8_lossy(&line)))?;
+        for answer in end.answers(&String::from_utf8_lossy(&line), most) {
+            writeln!(out, "{answer}")?;
+        }
         line.clear();
+    }
+    for answer in end.run() {
+        writeln!(out, "{answer}")?;
     }
     out.flush()
 }
