@@ -10,7 +10,7 @@ use msg::{LinkMsg, ReliableMsg};
 use text::Decimal;
 
 // A call on a state that uses no store.
-#[derive(Drop)]
+#[derive(Clone, Copy)]
 pub enum Plain {
     Add(u64, u64, MaxPing, bool, bool),
     Remove(u8),
@@ -34,7 +34,7 @@ pub enum Plain {
 }
 
 // A call on a state and its stores, the records among them. Of `send` and `receive` the bytes are in the payload buffer, and the call says how many.
-#[derive(Drop)]
+#[derive(Clone, Copy)]
 pub enum Stored {
     Send(u8, u64, ReliableMsg, usize),
     Resend(u8, u64, u32),
@@ -45,7 +45,7 @@ pub enum Stored {
 }
 
 // A call of the table; of `read` the bytes are in the payload buffer too.
-#[derive(Drop)]
+#[derive(Clone, Copy)]
 pub enum Call {
     Fresh(u32, u32, u32),
     Read(usize),
@@ -55,7 +55,7 @@ pub enum Call {
     Unknown,
 }
 
-#[derive(Drop)]
+#[derive(Clone, Copy)]
 enum Settings {
     Are(AckTimeout),
     Bad,

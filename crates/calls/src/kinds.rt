@@ -3,7 +3,7 @@ use crate::words;
 use crate::words::{Byte, Number};
 use msg::{LinkMsg, ReliableMsg};
 
-#[derive(Drop)]
+#[derive(Clone, Copy)]
 pub enum Reliable {
     Is(ReliableMsg),
     Bad,

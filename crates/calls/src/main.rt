@@ -1,4 +1,6 @@
 // Answers a script of calls on one end, a line for each, as docs/CALLS.md has them: the script is standard input, of any length.
+#![tactic(auto)]
+
 mod answer;
 mod call;
 mod dump;

@@ -6,7 +6,7 @@ use crate::{out, words};
 use msg::{LinkMsg, RefusedReason};
 use seq::Seq;
 
-#[derive(Drop)]
+#[derive(Clone, Copy)]
 pub enum Message {
     Is(LinkMsg),
     Bad,

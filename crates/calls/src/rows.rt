@@ -1,7 +1,7 @@
 // The rows of a state's links, lent as a run: as many as a script asks for, up to one more than there are.
 ghost use Rattle.std.specs.Prelude.{◌≡◌, ◌≤◌, take};
-ghost use Rattle.engine.specs.Slowness.{slowLinksOf};
-ghost use Rattle.calls.specs.Rows.{toldOf};
+ghost use Rattle.engine.specs.Slowness.{slow_links_of};
+ghost use Rattle.calls.specs.Rows.{told_of};
 
 use engine::{Outcome, SLOTS, SlowAnswer, SlowLinks};
 use link::LinkRow;
@@ -9,7 +9,7 @@ use link::LinkRow;
 pub const MOST_ROWS: usize = SLOTS + 1;
 
 // The engine's answer, with the array beside the enum: the checker covers no enum that holds one.
-#[derive(Drop)]
+#[derive(Clone, Copy)]
 pub struct Told {
     pub outcome: Outcome,
     pub links: SlowLinks,
@@ -19,7 +19,7 @@ pub struct Told {
 // function is proved by hand.
 fn ask(rows: [LinkRow; MOST_ROWS], n: usize, none: SlowLinks) -> Told
     requires { n ≤ 9 }
-    ensures { result ≡ toldOf none (slowLinksOf (take n rows)) }
+    ensures { result ≡ told_of none (slow_links_of (take n rows)) }
 {
     let answer = engine::slow(&rows[..n]);
     match answer {

@@ -2,7 +2,7 @@
 use engine::{DATA_BYTES, SENT_BYTES, State};
 use seq::Seq;
 
-#[derive(Drop)]
+#[derive(Clone, Copy)]
 pub struct Session {
     // whether a `fresh` was accepted; until then no call reaches the state
     pub begun: bool,

@@ -6,7 +6,7 @@ use text::{Decimal, HexRun, read_decimal};
 const MOST: usize = 7;
 
 // The words of a line: where each starts and ends. A count above the most says that there are more.
-#[derive(Drop)]
+#[derive(Clone, Copy)]
 pub struct Words {
     pub count: usize,
     starts: [usize; MOST],
@@ -64,32 +64,32 @@ pub fn word(line: &[u8], words: Words, i: usize) -> &[u8] {
     &line[start..end]
 }
 
-#[derive(Drop)]
+#[derive(Clone, Copy)]
 pub enum Byte {
     Is(u8),
     Bad,
 }
 
-#[derive(Drop)]
+#[derive(Clone, Copy)]
 pub enum Number {
     Is(u32),
     Bad,
 }
 
-#[derive(Drop)]
+#[derive(Clone, Copy)]
 pub enum Flag {
     Is(bool),
     Bad,
 }
 
-#[derive(Drop)]
+#[derive(Clone, Copy)]
 pub enum Limit {
     Is(MaxPing),
     Bad,
 }
 
 // How many bytes a word was.
-#[derive(Drop)]
+#[derive(Clone, Copy)]
 pub enum Bytes {
     Count(usize),
     Bad,

@@ -1,5 +1,7 @@
 // Compares two recordings, the files that its arguments name: on standard output one line a difference, or the one line of a refusal; on
 // standard error a line that sums up, or says in words which file is refused, at which line and why.
+#![tactic(auto)]
+
 use comparing::{
     Compared, DIFFERENCES, LINE, SUMMARY, Side, compare, write_difference, write_refused,
     write_summary,
@@ -29,7 +31,7 @@ fn complain_of_size(name: &[u8]) {
 }
 
 // How the reading of a file ended.
-#[derive(Drop)]
+#[derive(Clone, Copy)]
 enum Found {
     // at its end, after so many bytes
     Whole(usize),

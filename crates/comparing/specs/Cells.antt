@@ -5,7 +5,7 @@ use Rattle.std.proofs.Common.{◌∙◌, append_assoc, not-suc-le-zero, arith, d
 use Rattle.std.proofs.lemmas.List.{set_split}
 use Rattle.std.proofs.lemmas.List.Edits.{sets-eq}
 use Rattle.comparing.specs.declared.table.Held.TheVariants.{Not}
-use Rattle.comparing.specs.Rows.{row, no_row, rows_of, heldIf, heldFirst, markedAt, insertAt, Rising, positionIn, position-after, position-before}
+use Rattle.comparing.specs.Rows.{row, no_row, rows_of, held_if, held_first, marked_at, insert_at, Rising, position_in, position-after, position-before}
 
 -- the cell of a row's rank, from a row on
 three : (i : ℕ) → suc i * 3 ≡ suc (suc (suc (i * 3)))
@@ -44,15 +44,15 @@ module _ (rank n i : ℕ) (cells : List ℕ) (h : n * 3 ≤ length cells) (g : i
   rank-at : (get_or (rows_of n cells) i no_row).rank ≡ get_or cells (i * 3) 0
   rank-at = ap (λ x. x.rank) (rows_at n i cells h g)
 
-  pub cells-after : Rising 0 (rows_of n cells) → get_or cells (i * 3) 0 < rank → i < positionIn rank (rows_of n cells)
+  pub cells-after : Rising 0 (rows_of n cells) → get_or cells (i * 3) 0 < rank → i < position_in rank (rows_of n cells)
   cells-after rising low = position-after rank 0 i (rows_of n cells) rising (omega (arith, rows-length n cells h)) (omega (arith, rank-at))
 
-  pub cells-before : rank ≤ get_or cells (i * 3) 0 → positionIn rank (rows_of n cells) ≤ i
+  pub cells-before : rank ≤ get_or cells (i * 3) 0 → position_in rank (rows_of n cells) ≤ i
   cells-before high = position-before rank i (rows_of n cells) (omega (arith, rank-at)) (omega (arith, rows-length n cells h))
 
 -- its flag set
-pub rows-marked : (n i : ℕ) (cells : List ℕ) → n * 3 ≤ length cells → i < n → rows_of n (set cells (i * 3 + 2) 1) ≡ markedAt i (rows_of n cells)
-unfolding rows_of markedAt
+pub rows-marked : (n i : ℕ) (cells : List ℕ) → n * 3 ≤ length cells → i < n → rows_of n (set cells (i * 3 + 2) 1) ≡ marked_at i (rows_of n cells)
+unfolding rows_of marked_at
 rows-marked zero i cells h g = absurd (not-suc-le-zero g)
 rows-marked (suc n) i [] h g = short n 0 h (omega arith)
 rows-marked (suc n) i (a ∷ []) h g = short n 1 h (omega arith)
@@ -75,14 +75,14 @@ rows-past n i cells h g = drop_of_length-le (rows_of n cells) {i = i} (omega (ar
 
 -- what row i has of a rank
 module _ (n i rank : ℕ) (cells : List ℕ) (h : n * 3 ≤ length cells) where
-  pub held-past : n ≤ i → Not ≡ heldFirst rank (drop i (rows_of n cells))
-  unfolding heldFirst
-  held-past g = sym (ap (heldFirst rank) (rows-past n i cells h g))
+  pub held-past : n ≤ i → Not ≡ held_first rank (drop i (rows_of n cells))
+  unfolding held_first
+  held-past g = sym (ap (held_first rank) (rows-past n i cells h g))
 
   pub held-there : i < n
-      → heldFirst rank (drop i (rows_of n cells)) ≡ heldIf (eqb (get_or cells (i * 3) 0) rank) (row (get_or cells (i * 3) 0) (get_or cells (i * 3 + 1) 0) (get_or cells (i * 3 + 2) 0)) Not
-  unfolding heldFirst
-  held-there g = ap (heldFirst rank) (rows-from n i cells h g)
+      → held_first rank (drop i (rows_of n cells)) ≡ held_if (eqb (get_or cells (i * 3) 0) rank) (row (get_or cells (i * 3) 0) (get_or cells (i * 3 + 1) 0) (get_or cells (i * 3 + 2) 0)) Not
+  unfolding held_first
+  held-there g = ap (held_first rank) (rows-from n i cells h g)
 
 -- only the cells of the rows are looked at
 rows-front : (n : ℕ) (cells rest : List ℕ) → n * 3 ≤ length cells → rows_of n (take (n * 3) cells ++ rest) ≡ rows_of n cells
@@ -97,8 +97,8 @@ rows-front (suc n) (a ∷ b ∷ c ∷ more) rest h =
 
 -- a new row among the cells: those before it, its own, those behind it, and what was no row's
 pub rows-inserted : (n i x y z : ℕ) (cells rest : List ℕ) → n * 3 ≤ length cells → i ≤ n
-    → rows_of (suc n) (take (i * 3) cells ++ (x ∷ y ∷ z ∷ (drop (i * 3) (take (n * 3) cells) ++ rest))) ≡ insertAt i (row x y z) (rows_of n cells)
-unfolding rows_of insertAt
+    → rows_of (suc n) (take (i * 3) cells ++ (x ∷ y ∷ z ∷ (drop (i * 3) (take (n * 3) cells) ++ rest))) ≡ insert_at i (row x y z) (rows_of n cells)
+unfolding rows_of insert_at
 rows-inserted n zero x y z cells rest h g = ap (λ l. row x y z ∷ l) (rows-front n cells rest h)
 rows-inserted zero (suc i) x y z cells rest h g = absurd (not-suc-le-zero g)
 rows-inserted (suc n) (suc i) x y z [] rest h g = short n 0 h (omega arith)

@@ -10,10 +10,10 @@ use Rattle.comparing.specs.declared.comparison.Judged.TheVariants.{Pass}
 use Rattle.comparing.specs.Messages.{body_of, start_of}
 use Rattle.comparing.specs.Rows.{Rising, rows_of}
 use Rattle.comparing.specs.Cells.{rows-length}
-use Rattle.comparing.specs.Table.{earliest, noNumbers, tabled}
-use Rattle.comparing.specs.Differences.{Listed, listBelow, list_of}
-use Rattle.comparing.specs.Judging.{farLine, manyLine, startsPart, inOrder, verdictOf, passed-says, order_same, starts-same}
-use Rattle.comparing.specs.Compared.{words_of, howMany, comparedAs, comparedOf, listIn, comparedList}
+use Rattle.comparing.specs.Table.{earliest, no_numbers, tabled}
+use Rattle.comparing.specs.Differences.{Listed, list_below, list_of}
+use Rattle.comparing.specs.Judging.{far_line, many_line, starts_part, in_order, verdict_of, passed-says, order_same, starts-same}
+use Rattle.comparing.specs.Compared.{words_of, how_many, compared_as, compared_of, list_in, compared_list}
 use Rattle.comparing.specs.Says.{Says}
 use Rattle.comparing.specs.Sanity.{body-sane, start_small}
 use Rattle.comparing.specs.Tabled.{tabled-rising, tabled-far, tabled-many, tabled-count, tables-say}
@@ -25,32 +25,32 @@ abbrev pub Scanning : List ℕ → Scanned → List ℕ → Type 0
 Scanning input found cells = Scans input (start_of input) (body_of input) found cells
 
 -- the refusals by what was scanned
-abbrev pub judgedOf : Scanned → Scanned → Judged
-judgedOf a b = inOrder a.bad b.bad (startsPart a.start.0 b.start.0) a.counts.far b.counts.far a.counts.many b.counts.many
+abbrev pub judged_of : Scanned → Scanned → Judged
+judged_of a b = in_order a.bad b.bad (starts_part a.start.0 b.start.0) a.counts.far b.counts.far a.counts.many b.counts.many
 
 -- ---- laws
 
 module _ (input : List ℕ) (found : Scanned) (cells : List ℕ) (scans : Scanning input found cells) where
-  far-found : found.counts.far ≡ farLine (start_of input) (body_of input).messages
+  far-found : found.counts.far ≡ far_line (start_of input) (body_of input).messages
   unfolding earliest
-  far-found = ap (λ t. t.far) scans.tables ∙ tabled-far input (start_of input) noNumbers (body_of input).messages
+  far-found = ap (λ t. t.far) scans.tables ∙ tabled-far input (start_of input) no_numbers (body_of input).messages
 
-  rows-found : rows_of found.counts.count cells ≡ (tabled input (start_of input) noNumbers (body_of input).messages).rows
+  rows-found : rows_of found.counts.count cells ≡ (tabled input (start_of input) no_numbers (body_of input).messages).rows
   rows-found = ap (λ t. t.rows) scans.tables
 
   rising-found : Rising 0 (rows_of found.counts.count cells)
   rising-found = rw rows-found (tabled-rising input (start_of input) (body_of input).messages)
 
   -- where no message is far, the table's count is that of the numbers
-  module _ (near : farLine (start_of input) (body_of input).messages ≡ 0) where
-    many-found : found.counts.many ≡ manyLine [] (body_of input).messages
+  module _ (near : far_line (start_of input) (body_of input).messages ≡ 0) where
+    many-found : found.counts.many ≡ many_line [] (body_of input).messages
     many-found = ap (λ t. t.many) scans.tables ∙ tabled-many input (start_of input) (start_small input) (body_of input).messages (body-sane input) near
 
-    none_found : manyLine [] (body_of input).messages ≡ 0 → (tabled input (start_of input) noNumbers (body_of input).messages).many ≡ 0
+    none_found : many_line [] (body_of input).messages ≡ 0 → (tabled input (start_of input) no_numbers (body_of input).messages).many ≡ 0
     none_found e = tabled-many input (start_of input) (start_small input) (body_of input).messages (body-sane input) near ∙ e
 
-    count-found : length cells ≡ 3072 → manyLine [] (body_of input).messages ≡ 0 → found.counts.count ≡ howMany input
-    unfolding howMany
+    count-found : length cells ≡ 3072 → many_line [] (body_of input).messages ≡ 0 → found.counts.count ≡ how_many input
+    unfolding how_many
     count-found room none =
         sym (rows-length found.counts.count cells (omega (arith, scans.counts)))
         ∙ ap length rows-found
@@ -61,17 +61,17 @@ pub record Passed (first second : List ℕ) (a : Scanned) (x : List ℕ) (b : Sc
   pub says : Says first second a.start.0 (rows_of a.counts.count x) (rows_of b.counts.count y)
   pub rising-first : Rising 0 (rows_of a.counts.count x)
   pub rising-second : Rising 0 (rows_of b.counts.count y)
-  pub count-first : a.counts.count ≡ howMany first
-  pub count-second : b.counts.count ≡ howMany second
+  pub count-first : a.counts.count ≡ how_many first
+  pub count-second : b.counts.count ≡ how_many second
 
 module _ (first second : List ℕ) (a : Scanned) (x : List ℕ) (b : Scanned) (y : List ℕ) (scans-a : Scanning first a x) (scans-b : Scanning second b y) where
-  pub judged-same : judgedOf a b ≡ verdictOf first second
-  unfolding verdictOf
+  pub judged-same : judged_of a b ≡ verdict_of first second
+  unfolding verdict_of
   judged-same =
       rw (scans-a.starts, scans-a.bads, scans-b.starts, scans-b.bads, far-found first a x scans-a, far-found second b y scans-b)
-      (order_same (body_of first).bad (body_of second).bad (startsPart (start_of first) (start_of second)) _ _ _ _ _ _ (many-found first a x scans-a) (many-found second b y scans-b))
+      (order_same (body_of first).bad (body_of second).bad (starts_part (start_of first) (start_of second)) _ _ _ _ _ _ (many-found first a x scans-a) (many-found second b y scans-b))
 
-  pub passed : length x ≡ 3072 → length y ≡ 3072 → judgedOf a b ≡ Pass → Passed first second a x b y
+  pub passed : length x ≡ 3072 → length y ≡ 3072 → judged_of a b ≡ Pass → Passed first second a x b y
   passed room-x room-y pass =
       let said = passed-says _ _ _ _ _ _ _ pass in
       let same : start_of first ≡ start_of second = sym scans-a.starts ∙ starts-same a.start.0 b.start.0 said.0 ∙ scans-b.starts in
@@ -88,7 +88,7 @@ module _ (first second : List ℕ) (a : Scanned) (x : List ℕ) (b : Scanned) (y
       }
 
 -- every number is listed; the bound stays shut, since no proof goes through 2^32 steps
-list-is : (first second : List ℕ) → listBelow first second (start_of first) (2 ^ 32) ≡ list_of first second
+list-is : (first second : List ℕ) → list_below first second (start_of first) (2 ^ 32) ≡ list_of first second
 unfolding list_of
 list-is first second = refl
 
@@ -101,15 +101,15 @@ stands listed old new n few pushed =
     (pushed.count ∙ many, pushed.list ∙ sets-eq (words_of listed) old 0 fits ∙ ap (λ k. words_of listed ++ drop k old) many)
 
 pub list-stands : (first second old new : List ℕ) (start n : ℕ) → start ≡ start_of first → n ≤ length old
-    → Pushed (words_of (listBelow first second start (2 ^ 32))) old 0 n new
+    → Pushed (words_of (list_below first second start (2 ^ 32))) old 0 n new
     → (n ≡ length (list_of first second)) × (new ≡ words_of (list_of first second) ++ drop (length (list_of first second)) old)
 list-stands first second old new start n e few pushed =
-    let same : listBelow first second start (2 ^ 32) ≡ list_of first second = ap (λ s. listBelow first second s (2 ^ 32)) e ∙ list-is first second in
-    let said = stands (listBelow first second start (2 ^ 32)) old new n few pushed in
+    let same : list_below first second start (2 ^ 32) ≡ list_of first second = ap (λ s. list_below first second s (2 ^ 32)) e ∙ list-is first second in
+    let said = stands (list_below first second start (2 ^ 32)) old new n few pushed in
     (said.0 ∙ ap length same, said.1 ∙ ap (λ l. words_of l ++ drop (length l) old) same)
 
 -- the answer and the list by the verdict
-pub compared-by : (first second list : List ℕ) (j : Judged) → verdictOf first second ≡ j
-    → (comparedAs j first second ≡ comparedOf first second) × (listIn j first second list ≡ comparedList first second list)
-unfolding comparedOf comparedList
-compared-by first second list j e = (sym (ap (λ v. comparedAs v first second) e), sym (ap (λ v. listIn v first second list) e))
+pub compared-by : (first second list : List ℕ) (j : Judged) → verdict_of first second ≡ j
+    → (compared_as j first second ≡ compared_of first second) × (list_in j first second list ≡ compared_list first second list)
+unfolding compared_of compared_list
+compared-by first second list j e = (sym (ap (λ v. compared_as v first second) e), sym (ap (λ v. list_in v first second list) e))

@@ -12,73 +12,73 @@ use Rattle.comparing.specs.declared.comparison.Side.TheVariants as sides
 use Rattle.comparing.specs.declared.comparison.Judged.{Judged}
 use Rattle.comparing.specs.declared.comparison.Judged.TheVariants.{Pass, No}
 use Rattle.comparing.specs.Messages.{body_of, start_of}
-use Rattle.comparing.specs.Ranks.{farAt}
+use Rattle.comparing.specs.Ranks.{far_at}
 
 -- the line of the first message whose number is far from the start number, 0 where none is
-unfoldable pub farLine : ℕ → List Message → ℕ
-unfolding farAt
-farLine start [] = 0
-farLine start (m ∷ rest) = cond (eqb (farAt start m) 0) (farLine start rest) (farAt start m)
+unfoldable pub far_line : ℕ → List Message → ℕ
+unfolding far_at
+far_line start [] = 0
+far_line start (m ∷ rest) = cond (eqb (far_at start m) 0) (far_line start rest) (far_at start m)
 
-unfoldable pub isAmong : ℕ → List ℕ → Bool
-isAmong n [] = false
-isAmong n (x ∷ rest) = eqb x n || isAmong n rest
+unfoldable pub is_among : ℕ → List ℕ → Bool
+is_among n [] = false
+is_among n (x ∷ rest) = eqb x n || is_among n rest
 
 -- a number more, if it is another
 unfoldable pub with_number : ℕ → List ℕ → List ℕ
-unfolding isAmong
-with_number n seen = cond (isAmong n seen) seen (n ∷ seen)
+unfolding is_among
+with_number n seen = cond (is_among n seen) seen (n ∷ seen)
 
 -- the numbers of messages, each once, the last first
-unfoldable pub numbersWith : List ℕ → List Message → List ℕ
+unfoldable pub numbers_with : List ℕ → List Message → List ℕ
 unfolding with_number
-numbersWith seen [] = seen
-numbersWith seen (m ∷ rest) = numbersWith (with_number m.number.0 seen) rest
+numbers_with seen [] = seen
+numbers_with seen (m ∷ rest) = numbers_with (with_number m.number.0 seen) rest
 
 -- the line of the first number past 1,024, 0 where there is none
-unfoldable pub manyLine : List ℕ → List Message → ℕ
+unfoldable pub many_line : List ℕ → List Message → ℕ
 unfolding with_number
-manyLine seen [] = 0
-manyLine seen (m ∷ rest) = cond (ltb NUMBERS (length (with_number m.number.0 seen))) m.line (manyLine (with_number m.number.0 seen) rest)
+many_line seen [] = 0
+many_line seen (m ∷ rest) = cond (ltb NUMBERS (length (with_number m.number.0 seen))) m.line (many_line (with_number m.number.0 seen) rest)
 
 -- a refusal where a line is told, else what the later ones say
-unfoldable pub toldAt : ℕ → Refusal → Side → Judged → Judged
-toldAt line e side rest = cond (eqb line 0) rest (No e side line)
+unfoldable pub told_at : ℕ → Refusal → Side → Judged → Judged
+told_at line e side rest = cond (eqb line 0) rest (No e side line)
 
 -- "two that differ give 20": of the second, at its first line
-unfoldable pub startsPart : ℕ → ℕ → ℕ
-startsPart a b = cond (eqb a b) 0 1
+unfoldable pub starts_part : ℕ → ℕ → ℕ
+starts_part a b = cond (eqb a b) 0 1
 
 -- the lines to be told, in the order of the refusals
-abbrev pub inOrder : ℕ → ℕ → ℕ → ℕ → ℕ → ℕ → ℕ → Judged
-inOrder bad-first bad-second starts far-first far-second many-first many-second =
-    toldAt bad-first (refuse 20 tt) sides.First
-    (toldAt bad-second (refuse 20 tt) sides.Second
-    (toldAt starts (refuse 20 tt) sides.Second
-    (toldAt far-first (refuse 22 tt) sides.First
-    (toldAt far-second (refuse 22 tt) sides.Second
-    (toldAt many-first (refuse 23 tt) sides.First
-    (toldAt many-second (refuse 23 tt) sides.Second
+abbrev pub in_order : ℕ → ℕ → ℕ → ℕ → ℕ → ℕ → ℕ → Judged
+in_order bad-first bad-second starts far-first far-second many-first many-second =
+    told_at bad-first (refuse 20 tt) sides.First
+    (told_at bad-second (refuse 20 tt) sides.Second
+    (told_at starts (refuse 20 tt) sides.Second
+    (told_at far-first (refuse 22 tt) sides.First
+    (told_at far-second (refuse 22 tt) sides.Second
+    (told_at many-first (refuse 23 tt) sides.First
+    (told_at many-second (refuse 23 tt) sides.Second
     Pass))))))
 
-unfoldable pub verdictOf : List ℕ → List ℕ → Judged
-unfolding toldAt startsPart body_of start_of farLine manyLine
-verdictOf a b =
-    inOrder (body_of a).bad (body_of b).bad (startsPart (start_of a) (start_of b))
-    (farLine (start_of a) (body_of a).messages) (farLine (start_of b) (body_of b).messages)
-    (manyLine [] (body_of a).messages) (manyLine [] (body_of b).messages)
+unfoldable pub verdict_of : List ℕ → List ℕ → Judged
+unfolding told_at starts_part body_of start_of far_line many_line
+verdict_of a b =
+    in_order (body_of a).bad (body_of b).bad (starts_part (start_of a) (start_of b))
+    (far_line (start_of a) (body_of a).messages) (far_line (start_of b) (body_of b).messages)
+    (many_line [] (body_of a).messages) (many_line [] (body_of b).messages)
 
 -- ---- laws
 
-told-pass : (line : ℕ) (e : Refusal) (side : Side) (rest : Judged) → toldAt line e side rest ≡ Pass → (line ≡ 0) × (rest ≡ Pass)
-unfolding toldAt
+told-pass : (line : ℕ) (e : Refusal) (side : Side) (rest : Judged) → told_at line e side rest ≡ Pass → (line ≡ 0) × (rest ≡ Pass)
+unfolding told_at
 told-pass line e side rest h =
     cases (eqb line 0)
     (λ t. (eqb-true line 0 t, simp t at h))
     (λ f. let z : ◌≡◌ {A = ℕ} 0 1 = cc (simp f at h) in absurd (omega arith))
 
 -- who passed has one start number, no number far from it, and at most 1,024 numbers a side
-pub passed-says : (p q starts f g m n : ℕ) → inOrder p q starts f g m n ≡ Pass → (starts ≡ 0) × (f ≡ 0) × (g ≡ 0) × (m ≡ 0) × (n ≡ 0)
+pub passed-says : (p q starts f g m n : ℕ) → in_order p q starts f g m n ≡ Pass → (starts ≡ 0) × (f ≡ 0) × (g ≡ 0) × (m ≡ 0) × (n ≡ 0)
 passed-says p q starts f g m n h =
     let a = told-pass p _ _ _ h in
     let b = told-pass q _ _ _ a.1 in
@@ -90,20 +90,20 @@ passed-says p q starts f g m n h =
     (c.0, d.0, e.0, i.0, j.0)
 
 -- what the later refusals say counts only where no line is told
-told_same : (line : ℕ) (e : Refusal) (side : Side) (rest other : Judged) → (line ≡ 0 → rest ≡ other) → toldAt line e side rest ≡ toldAt line e side other
-unfolding toldAt
+told_same : (line : ℕ) (e : Refusal) (side : Side) (rest other : Judged) → (line ≡ 0 → rest ≡ other) → told_at line e side rest ≡ told_at line e side other
+unfolding told_at
 told_same line e side rest other h = cases (eqb line 0) (λ t. simp t (h (eqb-true line 0 t))) (λ f. simp f)
 
 -- so 23 counts only where 22 is not given
-pub order_same : (p q starts f g m n k l : ℕ) → (f ≡ 0 → m ≡ k) → (g ≡ 0 → n ≡ l) → inOrder p q starts f g m n ≡ inOrder p q starts f g k l
+pub order_same : (p q starts f g m n k l : ℕ) → (f ≡ 0 → m ≡ k) → (g ≡ 0 → n ≡ l) → in_order p q starts f g m n ≡ in_order p q starts f g k l
 order_same p q starts f g m n k l x y =
     told_same p _ _ _ _
     (λ u.
     told_same q _ _ _ _
     (λ v. told_same starts _ _ _ _ (λ w. told_same f _ _ _ _ (λ IsNear-first. told_same g _ _ _ _ (λ near-second. rw (x IsNear-first, y near-second))))))
 
-pub starts-same : (a b : ℕ) → startsPart a b ≡ 0 → a ≡ b
-unfolding startsPart
+pub starts-same : (a b : ℕ) → starts_part a b ≡ 0 → a ≡ b
+unfolding starts_part
 starts-same a b h =
     cases (eqb a b)
     (λ t. eqb-true a b t)

@@ -16,21 +16,21 @@ use Rattle.comparing.specs.declared.table.Held.{Held}
 use Rattle.comparing.specs.declared.table.Held.TheVariants.{Not, At}
 use Rattle.comparing.specs.declared.listing.Difference.{Difference}
 use Rattle.comparing.specs.declared.listing.Difference.TheVariants.{ConflictFirst, ConflictSecond}
-use Rattle.comparing.specs.Messages.{lineFound}
-use Rattle.comparing.specs.Runs.{contentFrom, contentOf, lineBytes, payloadAfter, runIn, run_at}
+use Rattle.comparing.specs.Messages.{line_found}
+use Rattle.comparing.specs.Runs.{content_from, content_of, line_bytes, payload_after, run_in, run_at}
 use Rattle.comparing.specs.Ranks.{number_of}
 use Rattle.comparing.specs.Cells.{rows-length, rows-from, rows-past}
-use Rattle.comparing.specs.Rows.{Row, rows_of, Rising, heldFirst, heldIn, rising-least, held_below}
-use Rattle.comparing.specs.Differences.{Listed, conflictAs, contentAs, partAs, differencesOn, listedFor, listBelow}
+use Rattle.comparing.specs.Rows.{Row, rows_of, Rising, held_first, held_in, rising-least, held_below}
+use Rattle.comparing.specs.Differences.{Listed, conflict_as, content_as, part_as, differences_on, listed_for, list_below}
 use Rattle.comparing.specs.Words.{word_of}
 use Rattle.comparing.specs.Compared.{words_of}
-use Rattle.comparing.specs.Says.{Says, standingHeld, flagHeld, heldDifferences}
+use Rattle.comparing.specs.Says.{Says, standing_held, flag_held, held_differences}
 
 -- differences on a number, as they stand in a list
-unfoldable pub wordsFor : ℕ → List Difference → List ℕ
+unfoldable pub words_for : ℕ → List Difference → List ℕ
 unfolding word_of
-wordsFor n [] = []
-wordsFor n (d ∷ rest) = word_of n d ∷ wordsFor n rest
+words_for n [] = []
+words_for n (d ∷ rest) = word_of n d ∷ words_for n rest
 
 -- words put behind the first n of a list, and how many it has then
 pub record Pushed (words : List ℕ) (old : List ℕ) (n r : ℕ) (new : List ℕ) : Type 0 where
@@ -48,16 +48,16 @@ place_of (contents.Differ place x y) = place
 place_of (contents.Begins n) = n
 
 -- the least rank that is left in two tables
-unfoldable pub nextRank : List Row → List Row → ℕ
-nextRank [] [] = 0
-nextRank [] (y ∷ ys) = y.rank
-nextRank (x ∷ xs) [] = x.rank
-nextRank (x ∷ xs) (y ∷ ys) = cond (ltb x.rank y.rank) x.rank y.rank
+unfoldable pub next_rank : List Row → List Row → ℕ
+next_rank [] [] = 0
+next_rank [] (y ∷ ys) = y.rank
+next_rank (x ∷ xs) [] = x.rank
+next_rank (x ∷ xs) (y ∷ ys) = cond (ltb x.rank y.rank) x.rank y.rank
 
 -- the rows from i on are those of a rank and more
 pub record Left (rank : ℕ) (rows : List Row) (i : ℕ) : Type 0 where
   pub rises : Rising rank (drop i rows)
-  pub holds : (q : ℕ) → rank ≤ q → heldIn q rows ≡ heldIn q (drop i rows)
+  pub holds : (q : ℕ) → rank ≤ q → held_in q rows ≡ held_in q (drop i rows)
 
 -- how far the list has come: the differences on the numbers below a rank stand in it
 pub record Listing (first second : List ℕ) (start : ℕ) (a b : List Row) (old : List ℕ) (i j n : ℕ) (new : List ℕ) : Type 0 where
@@ -67,7 +67,7 @@ pub record Listing (first second : List ℕ) (start : ℕ) (a b : List Row) (old
   pub first_rows : i ≤ length a
   pub second-rows : j ≤ length b
   pub few : n ≤ (i + j) * 2
-  pub pushed : Pushed (words_of (listBelow first second start rank)) old 0 n new
+  pub pushed : Pushed (words_of (list_below first second start rank)) old 0 n new
 
 -- ---- laws of words
 
@@ -80,13 +80,13 @@ unfolding words_of
 words_append [] y = refl
 words_append (d ∷ rest) y = ap (λ l. word_of d.number d.what ∷ l) (words_append rest y)
 
-pub words-for : (n : ℕ) (ds : List Difference) → words_of (listedFor n ds) ≡ wordsFor n ds
-unfolding words_of wordsFor
+pub words-for : (n : ℕ) (ds : List Difference) → words_of (listed_for n ds) ≡ words_for n ds
+unfolding words_of words_for
 words-for n [] = refl
 words-for n (d ∷ rest) = ap (λ l. word_of n d ∷ l) (words-for n rest)
 
-for-append : (n : ℕ) (x y : List Difference) → wordsFor n (x ++ y) ≡ wordsFor n x ++ wordsFor n y
-unfolding wordsFor
+for-append : (n : ℕ) (x y : List Difference) → words_for n (x ++ y) ≡ words_for n x ++ words_for n y
+unfolding words_for
 for-append n [] y = refl
 for-append n (d ∷ rest) y = ap (λ l. word_of n d ∷ l) (for-append n rest y)
 
@@ -113,35 +113,35 @@ pushed_none old n = record { count = omega arith; list = refl }
 
 -- three runs of words are the differences on a number
 pub number_pushed : (first second : List ℕ) (n : ℕ) (a b : Held)
-    → wordsFor n (conflictAs (flagHeld a) ConflictFirst) ++ (wordsFor n (conflictAs (flagHeld b) ConflictSecond) ++ wordsFor n (partAs (standingHeld first a) (standingHeld second b)))
-    ≡ wordsFor n (heldDifferences first second a b)
-unfolding heldDifferences
+    → words_for n (conflict_as (flag_held a) ConflictFirst) ++ (words_for n (conflict_as (flag_held b) ConflictSecond) ++ words_for n (part_as (standing_held first a) (standing_held second b)))
+    ≡ words_for n (held_differences first second a b)
+unfolding held_differences
 number_pushed first second n a b =
-    let ca = conflictAs (flagHeld a) ConflictFirst in
-    let cb = conflictAs (flagHeld b) ConflictSecond in
-    let part = partAs (standingHeld first a) (standingHeld second b) in
-    sym (for-append n ca (cb ++ part) ∙ ap (λ l. wordsFor n ca ++ l) (for-append n cb part))
+    let ca = conflict_as (flag_held a) ConflictFirst in
+    let cb = conflict_as (flag_held b) ConflictSecond in
+    let part = part_as (standing_held first a) (standing_held second b) in
+    sym (for-append n ca (cb ++ part) ∙ ap (λ l. words_for n ca ++ l) (for-append n cb part))
 
 -- at most one conflict and one difference more for each side that has the number
-pub conflict-few : (n : ℕ) (held : Held) (d : Difference) → length (wordsFor n (conflictAs (flagHeld held) d)) ≤ has_of held
-unfolding wordsFor
+pub conflict-few : (n : ℕ) (held : Held) (d : Difference) → length (words_for n (conflict_as (flag_held held) d)) ≤ has_of held
+unfolding words_for
 conflict-few n Not d = le_refl 0
 conflict-few n (At place flag) d = cases (eqb flag 0) (λ t. simp t (omega arith)) (λ f. simp f (omega arith))
 
-content-few : (n : ℕ) (content : Content) → length (wordsFor n (contentAs content)) ≤ 1
-unfolding wordsFor
+content-few : (n : ℕ) (content : Content) → length (words_for n (content_as content)) ≤ 1
+unfolding words_for
 content-few n contents.Equal = omega arith
 content-few n (contents.Differ place x y) = le_refl 1
 content-few n (contents.Begins k) = le_refl 1
 
-part-few : (first second : List ℕ) (n : ℕ) (a b : Held) → length (wordsFor n (partAs (standingHeld first a) (standingHeld second b))) ≤ has_of a + has_of b
-unfolding wordsFor
+part-few : (first second : List ℕ) (n : ℕ) (a b : Held) → length (words_for n (part_as (standing_held first a) (standing_held second b))) ≤ has_of a + has_of b
+unfolding words_for
 part-few first second n Not Not = le_refl 0
 part-few first second n (At i f) Not = le_refl 1
 part-few first second n Not (At j g) = le_refl 1
-part-few first second n (At i f) (At j g) = omega (arith, content-few n (contentOf (run_at first i) (run_at second j)))
+part-few first second n (At i f) (At j g) = omega (arith, content-few n (content_of (run_at first i) (run_at second j)))
 
-number-few : (first second : List ℕ) (n : ℕ) (a b : Held) → length (wordsFor n (heldDifferences first second a b)) ≤ (has_of a + has_of b) * 2
+number-few : (first second : List ℕ) (n : ℕ) (a b : Held) → length (words_for n (held_differences first second a b)) ≤ (has_of a + has_of b) * 2
 number-few first second n a b =
     let x = conflict-few n a ConflictFirst in
     let y = conflict-few n b ConflictSecond in
@@ -151,8 +151,8 @@ number-few first second n a b =
 -- ---- laws of what is left
 
 next-least : (rank : ℕ) (xs ys : List Row) → Rising rank xs → Rising rank ys → 0 < length xs + length ys
-    → (rank ≤ nextRank xs ys) × (nextRank xs ys < 2 ^ 32) × Rising (nextRank xs ys) xs × Rising (nextRank xs ys) ys × (1 ≤ has_of (heldFirst (nextRank xs ys) xs) + has_of (heldFirst (nextRank xs ys) ys))
-unfolding Rising nextRank heldFirst
+    → (rank ≤ next_rank xs ys) × (next_rank xs ys < 2 ^ 32) × Rising (next_rank xs ys) xs × Rising (next_rank xs ys) ys × (1 ≤ has_of (held_first (next_rank xs ys) xs) + has_of (held_first (next_rank xs ys) ys))
+unfolding Rising next_rank held_first
 next-least rank [] [] h g some = absurd (not-suc-le-zero some)
 next-least rank [] (y ∷ ys) h g some =
     let low = rising-least (suc y.rank) ys g.1 in
@@ -172,8 +172,8 @@ next-least rank (x ∷ xs) (y ∷ ys) h g some =
     simp (f, eq-eqb y.rank y.rank refl) (g.0, high, (least, h.1), (le_refl y.rank, g.1), omega arith))
 
 -- the first row, if it is of the least rank
-first-held : (rank : ℕ) (rows : List Row) → Rising rank rows → heldIn rank rows ≡ heldFirst rank rows
-unfolding Rising heldIn heldFirst
+first-held : (rank : ℕ) (rows : List Row) → Rising rank rows → held_in rank rows ≡ held_first rank rows
+unfolding Rising held_in held_first
 first-held rank [] h = refl
 first-held rank (x ∷ rest) h =
     cases (eqb x.rank rank)
@@ -183,8 +183,8 @@ first-held rank (x ∷ rest) h =
     simp f (held_below rank (suc x.rank) rest h.1 (omega (arith, h.0))))
 
 -- past the first row, if it is of the least rank
-first-left : (rank : ℕ) (rows : List Row) → rank < 2 ^ 32 → Rising rank rows → Left (suc rank) rows (has_of (heldFirst rank rows))
-unfolding Rising heldIn heldFirst
+first-left : (rank : ℕ) (rows : List Row) → rank < 2 ^ 32 → Rising rank rows → Left (suc rank) rows (has_of (held_first rank rows))
+unfolding Rising held_in held_first
 first-left rank [] l h = record { rises = l; holds = λ q g. refl }
 first-left rank (x ∷ rest) l h =
     cases (eqb x.rank rank)
@@ -199,22 +199,22 @@ first-left rank (x ∷ rest) l h =
     simp f (record { rises = (omega (arith, h.0), h.1); holds = λ q g. refl }))
 
 -- no more rows are passed than there are
-has_within : (rank : ℕ) (rows : List Row) → has_of (heldFirst rank rows) ≤ length rows
-unfolding heldFirst
+has_within : (rank : ℕ) (rows : List Row) → has_of (held_first rank rows) ≤ length rows
+unfolding held_first
 has_within rank [] = le_refl 0
 has_within rank (x ∷ rest) = cases (eqb x.rank rank) (λ t. simp t (omega arith)) (λ f. simp f (omega arith))
 
-passed-within : (i : ℕ) (rows : List Row) (rank : ℕ) → i ≤ length rows → i + has_of (heldFirst rank (drop i rows)) ≤ length rows
+passed-within : (i : ℕ) (rows : List Row) (rank : ℕ) → i ≤ length rows → i + has_of (held_first rank (drop i rows)) ≤ length rows
 passed-within i rows rank h = let l = has_within rank (drop i rows) in omega (arith, length-drop i rows)
 
 left_step : (rank next i : ℕ) (rows : List Row) → Left rank rows i → rank ≤ next → next < 2 ^ 32 → Rising next (drop i rows)
-    → Left (suc next) rows (i + has_of (heldFirst next (drop i rows)))
+    → Left (suc next) rows (i + has_of (held_first next (drop i rows)))
 left_step rank next i rows left h l rises =
-    let k = has_of (heldFirst next (drop i rows)) in
+    let k = has_of (held_first next (drop i rows)) in
     let step = first-left next (drop i rows) l rises in
     record {
       rises = rw drop-drop at step.rises;
-      holds = λ q g. left.holds q (omega arith) ∙ step.holds q g ∙ ap (heldIn q) (drop-drop k i rows);
+      holds = λ q g. left.holds q (omega arith) ∙ step.holds q g ∙ ap (held_in q) (drop-drop k i rows);
     }
 
 none_left : (rows : List Row) → rows ≡ [] → Rising (2 ^ 32) rows
@@ -222,35 +222,35 @@ unfolding Rising
 none_left rows e = rw e (le_refl (2 ^ 32))
 
 -- a stretch of ranks without differences
-below-gap : (first second : List ℕ) (start k d : ℕ) → ((q : ℕ) → k ≤ q → q < k + d → differencesOn first second (number_of start q) ≡ [])
-    → listBelow first second start (k + d) ≡ listBelow first second start k
-unfolding listBelow
-below-gap first second start k zero none = ap (listBelow first second start) (let e : k + 0 ≡ k = omega arith in e)
+below-gap : (first second : List ℕ) (start k d : ℕ) → ((q : ℕ) → k ≤ q → q < k + d → differences_on first second (number_of start q) ≡ [])
+    → list_below first second start (k + d) ≡ list_below first second start k
+unfolding list_below
+below-gap first second start k zero none = ap (list_below first second start) (let e : k + 0 ≡ k = omega arith in e)
 below-gap first second start k (suc d) none =
     let e : k + suc d ≡ suc (k + d) = omega arith in
-    ap (listBelow first second start) e
-    ∙ ap (λ l. listBelow first second start (k + d) ++ listedFor (number_of start (k + d)) l) (none (k + d) (omega arith) (omega arith))
-    ∙ append-nil (listBelow first second start (k + d))
+    ap (list_below first second start) e
+    ∙ ap (λ l. list_below first second start (k + d) ++ listed_for (number_of start (k + d)) l) (none (k + d) (omega arith) (omega arith))
+    ∙ append-nil (list_below first second start (k + d))
     ∙ below-gap first second start k d (λ q h g. none q h (omega arith))
 
 -- the words of the ranks below one and of it
 below-words : (first second : List ℕ) (start r : ℕ)
-    → words_of (listBelow first second start (suc r)) ≡ words_of (listBelow first second start r) ++ wordsFor (number_of start r) (differencesOn first second (number_of start r))
-unfolding listBelow
+    → words_of (list_below first second start (suc r)) ≡ words_of (list_below first second start r) ++ words_for (number_of start r) (differences_on first second (number_of start r))
+unfolding list_below
 below-words first second start r =
     let n = number_of start r in
-    let ds = differencesOn first second n in
-    words_append (listBelow first second start r) (listedFor n ds) ∙ ap (λ l. words_of (listBelow first second start r) ++ l) (words-for n ds)
+    let ds = differences_on first second n in
+    words_append (list_below first second start r) (listed_for n ds) ∙ ap (λ l. words_of (list_below first second start r) ++ l) (words-for n ds)
 
-none-held : (first second : List ℕ) (a b : Held) → a ≡ Not → b ≡ Not → heldDifferences first second a b ≡ []
-unfolding heldDifferences
+none-held : (first second : List ℕ) (a b : Held) → a ≡ Not → b ≡ Not → held_differences first second a b ≡ []
+unfolding held_differences
 none-held first second a b p q = simp (p, q)
 
 -- ---- the list from its start to its end
 
 module _ (first second : List ℕ) (start : ℕ) (a b : List Row) (old : List ℕ) where
   pub listing_start : Rising 0 a → Rising 0 b → Listing first second start a b old 0 0 0 old
-  unfolding listBelow words_of
+  unfolding list_below words_of
   listing_start h g = record {
     rank = 0;
     left = record { rises = h; holds = λ q l. refl };
@@ -267,47 +267,47 @@ module _ (first second : List ℕ) (start : ℕ) (a b : List Row) (old : List �
     some more = simp length-drop (omega (arith, so_far.first_rows, so_far.second-rows))
 
     -- no differences on the numbers from the rank up to one that nothing left is below
-    gap : (r : ℕ) → so_far.rank ≤ r → Rising r (drop i a) → Rising r (drop j b) → listBelow first second start r ≡ listBelow first second start so_far.rank
+    gap : (r : ℕ) → so_far.rank ≤ r → Rising r (drop i a) → Rising r (drop j b) → list_below first second start r ≡ list_below first second start so_far.rank
     gap r h x y =
         let l = rising-least r (drop i a) x in
         let e : r ≡ so_far.rank + (r - so_far.rank) = omega arith in
-        ap (listBelow first second start) e
+        ap (list_below first second start) e
         ∙ below-gap first second start so_far.rank (r - so_far.rank)
         (λ q from below.
         says.on q (omega arith)
-        ∙ none-held first second (heldIn q a) (heldIn q b)
+        ∙ none-held first second (held_in q a) (held_in q b)
         (so_far.left.holds q from ∙ held_below q r (drop i a) x (omega arith))
         (so_far.right.holds q from ∙ held_below q r (drop j b) y (omega arith)))
 
     -- the words below a rank and of it, the least that is left
     step_words : (r : ℕ) → so_far.rank ≤ r → r < 2 ^ 32 → Rising r (drop i a) → Rising r (drop j b)
-        → words_of (listBelow first second start (suc r)) ≡ words_of (listBelow first second start so_far.rank) ++ wordsFor (number_of start r) (heldDifferences first second (heldFirst r (drop i a)) (heldFirst r (drop j b)))
+        → words_of (list_below first second start (suc r)) ≡ words_of (list_below first second start so_far.rank) ++ words_for (number_of start r) (held_differences first second (held_first r (drop i a)) (held_first r (drop j b)))
     step_words r h l x y =
         let left = so_far.left.holds r h ∙ first-held r (drop i a) x in
         let right = so_far.right.holds r h ∙ first-held r (drop j b) y in
         below-words first second start r ∙ simp (gap r h x y, says.on r l, left, right)
 
-    listing-rank : i + j < length a + length b → nextRank (drop i a) (drop j b) < 2 ^ 32
+    listing-rank : i + j < length a + length b → next_rank (drop i a) (drop j b) < 2 ^ 32
     listing-rank more = (next-least so_far.rank (drop i a) (drop j b) so_far.left.rises so_far.right.rises (some more)).1
 
     listing-room : i + j < length a + length b → length a ≤ 1024 → length b ≤ 1024
-        → n + (has_of (heldFirst (nextRank (drop i a) (drop j b)) (drop i a)) + has_of (heldFirst (nextRank (drop i a) (drop j b)) (drop j b))) * 2 ≤ 4096
+        → n + (has_of (held_first (next_rank (drop i a) (drop j b)) (drop i a)) + has_of (held_first (next_rank (drop i a) (drop j b)) (drop j b))) * 2 ≤ 4096
     listing-room more h g =
-        let r = nextRank (drop i a) (drop j b) in
+        let r = next_rank (drop i a) (drop j b) in
         omega (arith, so_far.few, passed-within i a r so_far.first_rows, passed-within j b r so_far.second-rows)
 
     listing-less : i + j < length a + length b
-        → i + j < i + has_of (heldFirst (nextRank (drop i a) (drop j b)) (drop i a)) + (j + has_of (heldFirst (nextRank (drop i a) (drop j b)) (drop j b)))
+        → i + j < i + has_of (held_first (next_rank (drop i a) (drop j b)) (drop i a)) + (j + has_of (held_first (next_rank (drop i a) (drop j b)) (drop j b)))
     listing-less more =
         omega (arith, (next-least so_far.rank (drop i a) (drop j b) so_far.left.rises so_far.right.rises (some more)).4)
 
     listing_step : (m : ℕ) (next : List ℕ) → i + j < length a + length b
-        → Pushed (wordsFor (number_of start (nextRank (drop i a) (drop j b))) (heldDifferences first second (heldFirst (nextRank (drop i a) (drop j b)) (drop i a)) (heldFirst (nextRank (drop i a) (drop j b)) (drop j b)))) new n m next
-        → Listing first second start a b old (i + has_of (heldFirst (nextRank (drop i a) (drop j b)) (drop i a))) (j + has_of (heldFirst (nextRank (drop i a) (drop j b)) (drop j b))) m next
+        → Pushed (words_for (number_of start (next_rank (drop i a) (drop j b))) (held_differences first second (held_first (next_rank (drop i a) (drop j b)) (drop i a)) (held_first (next_rank (drop i a) (drop j b)) (drop j b)))) new n m next
+        → Listing first second start a b old (i + has_of (held_first (next_rank (drop i a) (drop j b)) (drop i a))) (j + has_of (held_first (next_rank (drop i a) (drop j b)) (drop j b))) m next
     listing_step m next more pushed =
-        let r = nextRank (drop i a) (drop j b) in
-        let x = heldFirst r (drop i a) in
-        let y = heldFirst r (drop j b) in
+        let r = next_rank (drop i a) (drop j b) in
+        let x = held_first r (drop i a) in
+        let y = held_first r (drop j b) in
         let least = next-least so_far.rank (drop i a) (drop j b) so_far.left.rises so_far.right.rises (some more) in
         record {
           rank = suc r;
@@ -318,10 +318,10 @@ module _ (first second : List ℕ) (start : ℕ) (a b : List Row) (old : List �
           few = omega (arith, so_far.few, pushed.count, number-few first second (number_of start r) x y);
           pushed =
               rw (step_words r least.0 least.1 least.2 least.3)
-              (pushed_then (words_of (listBelow first second start so_far.rank)) (wordsFor (number_of start r) (heldDifferences first second x y)) old new next 0 n m so_far.pushed pushed);
+              (pushed_then (words_of (list_below first second start so_far.rank)) (words_for (number_of start r) (held_differences first second x y)) old new next 0 n m so_far.pushed pushed);
         }
 
-    listing-end : length a + length b ≤ i + j → Pushed (words_of (listBelow first second start (2 ^ 32))) old 0 n new
+    listing-end : length a + length b ≤ i + j → Pushed (words_of (list_below first second start (2 ^ 32))) old 0 n new
     listing-end done =
         let l = rising-least so_far.rank (drop i a) so_far.left.rises in
         let x = drop_of_length-le a {i = i} (omega (arith, so_far.first_rows, so_far.second-rows)) in
@@ -330,19 +330,19 @@ module _ (first second : List ℕ) (start : ℕ) (a b : List Row) (old : List �
 
 -- ---- what fits a list's numbers
 
-within-from : (k : ℕ) (x y : List ℕ) → place_of (contentFrom k x y) ≤ k + length x
-unfolding contentFrom
+within-from : (k : ℕ) (x y : List ℕ) → place_of (content_from k x y) ≤ k + length x
+unfolding content_from
 within-from k [] [] = omega arith
 within-from k [] (y ∷ ys) = omega arith
 within-from k (x ∷ xs) [] = omega arith
 within-from k (x ∷ xs) (y ∷ ys) = cases (eqb x y) (λ t. simp t (omega (arith, within-from (k + 1) xs ys))) (λ f. simp f (omega arith))
 
 -- runs part within them
-pub content-within : (x y : List ℕ) → place_of (contentOf x y) ≤ length x
+pub content-within : (x y : List ℕ) → place_of (content_of x y) ≤ length x
 content-within x y = omega (arith, within-from 0 x y)
 
-bytes-few : (line : List ℕ) → length (lineBytes line) ≤ 1040
-unfolding lineBytes
+bytes-few : (line : List ℕ) → length (line_bytes line) ≤ 1040
+unfolding line_bytes
 bytes-few line =
     cases (leb (length line) 2080)
     (λ l.
@@ -352,17 +352,17 @@ bytes-few line =
     (λ f. simp (l, f) (omega arith)))
     (λ l. simp l (omega arith))
 
-payload-few : (found : Found) (line : List ℕ) → length (payloadAfter found line) ≤ 1040
+payload-few : (found : Found) (line : List ℕ) → length (payload_after found line) ≤ 1040
 payload-few found.Bad line = omega arith
 payload-few (found.Awaits m) line = bytes-few line
 payload-few (found.Holds m) line = omega arith
 payload-few found.Passes line = omega arith
 
-lines-few : (lines : List (List ℕ)) → length (runIn lines) ≤ 2080
+lines-few : (lines : List (List ℕ)) → length (run_in lines) ≤ 2080
 lines-few [] = omega arith
 lines-few (frame ∷ []) = omega (arith, bytes-few frame)
 lines-few (frame ∷ payload ∷ rest) =
-    simp length-append (omega (arith, bytes-few frame, payload-few (lineFound Frame 0 0 frame) payload))
+    simp length-append (omega (arith, bytes-few frame, payload-few (line_found Frame 0 0 frame) payload))
 
 -- a run is two lines, of at most 1,040 bytes each
 pub run_short : (input : List ℕ) (at : ℕ) → length (run_at input at) ≤ 2080
@@ -370,28 +370,28 @@ unfolding run_at
 run_short input at = lines-few (lines_of (drop at input))
 
 -- where two messages part, a list has room for the place
-pub part-near : (first second : List ℕ) (i j : ℕ) (content : Content) → content ≡ contentOf (run_at first i) (run_at second j) → place_of content < 4096
+pub part-near : (first second : List ℕ) (i j : ℕ) (content : Content) → content ≡ content_of (run_at first i) (run_at second j) → place_of content < 4096
 part-near first second i j content e =
     omega (arith, ap place_of e, content-within (run_at first i) (run_at second j), run_short first i)
 
 -- the least rank by the cells: one table is at its end, or both have a row
 module _ (m i : ℕ) (x : List ℕ) (n j : ℕ) (y : List ℕ) (x-room : m * 3 ≤ length x) (y-room : n * 3 ≤ length y) where
-  pub next-second : m ≤ i → j < n → get_or y (j * 3) 0 ≡ nextRank (drop i (rows_of m x)) (drop j (rows_of n y))
-  unfolding nextRank
+  pub next-second : m ≤ i → j < n → get_or y (j * 3) 0 ≡ next_rank (drop i (rows_of m x)) (drop j (rows_of n y))
+  unfolding next_rank
   next-second h g = rw (rows-past m i x x-room h, rows-from n j y y-room g)
 
-  pub next-first : i < m → n ≤ j → get_or x (i * 3) 0 ≡ nextRank (drop i (rows_of m x)) (drop j (rows_of n y))
-  unfolding nextRank
+  pub next-first : i < m → n ≤ j → get_or x (i * 3) 0 ≡ next_rank (drop i (rows_of m x)) (drop j (rows_of n y))
+  unfolding next_rank
   next-first h g = rw (rows-from m i x x-room h, rows-past n j y y-room g)
 
-  next_both : i < m → j < n → nextRank (drop i (rows_of m x)) (drop j (rows_of n y)) ≡ cond (ltb (get_or x (i * 3) 0) (get_or y (j * 3) 0)) (get_or x (i * 3) 0) (get_or y (j * 3) 0)
-  unfolding nextRank
+  next_both : i < m → j < n → next_rank (drop i (rows_of m x)) (drop j (rows_of n y)) ≡ cond (ltb (get_or x (i * 3) 0) (get_or y (j * 3) 0)) (get_or x (i * 3) 0) (get_or y (j * 3) 0)
+  unfolding next_rank
   next_both h g = rw (rows-from m i x x-room h, rows-from n j y y-room g)
 
-  pub next_low : i < m → j < n → get_or x (i * 3) 0 < get_or y (j * 3) 0 → get_or x (i * 3) 0 ≡ nextRank (drop i (rows_of m x)) (drop j (rows_of n y))
+  pub next_low : i < m → j < n → get_or x (i * 3) 0 < get_or y (j * 3) 0 → get_or x (i * 3) 0 ≡ next_rank (drop i (rows_of m x)) (drop j (rows_of n y))
   next_low h g l = sym (next_both h g ∙ (simp (lt-ltb _ _ l)))
 
-  pub next-high : i < m → j < n → get_or y (j * 3) 0 ≤ get_or x (i * 3) 0 → get_or y (j * 3) 0 ≡ nextRank (drop i (rows_of m x)) (drop j (rows_of n y))
+  pub next-high : i < m → j < n → get_or y (j * 3) 0 ≤ get_or x (i * 3) 0 → get_or y (j * 3) 0 ≡ next_rank (drop i (rows_of m x)) (drop j (rows_of n y))
   next-high h g l = sym (next_both h g ∙ (simp (le-ltb _ _ l)))
 
 -- one turn over two tables in their cells: from where the list has come to the differences on the next number
@@ -403,22 +403,22 @@ module _ (m : ℕ) (x : List ℕ) (n : ℕ) (y : List ℕ) (rooms : (m * 3 ≤ l
   pub turn-rows : (i ≤ m) × (j ≤ n)
   turn-rows = (omega (arith, so_far.first_rows, rows-length m x rooms.0), omega (arith, so_far.second-rows, rows-length n y rooms.1))
 
-  pub turn_end : m + n ≤ i + j → Pushed (words_of (listBelow first second start (2 ^ 32))) old 0 k list
+  pub turn_end : m + n ≤ i + j → Pushed (words_of (list_below first second start (2 ^ 32))) old 0 k list
   turn_end done = listing-end first second start (rows_of m x) (rows_of n y) old i j k list says so_far (omega (arith, all-rows))
 
-  module _ (more : i + j < m + n) (rank : ℕ) (ranked : rank ≡ nextRank (drop i (rows_of m x)) (drop j (rows_of n y))) where
+  module _ (more : i + j < m + n) (rank : ℕ) (ranked : rank ≡ next_rank (drop i (rows_of m x)) (drop j (rows_of n y))) where
     left_over : i + j < length (rows_of m x) + length (rows_of n y)
     left_over = omega (arith, all-rows)
 
     pub turn-rank : rank < 2 ^ 32
     turn-rank = omega (arith, ranked, listing-rank first second start (rows_of m x) (rows_of n y) old i j k list says so_far left_over)
 
-    module _ (a b : Held) (held-a : a ≡ heldFirst rank (drop i (rows_of m x))) (held-b : b ≡ heldFirst rank (drop j (rows_of n y))) where
-      same-a : a ≡ heldFirst (nextRank (drop i (rows_of m x)) (drop j (rows_of n y))) (drop i (rows_of m x))
-      same-a = held-a ∙ ap (λ r. heldFirst r (drop i (rows_of m x))) ranked
+    module _ (a b : Held) (held-a : a ≡ held_first rank (drop i (rows_of m x))) (held-b : b ≡ held_first rank (drop j (rows_of n y))) where
+      same-a : a ≡ held_first (next_rank (drop i (rows_of m x)) (drop j (rows_of n y))) (drop i (rows_of m x))
+      same-a = held-a ∙ ap (λ r. held_first r (drop i (rows_of m x))) ranked
 
-      same-b : b ≡ heldFirst (nextRank (drop i (rows_of m x)) (drop j (rows_of n y))) (drop j (rows_of n y))
-      same-b = held-b ∙ ap (λ r. heldFirst r (drop j (rows_of n y))) ranked
+      same-b : b ≡ held_first (next_rank (drop i (rows_of m x)) (drop j (rows_of n y))) (drop j (rows_of n y))
+      same-b = held-b ∙ ap (λ r. held_first r (drop j (rows_of n y))) ranked
 
       pub turn-room : m ≤ 1024 → n ≤ 1024 → k + (has_of a + has_of b) * 2 ≤ 4096
       turn-room h g =
@@ -432,7 +432,7 @@ module _ (m : ℕ) (x : List ℕ) (n : ℕ) (y : List ℕ) (rooms : (m * 3 ≤ l
       pub turn-less : i + j < i + has_of a + (j + has_of b)
       turn-less = omega (arith, ap has_of same-a, ap has_of same-b, listing-less first second start (rows_of m x) (rows_of n y) old i j k list says so_far left_over)
 
-      pub turn_step : (number l : ℕ) (next : List ℕ) → number ≡ number_of start rank → Pushed (wordsFor number (heldDifferences first second a b)) list k l next
+      pub turn_step : (number l : ℕ) (next : List ℕ) → number ≡ number_of start rank → Pushed (words_for number (held_differences first second a b)) list k l next
           → Listing first second start (rows_of m x) (rows_of n y) old (i + has_of a) (j + has_of b) l next
       turn_step number l next named pushed =
           rw (same-a, same-b)

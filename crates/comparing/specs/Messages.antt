@@ -3,7 +3,7 @@
 use Rattle.std.specs.Prelude.{◌≡◌, refl, Bool, true, false, cond, ◌&&◌, List, [], ◌∷◌, ℕ, zero, suc, ◌+◌, ◌*◌, ◌<◌, eqb, leb, length, get_or}
 use Rattle.std.proofs.Common.{sym, ◌∙◌, arith, take_all, eq-eqb, ne_eqb, leb-false}
 use borrow.Table.Steps.{cases}
-use Rattle.seq.specs.Numbers.{seqOf}
+use Rattle.seq.specs.Numbers.{seq_of}
 use Rattle.msg.specs.declared.reading.Reading.{Reading}
 use Rattle.msg.specs.declared.reading.Reading.TheVariants as readings
 use Rattle.msg.specs.declared.reliable.ReliableMsg.{ReliableMsg}
@@ -11,15 +11,15 @@ use Rattle.msg.specs.declared.reliable.ReliableMsg.TheVariants as reliable
 use Rattle.msg.specs.declared.reliable.FromLink.{FromLink}
 use Rattle.msg.specs.declared.reliable.FromLink.TheVariants.{Reliable, Other}
 use Rattle.msg.specs.Reading.{number_at}
-use Rattle.msg.specs.Reliable.{fromLink}
+use Rattle.msg.specs.Reliable.{from_link}
 use Rattle.text.specs.declared.hex.HexByte.{HexByte}
 use Rattle.text.specs.declared.hex.HexByte.TheVariants.{Byte, Bad}
 use Rattle.text.specs.declared.hex.HexRun.TheVariants.{Count}
-use Rattle.text.specs.Hex.{hexValue, hexByte}
-use Rattle.text.specs.HexRun.{before, spells, spelt, readHexOf, readHexIn, count-says, counted_start}
+use Rattle.text.specs.Hex.{hex_value, hex_byte}
+use Rattle.text.specs.HexRun.{before, spells, spelt, read_hex_of, read_hex_in, count-says, counted_start}
 use Rattle.recording.specs.Lines.{lines_from, lines_of}
 use Rattle.recording.specs.Frames.{frame_of}
-use Rattle.recording.specs.Payloads.{isPayload}
+use Rattle.recording.specs.Payloads.{is_payload}
 use Rattle.comparing.specs.declared.messages.Message.{Message}
 use Rattle.comparing.specs.declared.messages.Waiting.{Waiting}
 use Rattle.comparing.specs.declared.messages.Waiting.TheVariants.{Frame, Payload}
@@ -29,108 +29,108 @@ use Rattle.comparing.specs.declared.messages.Start.{Start}
 use Rattle.comparing.specs.declared.messages.Start.TheVariants as starts
 
 -- "a start number, eight digits, on each first line"
-unfoldable pub startLine : List ℕ → Start
+unfoldable pub start_line : List ℕ → Start
 unfolding spells spelt number_at
-startLine line = cond (eqb (length line) 8 && spells line) (starts.Number (seqOf (number_at (spelt line) 0))) starts.Bad
+start_line line = cond (eqb (length line) 8 && spells line) (starts.Number (seq_of (number_at (spelt line) 0))) starts.Bad
 
 -- "Data payloads after their frames": a Data is whole with the next line, the other messages with a number as they stand
-abbrev pub foundReliable : ReliableMsg → Message → Found
-foundReliable reliable.Data m = found.Awaits m
-foundReliable (reliable.Consumed n) m = found.Holds m
-foundReliable reliable.SendFinish m = found.Holds m
-foundReliable reliable.ReceiveClose m = found.Holds m
-foundReliable reliable.ReceiveFinish m = found.Holds m
+abbrev pub found_reliable : ReliableMsg → Message → Found
+found_reliable reliable.Data m = found.Awaits m
+found_reliable (reliable.Consumed n) m = found.Holds m
+found_reliable reliable.SendFinish m = found.Holds m
+found_reliable reliable.ReceiveClose m = found.Holds m
+found_reliable reliable.ReceiveFinish m = found.Holds m
 
 -- "acks and frames without a number are passed over"
-abbrev pub foundCarried : FromLink → ℕ → ℕ → Found
-foundCarried (Reliable msg seq) at line = foundReliable msg (record { number = seq; at = at; line = line })
-foundCarried Other at line = found.Passes
+abbrev pub found_carried : FromLink → ℕ → ℕ → Found
+found_carried (Reliable msg seq) at line = found_reliable msg (record { number = seq; at = at; line = line })
+found_carried Other at line = found.Passes
 
-abbrev pub foundReading : Reading → ℕ → ℕ → Found
-foundReading (readings.Message msg) at line = foundCarried (fromLink msg) at line
-foundReading (readings.No e) at line = found.Bad
+abbrev pub found_reading : Reading → ℕ → ℕ → Found
+found_reading (readings.Message msg) at line = found_carried (from_link msg) at line
+found_reading (readings.No e) at line = found.Bad
 
-abbrev pub foundPayload : Bool → Message → Found
-foundPayload true m = found.Holds m
-foundPayload false m = found.Bad
+abbrev pub found_payload : Bool → Message → Found
+found_payload true m = found.Holds m
+found_payload false m = found.Bad
 
 -- what the line that begins at a place is; a frame's line and a payload's are the replay's
-unfoldable pub lineFound : Waiting → ℕ → ℕ → List ℕ → Found
-unfolding frame_of isPayload
-lineFound Frame at line text = foundReading (frame_of text) at line
-lineFound (Payload m) at line text = foundPayload (isPayload text) m
+unfoldable pub line_found : Waiting → ℕ → ℕ → List ℕ → Found
+unfolding frame_of is_payload
+line_found Frame at line text = found_reading (frame_of text) at line
+line_found (Payload m) at line text = found_payload (is_payload text) m
 
-abbrev pub waitingAfter : Found → Waiting
-waitingAfter found.Bad = Frame
-waitingAfter (found.Awaits m) = Payload m
-waitingAfter (found.Holds m) = Frame
-waitingAfter found.Passes = Frame
+abbrev pub waiting_after : Found → Waiting
+waiting_after found.Bad = Frame
+waiting_after (found.Awaits m) = Payload m
+waiting_after (found.Holds m) = Frame
+waiting_after found.Passes = Frame
 
 -- the messages of a recording in the order of their lines, up to its first bad line; that line, from 1, or 0 where none is bad
 pub record Body : Type 0 where
   pub messages : List Message
   pub bad : ℕ
 
-abbrev pub badAt : ℕ → Body
-badAt line = record { messages = []; bad = line }
+abbrev pub bad_at : ℕ → Body
+bad_at line = record { messages = []; bad = line }
 
 -- at the end no payload is to come any more: an absent one makes its frame's line bad
 abbrev pub ends_at : Waiting → ℕ
 ends_at Frame = 0
 ends_at (Payload m) = m.line
 
-abbrev pub bodyAs : Found → ℕ → (Waiting → Body) → Body
-bodyAs found.Bad line rest = badAt line
-bodyAs (found.Awaits m) line rest = rest (Payload m)
-bodyAs (found.Holds m) line rest = record { messages = m ∷ (rest Frame).messages; bad = (rest Frame).bad }
-bodyAs found.Passes line rest = rest Frame
+abbrev pub body_as : Found → ℕ → (Waiting → Body) → Body
+body_as found.Bad line rest = bad_at line
+body_as (found.Awaits m) line rest = rest (Payload m)
+body_as (found.Holds m) line rest = record { messages = m ∷ (rest Frame).messages; bad = (rest Frame).bad }
+body_as found.Passes line rest = rest Frame
 
 -- from a place and a line on
-unfoldable pub bodyFrom : Waiting → ℕ → ℕ → List (List ℕ) → Body
-unfolding lineFound
-bodyFrom w at line [] = badAt (ends_at w)
-bodyFrom w at line (text ∷ rest) = bodyAs (lineFound w at line text) line (λ v. bodyFrom v (at + length text + 1) (line + 1) rest)
+unfoldable pub body_from : Waiting → ℕ → ℕ → List (List ℕ) → Body
+unfolding line_found
+body_from w at line [] = bad_at (ends_at w)
+body_from w at line (text ∷ rest) = body_as (line_found w at line text) line (λ v. body_from v (at + length text + 1) (line + 1) rest)
 
 -- a recording whose first line is no start number is bad there
 abbrev pub body_after : Start → List ℕ → List (List ℕ) → Body
-body_after (starts.Number start) text rest = bodyFrom Frame (length text + 1) 2 rest
-body_after starts.Bad text rest = badAt 1
+body_after (starts.Number start) text rest = body_from Frame (length text + 1) 2 rest
+body_after starts.Bad text rest = bad_at 1
 
-abbrev pub bodyIn : List (List ℕ) → Body
-bodyIn [] = badAt 1
-bodyIn (text ∷ rest) = body_after (startLine text) text rest
+abbrev pub body_in : List (List ℕ) → Body
+body_in [] = bad_at 1
+body_in (text ∷ rest) = body_after (start_line text) text rest
 
 unfoldable pub body_of : List ℕ → Body
-unfolding lines_from startLine bodyFrom
-body_of input = bodyIn (lines_of input)
+unfolding lines_from start_line body_from
+body_of input = body_in (lines_of input)
 
 -- the start number; 0 where there is none
-abbrev pub startAs : Start → ℕ
-startAs (starts.Number start) = start.0
-startAs starts.Bad = 0
+abbrev pub start_as : Start → ℕ
+start_as (starts.Number start) = start.0
+start_as starts.Bad = 0
 
 abbrev pub start_in : List (List ℕ) → ℕ
 start_in [] = 0
-start_in (text ∷ rest) = startAs (startLine text)
+start_in (text ∷ rest) = start_as (start_line text)
 
 unfoldable pub start_of : List ℕ → ℕ
-unfolding lines_from startLine
+unfolding lines_from start_line
 start_of input = start_in (lines_of input)
 
 -- ---- laws
 
 -- two digits make a byte
-byte_small : (high low b : ℕ) → hexByte high low ≡ Byte b → b < 256
-unfolding hexByte
+byte_small : (high low b : ℕ) → hex_byte high low ≡ Byte b → b < 256
+unfolding hex_byte
 byte_small high low b e =
-    cases (leb 16 (hexValue high))
+    cases (leb 16 (hex_value high))
     (λ t. let z : ◌≡◌ {A = ℕ} 0 1 = cc (simp t at e) in absurd (omega arith))
     (λ f.
-    cases (leb 16 (hexValue low))
+    cases (leb 16 (hex_value low))
     (λ t. let z : ◌≡◌ {A = ℕ} 0 1 = cc (simp (f, t) at e) in absurd (omega arith))
     (λ g.
-    let v : hexValue high * 16 + hexValue low ≡ b = cc (simp (f, g) at e) in
-    omega (arith, leb-false 16 (hexValue high) f, leb-false 16 (hexValue low) g)))
+    let v : hex_value high * 16 + hex_value low ≡ b = cc (simp (f, g) at e) in
+    omega (arith, leb-false 16 (hex_value high) f, leb-false 16 (hex_value low) g)))
 
 -- a byte before bytes
 before_small : (b : HexByte) (rest : List ℕ) → ((v : ℕ) → b ≡ Byte v → v < 256) → ((k : ℕ) → get_or rest k 0 < 256) → (k : ℕ) → get_or (before b rest) k 0 < 256
@@ -143,24 +143,24 @@ pub spelt-small : (line : List ℕ) (k : ℕ) → get_or (spelt line) k 0 < 256
 unfolding spelt
 spelt-small [] k = omega arith
 spelt-small (high ∷ []) k = omega arith
-spelt-small (high ∷ low ∷ rest) k = before_small (hexByte high low) (spelt rest) (byte_small high low) (spelt-small rest) k
+spelt-small (high ∷ low ∷ rest) k = before_small (hex_byte high low) (spelt rest) (byte_small high low) (spelt-small rest) k
 
 -- the cases of a first line
 module _ (line : List ℕ) where
-  pub start-other : (length line ≡ 8 → ⊥) → startLine line ≡ starts.Bad
-  unfolding startLine
+  pub start-other : (length line ≡ 8 → ⊥) → start_line line ≡ starts.Bad
+  unfolding start_line
   start-other h = simp (ne_eqb (length line) 8 h)
 
-  pub start-bad : spells line ≡ false → startLine line ≡ starts.Bad
-  unfolding startLine
+  pub start-bad : spells line ≡ false → start_line line ≡ starts.Bad
+  unfolding start_line
   start-bad f = cases (eqb (length line) 8) (λ e. simp (e, f)) (λ e. simp e)
 
-  pub start-good : length line ≡ 8 → spells line ≡ true → startLine line ≡ starts.Number (seqOf (number_at (spelt line) 0))
-  unfolding startLine
+  pub start-good : length line ≡ 8 → spells line ≡ true → start_line line ≡ starts.Number (seq_of (number_at (spelt line) 0))
+  unfolding start_line
   start-good h t = simp (eq-eqb (length line) 8 h, t)
 
   -- eight digits fill a buffer of four bytes
-  pub start-bytes : (into left : List ℕ) (n : ℕ) → length line ≡ 8 → length left ≡ 4 → readHexOf line (length into) ≡ Count n → left ≡ readHexIn line into
+  pub start-bytes : (into left : List ℕ) (n : ℕ) → length line ≡ 8 → length left ≡ 4 → read_hex_of line (length into) ≡ Count n → left ≡ read_hex_in line into
       → left ≡ spelt line
   start-bytes into left n h l e now =
       sym (take_all n left (omega (arith, (count-says line (length into) n e).0))) ∙ counted_start line into left n e now

@@ -12,9 +12,9 @@ use Rattle.seq.specs.Distance.{distance_of, by-signed}
 use Rattle.comparing.specs.declared.messages.Message.{Message}
 
 -- a signed distance from the start number and 2^31, so that ranks are naturals that rise as the distance does
-abbrev pub rankBy : ℤ → ℕ
-rankBy (pos d) = 2 ^ 31 + d
-rankBy (negsuc d) = 2 ^ 31 - 1 - d
+abbrev pub rank_by : ℤ → ℕ
+rank_by (pos d) = 2 ^ 31 + d
+rank_by (negsuc d) = 2 ^ 31 - 1 - d
 
 -- the number of a rank
 unfoldable pub number_of : ℕ → ℕ → ℕ
@@ -22,17 +22,17 @@ unfolding plus
 number_of start rank = plus (plus start (2 ^ 31)) rank
 
 -- "22 for a number far from the start number": the line of a message with such a number, else 0
-abbrev pub farAs : Apart → ℕ → ℕ
-farAs (By d) line = 0
-farAs Far line = line
+abbrev pub far_as : Apart → ℕ → ℕ
+far_as (By d) line = 0
+far_as Far line = line
 
-unfoldable pub farAt : ℕ → Message → ℕ
+unfoldable pub far_at : ℕ → Message → ℕ
 unfolding distance_of
-farAt start m = farAs (distance_of m.number.0 start) m.line
+far_at start m = far_as (distance_of m.number.0 start) m.line
 
 -- ---- laws
 
-pub rank-by-lt : (d : ℤ) → mag d < 2 ^ 31 → rankBy d < 2 ^ 32
+pub rank-by-lt : (d : ℤ) → mag d < 2 ^ 31 → rank_by d < 2 ^ 32
 rank-by-lt (pos n) h = omega arith
 rank-by-lt (negsuc n) h = omega arith
 
@@ -59,7 +59,7 @@ unfolding rank_of number_of plus minus
 number-of-rank start number h g = omega arith
 
 module _ (start number : ℕ) where
-  rank-signed : start < 2 ^ 32 → rankBy (signed (minus number start)) ≡ rank_of start number
+  rank-signed : start < 2 ^ 32 → rank_by (signed (minus number start)) ≡ rank_of start number
   unfolding rank_of minus
   rank-signed h =
       let d = minus number start in
@@ -68,5 +68,5 @@ module _ (start number : ℕ) where
       (λ f. let i = ltb-false d (2 ^ 31) f in simp (signed_high d i) (omega arith))
 
   -- so a number that is not far has the rank by its distance
-  pub rank-by : (d : ℤ) → start < 2 ^ 32 → distance_of number start ≡ By d → rankBy d ≡ rank_of start number
+  pub rank-by : (d : ℤ) → start < 2 ^ 32 → distance_of number start ≡ By d → rank_by d ≡ rank_of start number
   rank-by d h e = rw (by-signed number start d e) at (rank-signed h)

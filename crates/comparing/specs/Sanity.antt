@@ -14,11 +14,11 @@ use Rattle.msg.specs.declared.reliable.FromLink.TheVariants.{Reliable, Other}
 use Rattle.msg.specs.Reading.{bad, read_of}
 use Rattle.msg.specs.RoundTrip.{Ranged}
 use Rattle.msg.specs.Encoding.{Bytes, Answers, answers, number_small}
-use Rattle.msg.specs.Reliable.{fromLink}
+use Rattle.msg.specs.Reliable.{from_link}
 use Rattle.text.specs.HexRun.{spells, spelt}
 use Rattle.recording.specs.Lines.{lines_of}
 use Rattle.recording.specs.Frames.{frame_of}
-use Rattle.recording.specs.Payloads.{isPayload}
+use Rattle.recording.specs.Payloads.{is_payload}
 use Rattle.comparing.specs.declared.messages.Message.{Message}
 use Rattle.comparing.specs.declared.messages.Waiting.{Waiting}
 use Rattle.comparing.specs.declared.messages.Waiting.TheVariants.{Frame, Payload}
@@ -26,7 +26,7 @@ use Rattle.comparing.specs.declared.messages.Found.{Found}
 use Rattle.comparing.specs.declared.messages.Found.TheVariants as found
 use Rattle.comparing.specs.declared.messages.Start.{Start}
 use Rattle.comparing.specs.declared.messages.Start.TheVariants as starts
-use Rattle.comparing.specs.Messages.{startLine, start_in, start_of, foundReliable, foundCarried, foundReading, foundPayload, lineFound, Body, bodyAs, bodyFrom, body_after, bodyIn, body_of, spelt-small}
+use Rattle.comparing.specs.Messages.{start_line, start_in, start_of, found_reliable, found_carried, found_reading, found_payload, line_found, Body, body_as, body_from, body_after, body_in, body_of, spelt-small}
 use Rattle.comparing.specs.Says.{Sane}
 
 -- ---- what a frame reads as: the number that it carries, if any, is of 32 bits
@@ -36,10 +36,10 @@ SmallCarried (Reliable msg seq) = seq.0 < 2 ^ 32
 SmallCarried Other = Unit {0}
 
 abbrev SmallRead : Reading → Type 0
-SmallRead (readings.Message msg) = SmallCarried (fromLink msg)
+SmallRead (readings.Message msg) = SmallCarried (from_link msg)
 SmallRead (readings.No e) = Unit {0}
 
-carried-small : (msg : LinkMsg) → Ranged msg → SmallCarried (fromLink msg)
+carried-small : (msg : LinkMsg) → Ranged msg → SmallCarried (from_link msg)
 carried-small links.Welcome small = tt
 carried-small links.Connect small = tt
 carried-small links.Accepted small = tt
@@ -84,7 +84,7 @@ abbrev SaneWaiting : Waiting → Type 0
 SaneWaiting Frame = Unit {0}
 SaneWaiting (Payload m) = SaneMessage m
 
-reliable-sane : (msg : ReliableMsg) (m : Message) → SaneMessage m → SaneFound (foundReliable msg m)
+reliable-sane : (msg : ReliableMsg) (m : Message) → SaneMessage m → SaneFound (found_reliable msg m)
 reliable-sane reliable.Data m sane = sane
 reliable-sane (reliable.Consumed n) m sane = sane
 reliable-sane reliable.SendFinish m sane = sane
@@ -92,35 +92,35 @@ reliable-sane reliable.ReceiveClose m sane = sane
 reliable-sane reliable.ReceiveFinish m sane = sane
 
 module _ (at line : ℕ) (counted : 0 < line) where
-  carried-sane : (carried : FromLink) → SmallCarried carried → SaneFound (foundCarried carried at line)
+  carried-sane : (carried : FromLink) → SmallCarried carried → SaneFound (found_carried carried at line)
   carried-sane (Reliable msg seq) small = reliable-sane msg (record { number = seq; at = at; line = line }) (small, counted)
   carried-sane Other small = tt
 
-  reading-sane : (reading : Reading) → SmallRead reading → SaneFound (foundReading reading at line)
-  reading-sane (readings.Message msg) small = carried-sane (fromLink msg) small
+  reading-sane : (reading : Reading) → SmallRead reading → SaneFound (found_reading reading at line)
+  reading-sane (readings.Message msg) small = carried-sane (from_link msg) small
   reading-sane (readings.No e) small = tt
 
-payload-sane : (b : Bool) (m : Message) → SaneMessage m → SaneFound (foundPayload b m)
+payload-sane : (b : Bool) (m : Message) → SaneMessage m → SaneFound (found_payload b m)
 payload-sane true m sane = sane
 payload-sane false m sane = tt
 
-line-sane : (w : Waiting) (at line : ℕ) (text : List ℕ) → 0 < line → SaneWaiting w → SaneFound (lineFound w at line text)
-unfolding lineFound
+line-sane : (w : Waiting) (at line : ℕ) (text : List ℕ) → 0 < line → SaneWaiting w → SaneFound (line_found w at line text)
+unfolding line_found
 line-sane Frame at line text counted sane = reading-sane at line counted (frame_of text) (frame_small text)
-line-sane (Payload m) at line text counted sane = payload-sane (isPayload text) m sane
+line-sane (Payload m) at line text counted sane = payload-sane (is_payload text) m sane
 
-found-sane : (f : Found) (line : ℕ) (rest : Waiting → Body) → SaneFound f → ((w : Waiting) → SaneWaiting w → Sane (rest w).messages) → Sane (bodyAs f line rest).messages
+found-sane : (f : Found) (line : ℕ) (rest : Waiting → Body) → SaneFound f → ((w : Waiting) → SaneWaiting w → Sane (rest w).messages) → Sane (body_as f line rest).messages
 unfolding Sane
 found-sane found.Bad line rest sane later = tt
 found-sane (found.Awaits m) line rest sane later = later (Payload m) sane
 found-sane (found.Holds m) line rest sane later = (sane, later Frame tt)
 found-sane found.Passes line rest sane later = later Frame tt
 
-from-sane : (w : Waiting) (at line : ℕ) (lines : List (List ℕ)) → 0 < line → SaneWaiting w → Sane (bodyFrom w at line lines).messages
-unfolding bodyFrom Sane
+from-sane : (w : Waiting) (at line : ℕ) (lines : List (List ℕ)) → 0 < line → SaneWaiting w → Sane (body_from w at line lines).messages
+unfolding body_from Sane
 from-sane w at line [] counted sane = tt
 from-sane w at line (text ∷ rest) counted sane =
-    found-sane (lineFound w at line text) line (λ v. bodyFrom v (at + length text + 1) (line + 1) rest) (line-sane w at line text counted sane)
+    found-sane (line_found w at line text) line (λ v. body_from v (at + length text + 1) (line + 1) rest) (line-sane w at line text counted sane)
     (λ v waits. from-sane v (at + length text + 1) (line + 1) rest (omega arith) waits)
 
 after-sane : (s : Start) (text : List ℕ) (rest : List (List ℕ)) → Sane (body_after s text rest).messages
@@ -128,10 +128,10 @@ unfolding Sane
 after-sane (starts.Number start) text rest = from-sane Frame (length text + 1) 2 rest (omega arith) tt
 after-sane starts.Bad text rest = tt
 
-in-sane : (lines : List (List ℕ)) → Sane (bodyIn lines).messages
+in-sane : (lines : List (List ℕ)) → Sane (body_in lines).messages
 unfolding Sane
 in-sane [] = tt
-in-sane (text ∷ rest) = after-sane (startLine text) text rest
+in-sane (text ∷ rest) = after-sane (start_line text) text rest
 
 pub body-sane : (input : List ℕ) → Sane (body_of input).messages
 unfolding body_of
@@ -140,7 +140,7 @@ body-sane input = in-sane (lines_of input)
 -- ---- the start number
 
 start-in-small : (lines : List (List ℕ)) → start_in lines < 2 ^ 32
-unfolding startLine
+unfolding start_line
 start-in-small [] = omega arith
 start-in-small (text ∷ rest) =
     cases (eqb (length text) 8 && spells text)

@@ -7,30 +7,30 @@ use Rattle.comparing.specs.declared.listing.Difference.{Difference}
 use Rattle.comparing.specs.declared.listing.Difference.TheVariants.{ConflictFirst, ConflictSecond}
 use Rattle.comparing.specs.Runs.{run_at}
 use Rattle.comparing.specs.Ranks.{number_of}
-use Rattle.comparing.specs.Rows.{Row, heldIn}
-use Rattle.comparing.specs.Differences.{Standing, Absent, Run, conflictAs, partAs, differencesOn}
+use Rattle.comparing.specs.Rows.{Row, held_in}
+use Rattle.comparing.specs.Differences.{Standing, Absent, Run, conflict_as, part_as, differences_on}
 
 -- numbers of 32 bits, and lines that are counted from 1
 unfoldable pub Sane : List Message → Type 0
 Sane [] = Unit
 Sane (m ∷ rest) = ((m.number.0 < 2 ^ 32) × (0 < m.line)) × Sane rest
 
-abbrev pub standingHeld : List ℕ → Held → Standing
-standingHeld input Not = Absent
-standingHeld input (At place flag) = Run (run_at input place)
+abbrev pub standing_held : List ℕ → Held → Standing
+standing_held input Not = Absent
+standing_held input (At place flag) = Run (run_at input place)
 
-abbrev pub flagHeld : Held → Bool
-flagHeld Not = false
-flagHeld (At place flag) = not (eqb flag 0)
+abbrev pub flag_held : Held → Bool
+flag_held Not = false
+flag_held (At place flag) = not (eqb flag 0)
 
 -- the differences on a number by what two tables have of it
-unfoldable pub heldDifferences : List ℕ → List ℕ → Held → Held → List Difference
+unfoldable pub held_differences : List ℕ → List ℕ → Held → Held → List Difference
 unfolding run_at
-heldDifferences first second a b =
-    conflictAs (flagHeld a) ConflictFirst
-    ++ (conflictAs (flagHeld b) ConflictSecond
-    ++ partAs (standingHeld first a) (standingHeld second b))
+held_differences first second a b =
+    conflict_as (flag_held a) ConflictFirst
+    ++ (conflict_as (flag_held b) ConflictSecond
+    ++ part_as (standing_held first a) (standing_held second b))
 
 -- two tables say the differences on every number
 pub record Says (first second : List ℕ) (start : ℕ) (a b : List Row) : Type 0 where
-  pub on : (rank : ℕ) → rank < 2 ^ 32 → differencesOn first second (number_of start rank) ≡ heldDifferences first second (heldIn rank a) (heldIn rank b)
+  pub on : (rank : ℕ) → rank < 2 ^ 32 → differences_on first second (number_of start rank) ≡ held_differences first second (held_in rank a) (held_in rank b)

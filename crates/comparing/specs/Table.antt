@@ -9,9 +9,9 @@ use Rattle.comparing.specs.declared.messages.Message.{Message}
 use Rattle.comparing.specs.declared.table.Held.{Held}
 use Rattle.comparing.specs.declared.table.Held.TheVariants.{Not, At}
 use Rattle.comparing.specs.declared.table.Counts.{Counts}
-use Rattle.comparing.specs.Runs.{contentFrom, contentOf, isEqual, run_at}
-use Rattle.comparing.specs.Ranks.{rankBy}
-use Rattle.comparing.specs.Rows.{Row, row, rows_of, positionIn, insertAt, heldFirst, markedAt}
+use Rattle.comparing.specs.Runs.{content_from, content_of, is_equal, run_at}
+use Rattle.comparing.specs.Ranks.{rank_by}
+use Rattle.comparing.specs.Rows.{Row, row, rows_of, position_in, insert_at, held_first, marked_at}
 
 -- the first of two lines to be told, where 0 is none
 unfoldable pub earliest : ℕ → ℕ → ℕ
@@ -26,41 +26,41 @@ pub record Table : Type 0 where
 abbrev pub table_of : Counts → List ℕ → Table
 table_of counts cells = record { rows = rows_of counts.count cells; far = counts.far; many = counts.many }
 
-abbrev pub noNumbers : Table
-noNumbers = record { rows = []; far = 0; many = 0 }
+abbrev pub no_numbers : Table
+no_numbers = record { rows = []; far = 0; many = 0 }
 
 -- "a repeat with other content is listed as a conflict of that recording, and the first stands"
 unfoldable pub repeated : List ℕ → ℕ → ℕ → ℕ → List Row → List Row
-unfolding contentFrom run_at markedAt
-repeated input first at i rows = cond (isEqual (contentOf (run_at input first) (run_at input at))) rows (markedAt i rows)
+unfolding content_from run_at marked_at
+repeated input first at i rows = cond (is_equal (content_of (run_at input first) (run_at input at))) rows (marked_at i rows)
 
 -- "At most 1,024 numbers a side"
 unfoldable pub added : ℕ → ℕ → Message → Table → Table
-unfolding insertAt earliest
+unfolding insert_at earliest
 added i rank m t =
     cond (ltb (length t.rows) NUMBERS)
-    (record { rows = insertAt i (row rank m.at 0) t.rows; far = t.far; many = t.many })
+    (record { rows = insert_at i (row rank m.at 0) t.rows; far = t.far; many = t.many })
     (record { rows = t.rows; far = t.far; many = earliest t.many m.line })
 
-abbrev pub enteredAs : Held → List ℕ → ℕ → ℕ → Message → Table → Table
-enteredAs Not input i rank m t = added i rank m t
-enteredAs (At first flag) input i rank m t = record { rows = repeated input first m.at i t.rows; far = t.far; many = t.many }
+abbrev pub entered_as : Held → List ℕ → ℕ → ℕ → Message → Table → Table
+entered_as Not input i rank m t = added i rank m t
+entered_as (At first flag) input i rank m t = record { rows = repeated input first m.at i t.rows; far = t.far; many = t.many }
 
-abbrev pub withFar : ℕ → Table → Table
-withFar line t = record { rows = t.rows; far = earliest t.far line; many = t.many }
+abbrev pub with_far : ℕ → Table → Table
+with_far line t = record { rows = t.rows; far = earliest t.far line; many = t.many }
 
 -- a message of a rank, at the row where the rank stands
 abbrev pub entered_at : List ℕ → ℕ → Message → Table → Table
-entered_at input rank m t = enteredAs (heldFirst rank (drop (positionIn rank t.rows) t.rows)) input (positionIn rank t.rows) rank m t
+entered_at input rank m t = entered_as (held_first rank (drop (position_in rank t.rows) t.rows)) input (position_in rank t.rows) rank m t
 
 -- [6], "22 for a number far from the start number"; [5], "so that no caller orders such numbers": a far message is told and is not entered
-abbrev pub enteredBy : Apart → List ℕ → Table → Message → Table
-enteredBy Far input t m = withFar m.line t
-enteredBy (By d) input t m = entered_at input (rankBy d) m t
+abbrev pub entered_by : Apart → List ℕ → Table → Message → Table
+entered_by Far input t m = with_far m.line t
+entered_by (By d) input t m = entered_at input (rank_by d) m t
 
 unfoldable pub entered : List ℕ → ℕ → Table → Message → Table
-unfolding repeated added earliest heldFirst positionIn distance_of
-entered input start t m = enteredBy (distance_of m.number.0 start) input t m
+unfolding repeated added earliest held_first position_in distance_of
+entered input start t m = entered_by (distance_of m.number.0 start) input t m
 
 unfoldable pub tabled : List ℕ → ℕ → Table → List Message → Table
 unfolding entered
@@ -70,16 +70,16 @@ tabled input start t (m ∷ rest) = tabled input start (entered input start t m)
 -- ---- laws of one message
 
 module _ (input : List ℕ) (first at i : ℕ) (rows : List Row) where
-  pub repeated-equal : isEqual (contentOf (run_at input first) (run_at input at)) ≡ true → rows ≡ repeated input first at i rows
+  pub repeated-equal : is_equal (content_of (run_at input first) (run_at input at)) ≡ true → rows ≡ repeated input first at i rows
   unfolding repeated
   repeated-equal t = simp t
 
-  pub repeated-other : isEqual (contentOf (run_at input first) (run_at input at)) ≡ false → markedAt i rows ≡ repeated input first at i rows
+  pub repeated-other : is_equal (content_of (run_at input first) (run_at input at)) ≡ false → marked_at i rows ≡ repeated input first at i rows
   unfolding repeated
   repeated-other f = simp f
 
 module _ (i rank : ℕ) (m : Message) (t : Table) where
-  pub added-room : length t.rows < 1024 → added i rank m t ≡ record { rows = insertAt i (row rank m.at 0) t.rows; far = t.far; many = t.many }
+  pub added-room : length t.rows < 1024 → added i rank m t ≡ record { rows = insert_at i (row rank m.at 0) t.rows; far = t.far; many = t.many }
   unfolding added
   added-room h = simp (lt-ltb (length t.rows) 1024 h)
 
@@ -88,7 +88,7 @@ module _ (i rank : ℕ) (m : Message) (t : Table) where
   added_full h = simp (le-ltb (length t.rows) 1024 h)
 
 -- a message by the row that was found for its rank, and by what is held there
-pub entered-held : (input : List ℕ) (rank i : ℕ) (m : Message) (t : Table) (held : Held) → i ≡ positionIn rank t.rows → held ≡ heldFirst rank (drop i t.rows)
-    → enteredAs held input i rank m t ≡ entered_at input rank m t
+pub entered-held : (input : List ℕ) (rank i : ℕ) (m : Message) (t : Table) (held : Held) → i ≡ position_in rank t.rows → held ≡ held_first rank (drop i t.rows)
+    → entered_as held input i rank m t ≡ entered_at input rank m t
 entered-held input rank i m t held placed e =
-    ap (λ h. enteredAs h input i rank m t) e ∙ ap (λ j. enteredAs (heldFirst rank (drop j t.rows)) input j rank m t) placed
+    ap (λ h. entered_as h input i rank m t) e ∙ ap (λ j. entered_as (held_first rank (drop j t.rows)) input j rank m t) placed

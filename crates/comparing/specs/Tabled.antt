@@ -15,89 +15,89 @@ use Rattle.comparing.specs.declared.messages.Message.{Message}
 use Rattle.comparing.specs.declared.table.Held.{Held}
 use Rattle.comparing.specs.declared.table.Held.TheVariants.{Not, At}
 use Rattle.comparing.specs.Messages.{body_of, start_of}
-use Rattle.comparing.specs.Runs.{contentFrom, contentOf, isEqual, run_at, content-same}
-use Rattle.comparing.specs.Ranks.{rankBy, number_of, farAs, farAt, rank-by-lt, number_lt, rank_of, rank-of-number, number-of-rank, rank-by}
-use Rattle.comparing.specs.Rows.{Row, row, Rising, positionIn, insertAt, heldFirst, heldIn, held-position, insert-length, insert-rising, insert-same, insert-other, marked-length, marked-rising, marked-same, marked_other}
-use Rattle.comparing.specs.Table.{earliest, Table, noNumbers, repeated, withFar, entered_at, entered, tabled, added-room, added_full}
-use Rattle.comparing.specs.Differences.{Standing, Absent, Run, standing, otherThan, conflictedAs, conflicted, differencesOn}
-use Rattle.comparing.specs.Judging.{farLine, isAmong, with_number, numbersWith, manyLine}
-use Rattle.comparing.specs.Says.{Sane, standingHeld, flagHeld, heldDifferences, Says}
+use Rattle.comparing.specs.Runs.{content_from, content_of, is_equal, run_at, content-same}
+use Rattle.comparing.specs.Ranks.{rank_by, number_of, far_as, far_at, rank-by-lt, number_lt, rank_of, rank-of-number, number-of-rank, rank-by}
+use Rattle.comparing.specs.Rows.{Row, row, Rising, position_in, insert_at, held_first, held_in, held-position, insert-length, insert-rising, insert-same, insert-other, marked-length, marked-rising, marked-same, marked_other}
+use Rattle.comparing.specs.Table.{earliest, Table, no_numbers, repeated, with_far, entered_at, entered, tabled, added-room, added_full}
+use Rattle.comparing.specs.Differences.{Standing, Absent, Run, standing, other_than, conflicted_as, conflicted, differences_on}
+use Rattle.comparing.specs.Judging.{far_line, is_among, with_number, numbers_with, many_line}
+use Rattle.comparing.specs.Says.{Sane, standing_held, flag_held, held_differences, Says}
 use Rattle.comparing.specs.Sanity.{body-sane, start_small}
 
 -- ---- what a message makes of a table: it is far, or its number is held already, or it is new, or it is new to a full table
 
 -- a far message has no rank: the 0 that stands for it is asked for nowhere
-abbrev rankAs : Apart → ℕ
-rankAs (By d) = rankBy d
-rankAs Far = 0
+abbrev rank_as : Apart → ℕ
+rank_as (By d) = rank_by d
+rank_as Far = 0
 
-abbrev rankFor : ℕ → Message → ℕ
-rankFor start m = rankAs (distance_of m.number.0 start)
+abbrev rank_for : ℕ → Message → ℕ
+rank_for start m = rank_as (distance_of m.number.0 start)
 
 -- the row where its number stands, and what is held there
-abbrev rowFor : ℕ → Table → Message → ℕ
-rowFor start t m = positionIn (rankFor start m) t.rows
+abbrev row_for : ℕ → Table → Message → ℕ
+row_for start t m = position_in (rank_for start m) t.rows
 
-abbrev heldFor : ℕ → Table → Message → Held
-heldFor start t m = heldFirst (rankFor start m) (drop (rowFor start t m) t.rows)
+abbrev held_for : ℕ → Table → Message → Held
+held_for start t m = held_first (rank_for start m) (drop (row_for start t m) t.rows)
 
-abbrev enteredWith : ℕ → Table → Message → List Row → ℕ → Table
-enteredWith start t m rows many = record { rows = rows; far = earliest t.far (farAt start m); many = many }
+abbrev entered_with : ℕ → Table → Message → List Row → ℕ → Table
+entered_with start t m rows many = record { rows = rows; far = earliest t.far (far_at start m); many = many }
 
 data Enters (input : List ℕ) (start : ℕ) (t : Table) (m : Message) : Type 0 where
-  again : (place flag : ℕ) → heldFor start t m ≡ At place flag
-      → entered input start t m ≡ enteredWith start t m (repeated input place m.at (rowFor start t m) t.rows) t.many → Enters input start t m
-  new : heldFor start t m ≡ Not → length t.rows < 1024
-      → entered input start t m ≡ enteredWith start t m (insertAt (rowFor start t m) (row (rankFor start m) m.at 0) t.rows) t.many → Enters input start t m
-  full : heldFor start t m ≡ Not → 1024 ≤ length t.rows
-      → entered input start t m ≡ enteredWith start t m t.rows (earliest t.many m.line) → Enters input start t m
-  far : farAt start m ≡ m.line → entered input start t m ≡ enteredWith start t m t.rows t.many → Enters input start t m
+  again : (place flag : ℕ) → held_for start t m ≡ At place flag
+      → entered input start t m ≡ entered_with start t m (repeated input place m.at (row_for start t m) t.rows) t.many → Enters input start t m
+  new : held_for start t m ≡ Not → length t.rows < 1024
+      → entered input start t m ≡ entered_with start t m (insert_at (row_for start t m) (row (rank_for start m) m.at 0) t.rows) t.many → Enters input start t m
+  full : held_for start t m ≡ Not → 1024 ≤ length t.rows
+      → entered input start t m ≡ entered_with start t m t.rows (earliest t.many m.line) → Enters input start t m
+  far : far_at start m ≡ m.line → entered input start t m ≡ entered_with start t m t.rows t.many → Enters input start t m
 
 earliest-none : (a : ℕ) → earliest a 0 ≡ a
 unfolding earliest
 earliest-none a = cases (eqb a 0) (λ t. simp t (sym (eqb-true a 0 t))) (λ f. simp f)
 
 module _ (start : ℕ) (m : Message) where
-  small-as : (a : Apart) → distance_of m.number.0 start ≡ a → rankAs a < 2 ^ 32
+  small-as : (a : Apart) → distance_of m.number.0 start ≡ a → rank_as a < 2 ^ 32
   small-as (By d) e = rank-by-lt d (omega (arith, by-small m.number.0 start d e))
   small-as Far e = omega arith
 
-  rank-small : rankFor start m < 2 ^ 32
+  rank-small : rank_for start m < 2 ^ 32
   rank-small = small-as (distance_of m.number.0 start) refl
 
   -- a message that is not far has its number's rank
-  near-as : (a : Apart) → distance_of m.number.0 start ≡ a → start < 2 ^ 32 → 0 < m.line → farAs a m.line ≡ 0 → rankAs a ≡ rank_of start m.number.0
+  near-as : (a : Apart) → distance_of m.number.0 start ≡ a → start < 2 ^ 32 → 0 < m.line → far_as a m.line ≡ 0 → rank_as a ≡ rank_of start m.number.0
   near-as (By d) e low counted near = rank-by start m.number.0 d low e
   near-as Far e low counted near = absurd (omega arith)
 
-  rank-near : start < 2 ^ 32 → 0 < m.line → farAt start m ≡ 0 → rankFor start m ≡ rank_of start m.number.0
-  unfolding farAt
+  rank-near : start < 2 ^ 32 → 0 < m.line → far_at start m ≡ 0 → rank_for start m ≡ rank_of start m.number.0
+  unfolding far_at
   rank-near low counted near = near-as (distance_of m.number.0 start) refl low counted near
 
 module _ (input : List ℕ) (start : ℕ) (t : Table) (m : Message) where
-  enters-as : (held : Held) → heldFor start t m ≡ held → entered input start t m ≡ entered_at input (rankFor start m) m (withFar (farAt start m) t) → Enters input start t m
+  enters-as : (held : Held) → held_for start t m ≡ held → entered input start t m ≡ entered_at input (rank_for start m) m (with_far (far_at start m) t) → Enters input start t m
   enters-as Not e is =
       cases (ltb (length t.rows) 1024)
       (λ b.
       let room = ltb-true (length t.rows) 1024 b in
-      new e room (is ∙ rw e (added-room (rowFor start t m) (rankFor start m) m (withFar (farAt start m) t) room)))
+      new e room (is ∙ rw e (added-room (row_for start t m) (rank_for start m) m (with_far (far_at start m) t) room)))
       (λ b.
       let past = ltb-false (length t.rows) 1024 b in
-      full e past (is ∙ rw e (added_full (rowFor start t m) (rankFor start m) m (withFar (farAt start m) t) past)))
+      full e past (is ∙ rw e (added_full (row_for start t m) (rank_for start m) m (with_far (far_at start m) t) past)))
   enters-as (At place flag) e is = again place flag e (is ∙ rw e)
 
   enters-by : (a : Apart) → distance_of m.number.0 start ≡ a → Enters input start t m
-  unfolding entered farAt
+  unfolding entered far_at
   enters-by (By d) e =
-      enters-as (heldFor start t m) refl (rw e (ap (λ line. entered_at input (rankBy d) m (record { rows = t.rows; far = line; many = t.many })) (sym (earliest-none t.far))))
+      enters-as (held_for start t m) refl (rw e (ap (λ line. entered_at input (rank_by d) m (record { rows = t.rows; far = line; many = t.many })) (sym (earliest-none t.far))))
   enters-by Far e = far (rw e) (rw e)
 
   enters : Enters input start t m
   enters = enters-by (distance_of m.number.0 start) refl
 
   -- in rising rows a number is held nowhere else
-  held-there : Rising 0 t.rows → heldIn (rankFor start m) t.rows ≡ heldFor start t m
-  held-there h = held-position (rankFor start m) 0 t.rows h
+  held-there : Rising 0 t.rows → held_in (rank_for start m) t.rows ≡ held_for start t m
+  held-there h = held-position (rank_for start m) 0 t.rows h
 
 -- ---- the rows rise, at most 1,024
 
@@ -108,19 +108,19 @@ rising_none = omega arith
 module _ (input : List ℕ) (first at i : ℕ) (rows : List Row) where
   repeated-length : length (repeated input first at i rows) ≡ length rows
   unfolding repeated
-  repeated-length = cases (isEqual (contentOf (run_at input first) (run_at input at))) (λ t. simp t) (λ f. simp f (marked-length i rows))
+  repeated-length = cases (is_equal (content_of (run_at input first) (run_at input at))) (λ t. simp t) (λ f. simp f (marked-length i rows))
 
   repeated-rising : Rising 0 rows → Rising 0 (repeated input first at i rows)
   unfolding repeated
-  repeated-rising h = cases (isEqual (contentOf (run_at input first) (run_at input at))) (λ t. simp t h) (λ f. simp f (marked-rising 0 i rows h))
+  repeated-rising h = cases (is_equal (content_of (run_at input first) (run_at input at))) (λ t. simp t h) (λ f. simp f (marked-rising 0 i rows h))
 
 module _ (input : List ℕ) (start : ℕ) (t : Table) (m : Message) where
   pub entered-rising : Rising 0 t.rows → Rising 0 (entered input start t m).rows
   entered-rising h =
       elim (enters input start t m) [
-        | again place flag e is ↦ rw is (repeated-rising input place m.at (rowFor start t m) t.rows h)
+        | again place flag e is ↦ rw is (repeated-rising input place m.at (row_for start t m) t.rows h)
         | new e room is ↦
-            rw is (insert-rising (row (rankFor start m) m.at 0) 0 t.rows h (omega arith) (rank-small start m) (held-there input start t m h ∙ e))
+            rw is (insert-rising (row (rank_for start m) m.at 0) 0 t.rows h (omega arith) (rank-small start m) (held-there input start t m h ∙ e))
         | full e past is ↦ rw is h
         | far line is ↦ rw is h
       ]
@@ -128,8 +128,8 @@ module _ (input : List ℕ) (start : ℕ) (t : Table) (m : Message) where
   pub entered-length : length t.rows ≤ 1024 → length (entered input start t m).rows ≤ 1024
   entered-length h =
       elim (enters input start t m) [
-        | again place flag e is ↦ rw is (omega (arith, repeated-length input place m.at (rowFor start t m) t.rows))
-        | new e room is ↦ rw is (omega (arith, insert-length (row (rankFor start m) m.at 0) (rowFor start t m) t.rows))
+        | again place flag e is ↦ rw is (omega (arith, repeated-length input place m.at (row_for start t m) t.rows))
+        | new e room is ↦ rw is (omega (arith, insert-length (row (rank_for start m) m.at 0) (row_for start t m) t.rows))
         | full e past is ↦ rw is h
         | far line is ↦ rw is h
       ]
@@ -139,8 +139,8 @@ unfolding tabled
 rising-after input start t [] h = h
 rising-after input start t (m ∷ rest) h = rising-after input start (entered input start t m) rest (entered-rising input start t m h)
 
-pub tabled-rising : (input : List ℕ) (start : ℕ) (ms : List Message) → Rising 0 (tabled input start noNumbers ms).rows
-tabled-rising input start ms = rising-after input start noNumbers ms rising_none
+pub tabled-rising : (input : List ℕ) (start : ℕ) (ms : List Message) → Rising 0 (tabled input start no_numbers ms).rows
+tabled-rising input start ms = rising-after input start no_numbers ms rising_none
 
 -- ---- the line of the first far message
 
@@ -148,25 +148,25 @@ earliest-assoc : (a b c : ℕ) → earliest (earliest a b) c ≡ earliest a (ear
 unfolding earliest
 earliest-assoc a b c = cases (eqb a 0) (λ t. simp t) (λ f. simp f)
 
-entered-far : (input : List ℕ) (start : ℕ) (t : Table) (m : Message) → (entered input start t m).far ≡ earliest t.far (farAt start m)
+entered-far : (input : List ℕ) (start : ℕ) (t : Table) (m : Message) → (entered input start t m).far ≡ earliest t.far (far_at start m)
 entered-far input start t m =
     elim (enters input start t m) [ again place flag e is ↦ rw is | new e room is ↦ rw is | full e past is ↦ rw is | far line is ↦ rw is ]
 
-pub tabled-far : (input : List ℕ) (start : ℕ) (t : Table) (ms : List Message) → (tabled input start t ms).far ≡ earliest t.far (farLine start ms)
-unfolding tabled farLine earliest
+pub tabled-far : (input : List ℕ) (start : ℕ) (t : Table) (ms : List Message) → (tabled input start t ms).far ≡ earliest t.far (far_line start ms)
+unfolding tabled far_line earliest
 tabled-far input start t [] = sym (earliest-none t.far)
 tabled-far input start t (m ∷ rest) =
     tabled-far input start (entered input start t m) rest
-    ∙ ap (λ line. earliest line (farLine start rest)) (entered-far input start t m)
-    ∙ earliest-assoc t.far (farAt start m) (farLine start rest)
+    ∙ ap (λ line. earliest line (far_line start rest)) (entered-far input start t m)
+    ∙ earliest-assoc t.far (far_at start m) (far_line start rest)
 
 -- where no message is far, the first isn't, nor is any later
-near-all : (start : ℕ) (m : Message) (rest : List Message) → farLine start (m ∷ rest) ≡ 0 → (farAt start m ≡ 0) × (farLine start rest ≡ 0)
-unfolding farLine
+near-all : (start : ℕ) (m : Message) (rest : List Message) → far_line start (m ∷ rest) ≡ 0 → (far_at start m ≡ 0) × (far_line start rest ≡ 0)
+unfolding far_line
 near-all start m rest none =
-    cases (eqb (farAt start m) 0)
-    (λ t. (eqb-true (farAt start m) 0 t, simp t at none))
-    (λ f. absurd (eqb-false (farAt start m) 0 f (simp f at none)))
+    cases (eqb (far_at start m) 0)
+    (λ t. (eqb-true (far_at start m) 0 t, simp t at none))
+    (λ f. absurd (eqb-false (far_at start m) 0 f (simp f at none)))
 
 -- ---- the line of the first number past 1,024 stays once it is told
 
@@ -201,31 +201,31 @@ many-none input start t ms none =
 
 -- ---- what a table has of a number after a message of it, and after any
 
-abbrev heldThen : List ℕ → Held → ℕ → Held
-heldThen input Not at = At at 0
-heldThen input (At place flag) at = At place (cond (isEqual (contentOf (run_at input place) (run_at input at))) flag 1)
+abbrev held_then : List ℕ → Held → ℕ → Held
+held_then input Not at = At at 0
+held_then input (At place flag) at = At place (cond (is_equal (content_of (run_at input place) (run_at input at))) flag 1)
 
-abbrev heldAfter : List ℕ → ℕ → Held → Message → Held
-heldAfter input n held m = cond (eqb m.number.0 n) (heldThen input held m.at) held
+abbrev held_after : List ℕ → ℕ → Held → Message → Held
+held_after input n held m = cond (eqb m.number.0 n) (held_then input held m.at) held
 
-module _ (input : List ℕ) (rank place flag at : ℕ) (rows : List Row) (e : heldFirst rank (drop (positionIn rank rows) rows) ≡ At place flag) where
-  repeated-same : heldIn rank rows ≡ At place flag → heldIn rank (repeated input place at (positionIn rank rows) rows) ≡ heldThen input (At place flag) at
+module _ (input : List ℕ) (rank place flag at : ℕ) (rows : List Row) (e : held_first rank (drop (position_in rank rows) rows) ≡ At place flag) where
+  repeated-same : held_in rank rows ≡ At place flag → held_in rank (repeated input place at (position_in rank rows) rows) ≡ held_then input (At place flag) at
   unfolding repeated
   repeated-same held =
-      cases (isEqual (contentOf (run_at input place) (run_at input at)))
+      cases (is_equal (content_of (run_at input place) (run_at input at)))
       (λ t. simp t held)
       (λ f. simp f (marked-same rank place flag rows e))
 
-  repeated-elsewhere : (q : ℕ) → (rank ≡ q → ⊥) → heldIn q (repeated input place at (positionIn rank rows) rows) ≡ heldIn q rows
+  repeated-elsewhere : (q : ℕ) → (rank ≡ q → ⊥) → held_in q (repeated input place at (position_in rank rows) rows) ≡ held_in q rows
   unfolding repeated
   repeated-elsewhere q ne =
-      cases (isEqual (contentOf (run_at input place) (run_at input at)))
+      cases (is_equal (content_of (run_at input place) (run_at input at)))
       (λ t. simp t)
       (λ f. simp f (marked_other rank place flag q rows ne e))
 
 -- where it was not far and not past 1,024
-module _ (input : List ℕ) (start : ℕ) (t : Table) (m : Message) (h : Rising 0 t.rows) (counted : 0 < m.line) (near : farAt start m ≡ 0) (none : (entered input start t m).many ≡ 0) where
-  not_full : {X : Type 0} → entered input start t m ≡ enteredWith start t m t.rows (earliest t.many m.line) → X
+module _ (input : List ℕ) (start : ℕ) (t : Table) (m : Message) (h : Rising 0 t.rows) (counted : 0 < m.line) (near : far_at start m ≡ 0) (none : (entered input start t m).many ≡ 0) where
+  not_full : {X : Type 0} → entered input start t m ≡ entered_with start t m t.rows (earliest t.many m.line) → X
   not_full {X} is =
       let z : earliest t.many m.line ≡ 0 = sym (ap (λ u. u.many) is) ∙ none in
       absurd
@@ -233,39 +233,39 @@ module _ (input : List ℕ) (start : ℕ) (t : Table) (m : Message) (h : Rising 
       (λ b. omega (arith, earliest-next t.many m.line (eqb-true t.many 0 b)))
       (λ b. let told = eqb-false t.many 0 b in told (sym (earliest-told t.many m.line told) ∙ z)))
 
-  held_same : heldIn (rankFor start m) (entered input start t m).rows ≡ heldThen input (heldIn (rankFor start m) t.rows) m.at
+  held_same : held_in (rank_for start m) (entered input start t m).rows ≡ held_then input (held_in (rank_for start m) t.rows) m.at
   held_same =
       elim (enters input start t m) [
         | again place flag e is ↦
             let held = held-there input start t m h ∙ e in
-            rw (is, held) (repeated-same input (rankFor start m) place flag m.at t.rows e held)
+            rw (is, held) (repeated-same input (rank_for start m) place flag m.at t.rows e held)
         | new e room is ↦
             let held = held-there input start t m h ∙ e in
-            rw (is, held) (insert-same (row (rankFor start m) m.at 0) (rowFor start t m) t.rows held)
+            rw (is, held) (insert-same (row (rank_for start m) m.at 0) (row_for start t m) t.rows held)
         | full e past is ↦ not_full is
         | far line is ↦ absurd (omega arith)
       ]
 
-  held-elsewhere : (q : ℕ) → (rankFor start m ≡ q → ⊥) → heldIn q (entered input start t m).rows ≡ heldIn q t.rows
+  held-elsewhere : (q : ℕ) → (rank_for start m ≡ q → ⊥) → held_in q (entered input start t m).rows ≡ held_in q t.rows
   held-elsewhere q ne =
       elim (enters input start t m) [
-        | again place flag e is ↦ rw is (repeated-elsewhere input (rankFor start m) place flag m.at t.rows e q ne)
-        | new e room is ↦ rw is (insert-other (row (rankFor start m) m.at 0) q (rowFor start t m) t.rows ne)
+        | again place flag e is ↦ rw is (repeated-elsewhere input (rank_for start m) place flag m.at t.rows e q ne)
+        | new e room is ↦ rw is (insert-other (row (rank_for start m) m.at 0) q (row_for start t m) t.rows ne)
         | full e past is ↦ not_full is
         | far line is ↦ absurd (omega arith)
       ]
 
-  held_after : start < 2 ^ 32 → m.number.0 < 2 ^ 32 → (n : ℕ) → n < 2 ^ 32
-      → heldIn (rank_of start n) (entered input start t m).rows ≡ heldAfter input n (heldIn (rank_of start n) t.rows) m
-  held_after low small n within =
+  held-after : start < 2 ^ 32 → m.number.0 < 2 ^ 32 → (n : ℕ) → n < 2 ^ 32
+      → held_in (rank_of start n) (entered input start t m).rows ≡ held_after input n (held_in (rank_of start n) t.rows) m
+  held-after low small n within =
       let rank = rank-near start m low counted near in
       cases (eqb m.number.0 n)
       (λ b.
       let same = rank ∙ ap (rank_of start) (eqb-true m.number.0 n b) in
       simp b
-      (ap (λ q. heldIn q (entered input start t m).rows) (sym same)
+      (ap (λ q. held_in q (entered input start t m).rows) (sym same)
       ∙ held_same
-      ∙ ap (λ q. heldThen input (heldIn q t.rows) m.at) same))
+      ∙ ap (λ q. held_then input (held_in q t.rows) m.at) same))
       (λ b.
       simp b
       (held-elsewhere (rank_of start n)
@@ -279,37 +279,37 @@ abbrev is_held : Held → Bool
 is_held Not = false
 is_held (At place flag) = true
 
-then-held : (input : List ℕ) (held : Held) (at : ℕ) → is_held (heldThen input held at) ≡ true
+then-held : (input : List ℕ) (held : Held) (at : ℕ) → is_held (held_then input held at) ≡ true
 then-held input Not at = refl
 then-held input (At place flag) at = refl
 
-after-held : (input : List ℕ) (n : ℕ) (held : Held) (m : Message) → is_held (heldAfter input n held m) ≡ (eqb m.number.0 n || is_held held)
+after-held : (input : List ℕ) (n : ℕ) (held : Held) (m : Message) → is_held (held_after input n held m) ≡ (eqb m.number.0 n || is_held held)
 after-held input n held m = cases (eqb m.number.0 n) (λ t. simp t (then-held input held m.at)) (λ f. simp f)
 
-after-among : (k n : ℕ) (seen : List ℕ) → isAmong n (with_number k seen) ≡ (eqb k n || isAmong n seen)
-unfolding isAmong with_number
+after-among : (k n : ℕ) (seen : List ℕ) → is_among n (with_number k seen) ≡ (eqb k n || is_among n seen)
+unfolding is_among with_number
 after-among k n seen =
-    cases (isAmong k seen)
+    cases (is_among k seen)
     (λ t.
     cases (eqb k n)
-    (λ s. simp (t, s) (ap (λ j. isAmong j seen) (sym (eqb-true k n s)) ∙ t))
+    (λ s. simp (t, s) (ap (λ j. is_among j seen) (sym (eqb-true k n s)) ∙ t))
     (λ s. simp (t, s)))
     (λ f. simp f)
 
 -- the rows are of the numbers of a list
 record Kept (start : ℕ) (seen : List ℕ) (rows : List Row) : Type 0 where
   count : length seen ≡ length rows
-  among : (n : ℕ) → n < 2 ^ 32 → isAmong n seen ≡ is_held (heldIn (rank_of start n) rows)
+  among : (n : ℕ) → n < 2 ^ 32 → is_among n seen ≡ is_held (held_in (rank_of start n) rows)
 
 kept-none : (start : ℕ) → Kept start [] []
-unfolding isAmong heldIn
+unfolding is_among held_in
 kept-none start = record { count = refl; among = λ n within. refl }
 
 module _ (input : List ℕ) (start : ℕ) (low : start < 2 ^ 32) where
-  module _ (seen : List ℕ) (t : Table) (m : Message) (kept : Kept start seen t.rows) (h : Rising 0 t.rows) (sane : (m.number.0 < 2 ^ 32) × (0 < m.line)) (near : farAt start m ≡ 0) where
-    among-as : (held : Held) → heldFor start t m ≡ held → isAmong m.number.0 seen ≡ is_held held
+  module _ (seen : List ℕ) (t : Table) (m : Message) (kept : Kept start seen t.rows) (h : Rising 0 t.rows) (sane : (m.number.0 < 2 ^ 32) × (0 < m.line)) (near : far_at start m ≡ 0) where
+    among-as : (held : Held) → held_for start t m ≡ held → is_among m.number.0 seen ≡ is_held held
     among-as held e =
-        kept.among m.number.0 sane.0 ∙ ap is_held (ap (λ q. heldIn q t.rows) (sym (rank-near start m low sane.1 near)) ∙ held-there input start t m h ∙ e)
+        kept.among m.number.0 sane.0 ∙ ap is_held (ap (λ q. held_in q t.rows) (sym (rank-near start m low sane.1 near)) ∙ held-there input start t m h ∙ e)
 
     kept-after : (entered input start t m).many ≡ 0 → Kept start (with_number m.number.0 seen) (entered input start t m).rows
     unfolding with_number
@@ -317,17 +317,17 @@ module _ (input : List ℕ) (start : ℕ) (low : start < 2 ^ 32) where
       count =
           elim (enters input start t m) [
             | again place flag e is ↦
-                rw is (simp (among-as (At place flag) e) (kept.count ∙ sym (repeated-length input place m.at (rowFor start t m) t.rows)))
+                rw is (simp (among-as (At place flag) e) (kept.count ∙ sym (repeated-length input place m.at (row_for start t m) t.rows)))
             | new e room is ↦
-                rw is (simp (among-as Not e) (ap suc kept.count ∙ sym (insert-length (row (rankFor start m) m.at 0) (rowFor start t m) t.rows)))
+                rw is (simp (among-as Not e) (ap suc kept.count ∙ sym (insert-length (row (rank_for start m) m.at 0) (row_for start t m) t.rows)))
             | full e past is ↦ not_full input start t m h sane.1 near none is
             | far line is ↦ absurd (omega arith)
           ];
       among = λ n within.
           after-among m.number.0 n seen
           ∙ ap (λ b. eqb m.number.0 n || b) (kept.among n within)
-          ∙ sym (after-held input n (heldIn (rank_of start n) t.rows) m)
-          ∙ ap is_held (sym (held_after input start t m h sane.1 near none low sane.0 n within));
+          ∙ sym (after-held input n (held_in (rank_of start n) t.rows) m)
+          ∙ ap is_held (sym (held-after input start t m h sane.1 near none low sane.0 n within));
     }
 
     -- a line is told first where a full table meets a new number
@@ -341,9 +341,9 @@ module _ (input : List ℕ) (start : ℕ) (low : start < 2 ^ 32) where
           | far line is ↦ absurd (omega arith)
         ]
 
-  many-after : (seen : List ℕ) (t : Table) (ms : List Message) → Kept start seen t.rows → Rising 0 t.rows → length t.rows ≤ 1024 → t.many ≡ 0 → Sane ms → farLine start ms ≡ 0
-      → (tabled input start t ms).many ≡ manyLine seen ms
-  unfolding tabled manyLine Sane
+  many-after : (seen : List ℕ) (t : Table) (ms : List Message) → Kept start seen t.rows → Rising 0 t.rows → length t.rows ≤ 1024 → t.many ≡ 0 → Sane ms → far_line start ms ≡ 0
+      → (tabled input start t ms).many ≡ many_line seen ms
+  unfolding tabled many_line Sane
   many-after seen t [] kept h short none sane no-far = none
   many-after seen t (m ∷ rest) kept h short none sane no-far =
       let near = near-all start m rest no-far in
@@ -359,9 +359,9 @@ module _ (input : List ℕ) (start : ℕ) (low : start < 2 ^ 32) where
       let first = told-full seen t m kept h sane.0 near.0 none told in
       simp (lt-ltb 1024 (length (with_number m.number.0 seen)) first.1) (many-stays input start (entered input start t m) rest told ∙ first.0))
 
-  count-after : (seen : List ℕ) (t : Table) (ms : List Message) → Kept start seen t.rows → Rising 0 t.rows → Sane ms → farLine start ms ≡ 0 → (tabled input start t ms).many ≡ 0
-      → length (tabled input start t ms).rows ≡ length (numbersWith seen ms)
-  unfolding tabled numbersWith Sane
+  count-after : (seen : List ℕ) (t : Table) (ms : List Message) → Kept start seen t.rows → Rising 0 t.rows → Sane ms → far_line start ms ≡ 0 → (tabled input start t ms).many ≡ 0
+      → length (tabled input start t ms).rows ≡ length (numbers_with seen ms)
+  unfolding tabled numbers_with Sane
   count-after seen t [] kept h sane no-far none = sym kept.count
   count-after seen t (m ∷ rest) kept h sane no-far none =
       let near = near-all start m rest no-far in
@@ -369,44 +369,44 @@ module _ (input : List ℕ) (start : ℕ) (low : start < 2 ^ 32) where
       (kept-after seen t m kept h sane.0 near.0 (many-none input start (entered input start t m) rest none))
       (entered-rising input start t m h) sane.1 near.1 none
 
-  pub tabled-many : (ms : List Message) → Sane ms → farLine start ms ≡ 0 → (tabled input start noNumbers ms).many ≡ manyLine [] ms
-  tabled-many ms sane no-far = many-after [] noNumbers ms (kept-none start) rising_none (omega arith) refl sane no-far
+  pub tabled-many : (ms : List Message) → Sane ms → far_line start ms ≡ 0 → (tabled input start no_numbers ms).many ≡ many_line [] ms
+  tabled-many ms sane no-far = many-after [] no_numbers ms (kept-none start) rising_none (omega arith) refl sane no-far
 
-  pub tabled-count : (ms : List Message) → Sane ms → farLine start ms ≡ 0 → (tabled input start noNumbers ms).many ≡ 0
-      → length (tabled input start noNumbers ms).rows ≡ length (numbersWith [] ms)
-  tabled-count ms sane no-far none = count-after [] noNumbers ms (kept-none start) rising_none sane no-far none
+  pub tabled-count : (ms : List Message) → Sane ms → far_line start ms ≡ 0 → (tabled input start no_numbers ms).many ≡ 0
+      → length (tabled input start no_numbers ms).rows ≡ length (numbers_with [] ms)
+  tabled-count ms sane no-far none = count-after [] no_numbers ms (kept-none start) rising_none sane no-far none
 
 -- ---- what a table has of a number after all messages
 
-unfoldable heldAll : List ℕ → ℕ → Held → List Message → Held
-unfolding run_at contentFrom
-heldAll input n held [] = held
-heldAll input n held (m ∷ rest) = heldAll input n (heldAfter input n held m) rest
+unfoldable held_all : List ℕ → ℕ → Held → List Message → Held
+unfolding run_at content_from
+held_all input n held [] = held
+held_all input n held (m ∷ rest) = held_all input n (held_after input n held m) rest
 
 module _ (input : List ℕ) (n : ℕ) where
   -- the first stands
-  held-stands : (place flag : ℕ) (ms : List Message) → standingHeld input (heldAll input n (At place flag) ms) ≡ Run (run_at input place)
-  unfolding heldAll
+  held-stands : (place flag : ℕ) (ms : List Message) → standing_held input (held_all input n (At place flag) ms) ≡ Run (run_at input place)
+  unfolding held_all
   held-stands place flag [] = refl
   held-stands place flag (m ∷ rest) =
       cases (eqb m.number.0 n)
-      (λ t. simp t (held-stands place (cond (isEqual (contentOf (run_at input place) (run_at input m.at))) flag 1) rest))
+      (λ t. simp t (held-stands place (cond (is_equal (content_of (run_at input place) (run_at input m.at))) flag 1) rest))
       (λ f. simp f (held-stands place flag rest))
 
   -- its flag is set from the first repeat with other content on
-  held-flag : (place flag : ℕ) (ms : List Message) → flagHeld (heldAll input n (At place flag) ms) ≡ (not (eqb flag 0) || otherThan (run_at input place) input ms n)
-  unfolding heldAll otherThan
+  held-flag : (place flag : ℕ) (ms : List Message) → flag_held (held_all input n (At place flag) ms) ≡ (not (eqb flag 0) || other_than (run_at input place) input ms n)
+  unfolding held_all other_than
   held-flag place flag [] = cases (eqb flag 0) (λ t. simp t) (λ f. simp f)
   held-flag place flag (m ∷ rest) =
       cases (eqb m.number.0 n)
       (λ t.
-      cases (isEqual (contentOf (run_at input place) (run_at input m.at)))
+      cases (is_equal (content_of (run_at input place) (run_at input m.at)))
       (λ s. simp (t, s) (held-flag place flag rest))
       (λ s. simp (t, s) (held-flag place 1 rest ∙ cases (eqb flag 0) (λ z. simp z) (λ z. simp z))))
       (λ f. simp f (held-flag place flag rest))
 
-  all-stands : (ms : List Message) → standing input ms n ≡ standingHeld input (heldAll input n Not ms)
-  unfolding heldAll standing
+  all-stands : (ms : List Message) → standing input ms n ≡ standing_held input (held_all input n Not ms)
+  unfolding held_all standing
   all-stands [] = refl
   all-stands (m ∷ rest) =
       cases (eqb m.number.0 n)
@@ -414,13 +414,13 @@ module _ (input : List ℕ) (n : ℕ) where
       (λ f. simp f (all-stands rest))
 
   -- a message of another number is no conflict
-  other-passed : (s : Standing) (m : Message) (rest : List Message) → eqb m.number.0 n ≡ false → conflictedAs s input (m ∷ rest) n ≡ conflictedAs s input rest n
-  unfolding otherThan
+  other-passed : (s : Standing) (m : Message) (rest : List Message) → eqb m.number.0 n ≡ false → conflicted_as s input (m ∷ rest) n ≡ conflicted_as s input rest n
+  unfolding other_than
   other-passed Absent m rest f = refl
   other-passed (Run run) m rest f = simp f
 
-  all-flag : (ms : List Message) → conflicted input ms n ≡ flagHeld (heldAll input n Not ms)
-  unfolding heldAll standing conflicted otherThan
+  all-flag : (ms : List Message) → conflicted input ms n ≡ flag_held (held_all input n Not ms)
+  unfolding held_all standing conflicted other_than
   all-flag [] = refl
   all-flag (m ∷ rest) =
       cases (eqb m.number.0 n)
@@ -428,47 +428,47 @@ module _ (input : List ℕ) (n : ℕ) where
       (λ f. simp f (other-passed (standing input rest n) m rest f ∙ all-flag rest))
 
 module _ (input : List ℕ) (start : ℕ) (low : start < 2 ^ 32) where
-  held_all : (n : ℕ) → n < 2 ^ 32 → (t : Table) (ms : List Message) → Rising 0 t.rows → Sane ms → farLine start ms ≡ 0 → (tabled input start t ms).many ≡ 0
-      → heldIn (rank_of start n) (tabled input start t ms).rows ≡ heldAll input n (heldIn (rank_of start n) t.rows) ms
-  unfolding tabled Sane heldAll
-  held_all n within t [] h sane no-far none = refl
-  held_all n within t (m ∷ rest) h sane no-far none =
+  held-all : (n : ℕ) → n < 2 ^ 32 → (t : Table) (ms : List Message) → Rising 0 t.rows → Sane ms → far_line start ms ≡ 0 → (tabled input start t ms).many ≡ 0
+      → held_in (rank_of start n) (tabled input start t ms).rows ≡ held_all input n (held_in (rank_of start n) t.rows) ms
+  unfolding tabled Sane held_all
+  held-all n within t [] h sane no-far none = refl
+  held-all n within t (m ∷ rest) h sane no-far none =
       let near = near-all start m rest no-far in
-      held_all n within (entered input start t m) rest (entered-rising input start t m h) sane.1 near.1 none
-      ∙ ap (λ held. heldAll input n held rest)
-      (held_after input start t m h sane.0.1 near.0 (many-none input start (entered input start t m) rest none) low sane.0.0 n within)
+      held-all n within (entered input start t m) rest (entered-rising input start t m h) sane.1 near.1 none
+      ∙ ap (λ held. held_all input n held rest)
+      (held-after input start t m h sane.0.1 near.0 (many-none input start (entered input start t m) rest none) low sane.0.0 n within)
 
   -- what a table has of a rank is what the messages say of its number
-  pub tabled-says : (ms : List Message) → Sane ms → farLine start ms ≡ 0 → (tabled input start noNumbers ms).many ≡ 0 → (rank : ℕ) → rank < 2 ^ 32
-      → (standing input ms (number_of start rank) ≡ standingHeld input (heldIn rank (tabled input start noNumbers ms).rows))
-      × (conflicted input ms (number_of start rank) ≡ flagHeld (heldIn rank (tabled input start noNumbers ms).rows))
-  unfolding heldIn
+  pub tabled-says : (ms : List Message) → Sane ms → far_line start ms ≡ 0 → (tabled input start no_numbers ms).many ≡ 0 → (rank : ℕ) → rank < 2 ^ 32
+      → (standing input ms (number_of start rank) ≡ standing_held input (held_in rank (tabled input start no_numbers ms).rows))
+      × (conflicted input ms (number_of start rank) ≡ flag_held (held_in rank (tabled input start no_numbers ms).rows))
+  unfolding held_in
   tabled-says ms sane no-far none rank within =
       let n = number_of start rank in
-      let held : heldAll input n Not ms ≡ heldIn rank (tabled input start noNumbers ms).rows =
-      sym (held_all n (number_lt start rank) noNumbers ms rising_none sane no-far none)
-      ∙ ap (λ q. heldIn q (tabled input start noNumbers ms).rows) (rank-of-number start rank low within) in
-      (all-stands input n ms ∙ ap (standingHeld input) held, all-flag input n ms ∙ ap flagHeld held)
+      let held : held_all input n Not ms ≡ held_in rank (tabled input start no_numbers ms).rows =
+      sym (held-all n (number_lt start rank) no_numbers ms rising_none sane no-far none)
+      ∙ ap (λ q. held_in q (tabled input start no_numbers ms).rows) (rank-of-number start rank low within) in
+      (all-stands input n ms ∙ ap (standing_held input) held, all-flag input n ms ∙ ap flag_held held)
 
 -- ---- the tables of two recordings
 
 differences-say : (first second : List ℕ) (n : ℕ) (a b : Held)
-    → (standing first (body_of first).messages n ≡ standingHeld first a) × (conflicted first (body_of first).messages n ≡ flagHeld a)
-    → (standing second (body_of second).messages n ≡ standingHeld second b) × (conflicted second (body_of second).messages n ≡ flagHeld b)
-    → differencesOn first second n ≡ heldDifferences first second a b
-unfolding differencesOn heldDifferences
+    → (standing first (body_of first).messages n ≡ standing_held first a) × (conflicted first (body_of first).messages n ≡ flag_held a)
+    → (standing second (body_of second).messages n ≡ standing_held second b) × (conflicted second (body_of second).messages n ≡ flag_held b)
+    → differences_on first second n ≡ held_differences first second a b
+unfolding differences_on held_differences
 differences-say first second n a b x y = cc
 
 pub tables-say : (first second : List ℕ) → start_of first ≡ start_of second
-    → farLine (start_of first) (body_of first).messages ≡ 0 → farLine (start_of second) (body_of second).messages ≡ 0
-    → (tabled first (start_of first) noNumbers (body_of first).messages).many ≡ 0
-    → (tabled second (start_of second) noNumbers (body_of second).messages).many ≡ 0
-    → Says first second (start_of first) (tabled first (start_of first) noNumbers (body_of first).messages).rows (tabled second (start_of second) noNumbers (body_of second).messages).rows
+    → far_line (start_of first) (body_of first).messages ≡ 0 → far_line (start_of second) (body_of second).messages ≡ 0
+    → (tabled first (start_of first) no_numbers (body_of first).messages).many ≡ 0
+    → (tabled second (start_of second) no_numbers (body_of second).messages).many ≡ 0
+    → Says first second (start_of first) (tabled first (start_of first) no_numbers (body_of first).messages).rows (tabled second (start_of second) no_numbers (body_of second).messages).rows
 tables-say first second same IsNear-first near-second None-first none-second = record {
   on = λ rank within.
       differences-say first second (number_of (start_of first) rank)
-      (heldIn rank (tabled first (start_of first) noNumbers (body_of first).messages).rows)
-      (heldIn rank (tabled second (start_of second) noNumbers (body_of second).messages).rows)
+      (held_in rank (tabled first (start_of first) no_numbers (body_of first).messages).rows)
+      (held_in rank (tabled second (start_of second) no_numbers (body_of second).messages).rows)
       (tabled-says first (start_of first) (start_small first) (body_of first).messages (body-sane first) IsNear-first None-first rank within)
       (rw same (tabled-says second (start_of second) (start_small second) (body_of second).messages (body-sane second) near-second none-second rank within));
 }

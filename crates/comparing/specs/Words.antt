@@ -14,31 +14,31 @@ kind_of (Begins n) = 3
 kind_of ConflictFirst = 4
 kind_of ConflictSecond = 5
 
-abbrev pub detailOf : Difference → ℕ
-detailOf First = 0
-detailOf Second = 0
-detailOf (Differ place x y) = place * 65536 + x * 256 + y
-detailOf (Begins n) = n * 65536
-detailOf ConflictFirst = 0
-detailOf ConflictSecond = 0
+abbrev pub detail_of : Difference → ℕ
+detail_of First = 0
+detail_of Second = 0
+detail_of (Differ place x y) = place * 65536 + x * 256 + y
+detail_of (Begins n) = n * 65536
+detail_of ConflictFirst = 0
+detail_of ConflictSecond = 0
 
 unfoldable pub word_of : ℕ → Difference → ℕ
-word_of number d = (number * 8 + kind_of d) * 2 ^ 28 + detailOf d
+word_of number d = (number * 8 + kind_of d) * 2 ^ 28 + detail_of d
 
 -- and what such a number says
 unfoldable pub number_in : ℕ → ℕ
 number_in word = word / 2 ^ 31 % 2 ^ 32
 
-unfoldable pub kindIn : ℕ → ℕ
-kindIn word = word / 2 ^ 28 % 8
+unfoldable pub kind_in : ℕ → ℕ
+kind_in word = word / 2 ^ 28 % 8
 
 -- the differences of the kinds 0 to 4; any other number says the last
 abbrev pub kinds : ℕ → ℕ → ℕ → List Difference
 kinds place x y = First ∷ Second ∷ Differ place x y ∷ Begins place ∷ ConflictFirst ∷ []
 
-unfoldable pub differenceIn : ℕ → Difference
-unfolding kindIn
-differenceIn word = get_or (kinds (word / 65536 % 4096) (word / 256 % 256) (word % 256)) (kindIn word) ConflictSecond
+unfoldable pub difference_in : ℕ → Difference
+unfolding kind_in
+difference_in word = get_or (kinds (word / 65536 % 4096) (word / 256 % 256) (word % 256)) (kind_in word) ConflictSecond
 
 -- what fits its bits
 abbrev pub Fits : Difference → Type 0
@@ -52,12 +52,12 @@ Fits ConflictSecond = Unit
 -- ---- laws
 
 -- a kind past the list's end says the last
-pub other-kind : (word : ℕ) → 5 ≤ kindIn word → differenceIn word ≡ ConflictSecond
-unfolding differenceIn
+pub other-kind : (word : ℕ) → 5 ≤ kind_in word → difference_in word ≡ ConflictSecond
+unfolding difference_in
 other-kind word h = get_or-eq_default (kinds (word / 65536 % 4096) (word / 256 % 256) (word % 256)) ConflictSecond h
 
 -- what fits its bits keeps to them
-pub kind-and-detail-fit : (d : Difference) → Fits d → (kind_of d < 8) × (detailOf d < 2 ^ 28)
+pub kind-and-detail-fit : (d : Difference) → Fits d → (kind_of d < 8) × (detail_of d < 2 ^ 28)
 kind-and-detail-fit First f = (lit< tt, lit< tt)
 kind-and-detail-fit Second f = (lit< tt, lit< tt)
 kind-and-detail-fit (Differ place x y) f = (lit< tt, omega (arith, f.0, f.1, f.2))
@@ -65,8 +65,8 @@ kind-and-detail-fit (Begins n) f = (lit< tt, omega (arith, f))
 kind-and-detail-fit ConflictFirst f = (lit< tt, lit< tt)
 kind-and-detail-fit ConflictSecond f = (lit< tt, lit< tt)
 
-difference-says : (number : ℕ) (d : Difference) → Fits d → kindIn (word_of number d) ≡ kind_of d → differenceIn (word_of number d) ≡ d
-unfolding word_of differenceIn
+difference-says : (number : ℕ) (d : Difference) → Fits d → kind_in (word_of number d) ≡ kind_of d → difference_in (word_of number d) ≡ d
+unfolding word_of difference_in
 difference-says number First f k = simp k
 difference-says number Second f k = simp k
 difference-says number (Differ place x y) f k =
@@ -82,8 +82,8 @@ difference-says number ConflictFirst f k = simp k
 difference-says number ConflictSecond f k = simp k
 
 -- a number says what it was made of
-pub word-says : (number : ℕ) (d : Difference) → number < 2 ^ 32 → Fits d → (number_in (word_of number d) ≡ number) × (differenceIn (word_of number d) ≡ d)
-unfolding word_of number_in kindIn
+pub word-says : (number : ℕ) (d : Difference) → number < 2 ^ 32 → Fits d → (number_in (word_of number d) ≡ number) × (difference_in (word_of number d) ≡ d)
+unfolding word_of number_in kind_in
 word-says number d h f =
     let fit = kind-and-detail-fit d f in
     (omega (arith, fit.0, fit.1), difference-says number d f (omega (arith, fit.0, fit.1)))

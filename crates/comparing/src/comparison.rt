@@ -1,9 +1,9 @@
 // The comparison of two recordings.
 ghost use Rattle.std.specs.Prelude.{◌≡◌, length};
 ghost use Rattle.comparing.specs.Sizes.{CELLS, DIFFERENCES};
-ghost use Rattle.comparing.specs.Judging.{toldAt, startsPart};
-ghost use Rattle.comparing.specs.Compared.{comparedOf, comparedList, comparedTold, comparisonTold};
-ghost use Rattle.comparing.specs.Comparison.{Scanning, judgedOf};
+ghost use Rattle.comparing.specs.Judging.{told_at, starts_part};
+ghost use Rattle.comparing.specs.Compared.{compared_of, compared_list, compared_told, comparison_told};
+ghost use Rattle.comparing.specs.Comparison.{Scanning, judged_of};
 
 use crate::listing::list_all;
 use crate::scanning::{Scanned, scan};
@@ -11,14 +11,14 @@ use crate::sizes::{CELLS, DIFFERENCES};
 use refusal::Refusal;
 use seq::Seq;
 
-#[derive(Drop)]
+#[derive(Clone, Copy)]
 pub enum Side {
     First,
     Second,
 }
 
 // What a comparison answers.
-#[derive(Drop)]
+#[derive(Clone, Copy)]
 pub enum Compared {
     // how many differences are in the list, and how many numbers the first and the second recording have
     Lists(usize, usize, usize),
@@ -26,7 +26,7 @@ pub enum Compared {
     No(Refusal, Side, usize),
 }
 
-#[derive(Drop)]
+#[derive(Clone, Copy)]
 pub enum Judged {
     Pass,
     No(Refusal, Side, usize),
@@ -34,7 +34,7 @@ pub enum Judged {
 
 // A refusal where a line is told, else what the later ones say.
 fn told(line: usize, refusal: Refusal, side: Side, rest: Judged) -> Judged
-    ensures { result ≡ toldAt line refusal side rest }
+    ensures { result ≡ told_at line refusal side rest }
 {
     if line == 0 {
         rest
@@ -45,14 +45,14 @@ fn told(line: usize, refusal: Refusal, side: Side, rest: Judged) -> Judged
 
 // Two start numbers that differ make the second's line bad.
 fn start_differs(a: Seq, b: Seq) -> usize
-    ensures { result ≡ startsPart a.0 b.0 }
+    ensures { result ≡ starts_part a.0 b.0 }
 {
     if a.eq(b) { 0 } else { 1 }
 }
 
 // The refusals in their order over both recordings.
 fn judge(a: Scanned, b: Scanned) -> Judged
-    ensures { result ≡ judgedOf a b }
+    ensures { result ≡ judged_of a b }
 {
     let x = a.counts;
     let y = b.counts;
@@ -79,8 +79,8 @@ fn compare_scanned(
     requires x_len { (length x.now ≡ CELLS) × (length y.now ≡ CELLS) × (length list.old ≡ DIFFERENCES) }
     requires scanning { Scanning first.now a x.now }
     requires scanning_2 { Scanning second.now b y.now }
-    ensures value { result ≡ comparedOf first.now second.now }
-    ensures list_after { list.new ≡ comparedList first.now second.now list.old }
+    ensures value { result ≡ compared_of first.now second.now }
+    ensures list_after { list.new ≡ compared_list first.now second.now list.old }
 {
     let judged = judge(a, b);
     match judged {
@@ -97,9 +97,9 @@ fn compare_scanned(
 
 // Lists where two recordings part. A refusal leaves the list as it was.
 pub fn compare(first: &[u8], second: &[u8], list: &mut [u64; DIFFERENCES]) -> Compared
-    ensures value { result ≡ comparedOf first.now second.now }
-    ensures result_value { comparedTold result ≡ comparisonTold first.now second.now }
-    ensures list_after { list.new ≡ comparedList first.now second.now list.old }
+    ensures value { result ≡ compared_of first.now second.now }
+    ensures result_value { compared_told result ≡ comparison_told first.now second.now }
+    ensures list_after { list.new ≡ compared_list first.now second.now list.old }
 {
     let mut x = [0usize; CELLS];
     let mut y = [0usize; CELLS];

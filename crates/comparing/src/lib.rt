@@ -1,4 +1,6 @@
 // Where two recordings part: the messages of each by their numbers, and a list of the differences.
+#![tactic(auto)]
+
 pub mod comparison;
 pub mod listing;
 pub mod messages;

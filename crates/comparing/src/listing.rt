@@ -1,21 +1,21 @@
 // The list of differences, in rising order.
 ghost use Rattle.std.specs.Prelude.{◌≡◌, [], ◌∷◌, ◌+◌, ◌*◌, ◌^◌, ◌≤◌, ◌<◌, length, drop};
-ghost use Rattle.seq.specs.Numbers.{seqOf};
+ghost use Rattle.seq.specs.Numbers.{seq_of};
 ghost use Rattle.comparing.specs.Sizes.{CELLS, DIFFERENCES, NUMBERS};
 ghost use Rattle.comparing.specs.Ranks.{number_of};
 ghost use Rattle.comparing.specs.Rows.{Rising, rows_of};
-ghost use Rattle.comparing.specs.Differences.{conflictAs, contentAs, partAs, listBelow};
+ghost use Rattle.comparing.specs.Differences.{conflict_as, content_as, part_as, list_below};
 ghost use Rattle.comparing.specs.Compared.{words_of};
-ghost use Rattle.comparing.specs.Says.{Says, standingHeld, flagHeld, heldDifferences};
-ghost use Rattle.comparing.specs.Listing.{wordsFor, Pushed, has_of, place_of, nextRank};
-ghost use Rattle.comparing.specs.Words.{kind_of, detailOf, word_of, number_in, kindIn, differenceIn, Fits};
+ghost use Rattle.comparing.specs.Says.{Says, standing_held, flag_held, held_differences};
+ghost use Rattle.comparing.specs.Listing.{words_for, Pushed, has_of, place_of, next_rank};
+ghost use Rattle.comparing.specs.Words.{kind_of, detail_of, word_of, number_in, kind_in, difference_in, Fits};
 
 use crate::runs::{Content, compare_runs};
 use crate::table::{Held, held_at};
 use seq::Seq;
 
 // How two recordings differ on a number.
-#[derive(Drop)]
+#[derive(Clone, Copy)]
 pub enum Difference {
     // only in the first, or only in the second
     First,
@@ -59,7 +59,7 @@ fn kind_of(d: Difference) -> u64
 
 fn detail_of(d: Difference) -> u64
     requires { Fits d }
-    ensures { result ≡ detailOf d }
+    ensures { result ≡ detail_of d }
 {
     match d {
         Difference::First => 0,
@@ -81,20 +81,20 @@ fn word_of(number: Seq, d: Difference) -> u64
 
 // The number of the message that a difference is about.
 pub fn number_in(word: u64) -> Seq
-    ensures { result ≡ seqOf (number_in word) }
+    ensures { result ≡ seq_of (number_in word) }
 {
     Seq((word / 2147483648 % 4294967296) as u32)
 }
 
 pub fn kind_in(word: u64) -> u64
-    ensures { result ≡ kindIn word }
+    ensures { result ≡ kind_in word }
 {
     word / 268435456 % 8
 }
 
 // What a difference of the list is.
 pub fn difference_of(word: u64) -> Difference
-    ensures { result ≡ differenceIn word }
+    ensures { result ≡ difference_in word }
 {
     let place = (word / 65536 % 4096) as usize;
     let x = (word / 256 % 256) as u8;
@@ -113,7 +113,7 @@ pub fn difference_of(word: u64) -> Difference
 fn push(list: &mut [u64], n: usize, number: Seq, d: Difference) -> usize
     requires n_in_bounds { n < length list.old }
     requires fits { Fits d }
-    ensures { Pushed (wordsFor number.0 (d ∷ [])) list.old n result list.new }
+    ensures { Pushed (words_for number.0 (d ∷ [])) list.old n result list.new }
 {
     list[n] = word_of(number, d);
     n + 1
@@ -123,7 +123,7 @@ fn push(list: &mut [u64], n: usize, number: Seq, d: Difference) -> usize
 fn list_conflict(list: &mut [u64], n: usize, number: Seq, held: Held, d: Difference) -> usize
     requires held_in_bounds { n + has_of held ≤ length list.old }
     requires fits { Fits d }
-    ensures { Pushed (wordsFor number.0 (conflictAs (flagHeld held) d)) list.old n result list.new }
+    ensures { Pushed (words_for number.0 (conflict_as (flag_held held) d)) list.old n result list.new }
 {
     match held {
         Held::Not => n,
@@ -140,7 +140,7 @@ fn list_conflict(list: &mut [u64], n: usize, number: Seq, held: Held, d: Differe
 fn list_content(list: &mut [u64], n: usize, number: Seq, content: Content) -> usize
     requires n_in_bounds { n < length list.old }
     requires content_bound { place_of content < 4096 }
-    ensures { Pushed (wordsFor number.0 (contentAs content)) list.old n result list.new }
+    ensures { Pushed (words_for number.0 (content_as content)) list.old n result list.new }
 {
     match content {
         Content::Equal => n,
@@ -160,7 +160,7 @@ fn list_held(
     b: Held,
 ) -> usize
     requires { n + (has_of a + has_of b) ≤ length list.old }
-    ensures { Pushed (wordsFor number.0 (partAs (standingHeld first.now a) (standingHeld second.now b))) list.old n result list.new }
+    ensures { Pushed (words_for number.0 (part_as (standing_held first.now a) (standing_held second.now b))) list.old n result list.new }
 {
     match a {
         Held::Not => match b {
@@ -188,7 +188,7 @@ fn list_number(
     b: Held,
 ) -> usize
     requires { n + (has_of a + has_of b) * 2 ≤ length list.old }
-    ensures { Pushed (wordsFor number.0 (heldDifferences first.now second.now a b)) list.old n result list.new }
+    ensures { Pushed (words_for number.0 (held_differences first.now second.now a b)) list.old n result list.new }
 {
     let m = list_conflict(list, n, number, a, Difference::ConflictFirst);
     let l = list_conflict(list, m, number, b, Difference::ConflictSecond);
@@ -208,7 +208,7 @@ fn has(held: Held) -> usize
 // The number of a rank.
 fn number_of(start: Seq, rank: usize) -> Seq
     requires { rank < 2 ^ 32 }
-    ensures { result ≡ seqOf (number_of start.0 rank) }
+    ensures { result ≡ seq_of (number_of start.0 rank) }
 {
     let middle = start.add(0x8000_0000);
     middle.add(rank as u32)
@@ -219,7 +219,7 @@ fn next_rank(a: &[usize], acount: usize, i: usize, b: &[usize], bcount: usize, j
     requires a_len { (length a.now ≡ CELLS) × (length b.now ≡ CELLS) }
     requires acount_bound { (acount ≤ NUMBERS) × (bcount ≤ NUMBERS) }
     requires i_le_acount { (i ≤ acount) × (j ≤ bcount) × (i + j < acount + bcount) }
-    ensures { result ≡ nextRank (drop i (rows_of acount a.now)) (drop j (rows_of bcount b.now)) }
+    ensures { result ≡ next_rank (drop i (rows_of acount a.now)) (drop j (rows_of bcount b.now)) }
 {
     if acount <= i {
         return b[j * 3];
@@ -247,7 +247,7 @@ pub(crate) fn list_all(
     requires acount_bound { (acount ≤ NUMBERS) × (bcount ≤ NUMBERS) }
     requires rising { Rising 0 (rows_of acount a.now) × Rising 0 (rows_of bcount b.now) }
     requires says { Says first.now second.now start.0 (rows_of acount a.now) (rows_of bcount b.now) }
-    ensures pushed { Pushed (words_of (listBelow first.now second.now start.0 (2 ^ 32))) list.old 0 result list.new }
+    ensures pushed { Pushed (words_of (list_below first.now second.now start.0 (2 ^ 32))) list.old 0 result list.new }
     ensures upper_bound { result ≤ DIFFERENCES }
 {
     let mut i: usize = 0;

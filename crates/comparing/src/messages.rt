@@ -1,7 +1,7 @@
 // The messages of a recording, line by line.
 ghost use Rattle.std.specs.Prelude.{◌≡◌};
-ghost use Rattle.recording.specs.Payloads.{isPayload};
-ghost use Rattle.comparing.specs.Messages.{startLine, foundReliable, foundCarried, foundReading, foundPayload, lineFound, waitingAfter, ends_at};
+ghost use Rattle.recording.specs.Payloads.{is_payload};
+ghost use Rattle.comparing.specs.Messages.{start_line, found_reliable, found_carried, found_reading, found_payload, line_found, waiting_after, ends_at};
 
 use msg::reliable::FromLink;
 use msg::{Reading, ReliableMsg};
@@ -10,7 +10,7 @@ use seq::Seq;
 use text::{HexRun, read_hex};
 
 // A message with a number: where its frame's line begins, and which line that is, from 1.
-#[derive(Drop)]
+#[derive(Clone, Copy)]
 pub struct Message {
     pub number: Seq,
     pub at: usize,
@@ -18,7 +18,7 @@ pub struct Message {
 }
 
 // What the next line is.
-#[derive(Drop)]
+#[derive(Clone, Copy)]
 pub enum Waiting {
     Frame,
     // the payload of a Data, whose frame was read
@@ -26,7 +26,7 @@ pub enum Waiting {
 }
 
 // What a line is found to be.
-#[derive(Drop)]
+#[derive(Clone, Copy)]
 pub enum Found {
     Bad,
     // a Data's frame: its payload is on the next line
@@ -38,7 +38,7 @@ pub enum Found {
 }
 
 // What a recording's first line reads as.
-#[derive(Drop)]
+#[derive(Clone, Copy)]
 pub enum Start {
     Number(Seq),
     Bad,
@@ -46,7 +46,7 @@ pub enum Start {
 
 // The start number, eight digits.
 pub(crate) fn read_start(line: &[u8]) -> Start
-    ensures { result ≡ startLine line.now }
+    ensures { result ≡ start_line line.now }
 {
     if line.len() != 8 {
         return Start::Bad;
@@ -63,7 +63,7 @@ pub(crate) fn read_start(line: &[u8]) -> Start
 }
 
 fn find_reliable(msg: ReliableMsg, m: Message) -> Found
-    ensures { result ≡ foundReliable msg m }
+    ensures { result ≡ found_reliable msg m }
 {
     match msg {
         ReliableMsg::Data => Found::Awaits(m),
@@ -75,7 +75,7 @@ fn find_reliable(msg: ReliableMsg, m: Message) -> Found
 }
 
 fn find_carried(carried: FromLink, at: usize, line: usize) -> Found
-    ensures { result ≡ foundCarried carried at line }
+    ensures { result ≡ found_carried carried at line }
 {
     match carried {
         FromLink::Reliable(msg, number) => find_reliable(msg, Message { number, at, line }),
@@ -84,7 +84,7 @@ fn find_carried(carried: FromLink, at: usize, line: usize) -> Found
 }
 
 fn find_reading(reading: Reading, at: usize, line: usize) -> Found
-    ensures { result ≡ foundReading reading at line }
+    ensures { result ≡ found_reading reading at line }
 {
     match reading {
         Reading::No(_) => Found::Bad,
@@ -93,7 +93,7 @@ fn find_reading(reading: Reading, at: usize, line: usize) -> Found
 }
 
 fn find_payload(text: &[u8], m: Message) -> Found
-    ensures { result ≡ foundPayload (isPayload text.now) m }
+    ensures { result ≡ found_payload (is_payload text.now) m }
 {
     let mut bytes = [0u8; 1024];
     let HexRun::Count(_) = read_payload(text, &mut bytes) else {
@@ -104,7 +104,7 @@ fn find_payload(text: &[u8], m: Message) -> Found
 
 // What the line that begins at a place is, given without its line feed.
 pub(crate) fn read_line(waiting: Waiting, text: &[u8], at: usize, line: usize) -> Found
-    ensures { result ≡ lineFound waiting at line text.now }
+    ensures { result ≡ line_found waiting at line text.now }
 {
     match waiting {
         Waiting::Frame => find_reading(read_frame(text), at, line),
@@ -114,7 +114,7 @@ pub(crate) fn read_line(waiting: Waiting, text: &[u8], at: usize, line: usize) -
 
 // What the line after it is.
 pub(crate) fn wait_after(found: Found) -> Waiting
-    ensures { result ≡ waitingAfter found }
+    ensures { result ≡ waiting_after found }
 {
     match found {
         Found::Bad => Waiting::Frame,

@@ -1,7 +1,7 @@
 // A message as one run of bytes, its frame and then its payload, and where two runs part.
 ghost use Rattle.std.specs.Prelude.{◌≡◌, ◌++◌, ◌+◌, ◌≤◌, length, take, drop};
 ghost use Rattle.comparing.specs.Sizes.{RUN};
-ghost use Rattle.comparing.specs.Runs.{contentOf, lineBytes, payloadAfter, run_at};
+ghost use Rattle.comparing.specs.Runs.{content_of, line_bytes, payload_after, run_at};
 
 use crate::messages::{Found, Waiting, read_line};
 use crate::sizes::RUN;
@@ -9,7 +9,7 @@ use recording::{MAX_LINE, line_end};
 use text::{HexRun, read_hex};
 
 // Where two runs part.
-#[derive(Drop)]
+#[derive(Clone, Copy)]
 pub enum Content {
     Equal,
     // the place of the first byte in which they differ, and both bytes
@@ -19,7 +19,7 @@ pub enum Content {
 }
 
 pub(crate) fn compare_bytes(a: &[u8], b: &[u8]) -> Content
-    ensures { result ≡ contentOf a.now b.now }
+    ensures { result ≡ content_of a.now b.now }
 {
     let mut i: usize = 0;
     while i < a.len() {
@@ -42,7 +42,7 @@ pub(crate) fn compare_bytes(a: &[u8], b: &[u8]) -> Content
 // Puts the bytes of a line behind the first n of a run, and says how many the run has now.
 fn append_line(line: &[u8], run: &mut [u8], n: usize) -> usize
     requires { n + 1040 ≤ length run.old }
-    ensures run_after { take result run.new ≡ take n run.old ++ lineBytes line.now }
+    ensures run_after { take result run.new ≡ take n run.old ++ line_bytes line.now }
     ensures upper_bound { result ≤ n + 1040 }
 {
     if MAX_LINE < line.len() {
@@ -57,7 +57,7 @@ fn append_line(line: &[u8], run: &mut [u8], n: usize) -> usize
 // Of a Data's frame, puts its payload behind it, which the next line spells.
 fn append_payload(found: Found, line: &[u8], run: &mut [u8], n: usize) -> usize
     requires { n + 1040 ≤ length run.old }
-    ensures run_after { take result run.new ≡ take n run.old ++ payloadAfter found line.now }
+    ensures run_after { take result run.new ≡ take n run.old ++ payload_after found line.now }
     ensures upper_bound { result ≤ n + 1040 }
 {
     match found {
@@ -94,7 +94,7 @@ fn read_run(input: &[u8], at: usize, run: &mut [u8]) -> usize
 
 // Where the messages that begin at two places part.
 pub(crate) fn compare_runs(a: &[u8], i: usize, b: &[u8], j: usize) -> Content
-    ensures { result ≡ contentOf (run_at a.now i) (run_at b.now j) }
+    ensures { result ≡ content_of (run_at a.now i) (run_at b.now j) }
 {
     let mut x = [0u8; RUN];
     let mut y = [0u8; RUN];

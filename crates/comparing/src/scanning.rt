@@ -5,7 +5,7 @@ ghost use Rattle.comparing.specs.declared.messages.Waiting.TheVariants.{Frame};
 ghost use Rattle.comparing.specs.Messages.{body_of, start_of};
 ghost use Rattle.comparing.specs.Rows.{Rising, rows_of};
 ghost use Rattle.comparing.specs.Table.{table_of};
-ghost use Rattle.comparing.specs.Scanning.{isBad, enteredFound, nextLine, bodyLeft, Scans};
+ghost use Rattle.comparing.specs.Scanning.{is_bad, entered_found, next_line, body_left, Scans};
 
 use crate::messages::{Found, Start, Waiting, bad_at_end, read_line, read_start, wait_after};
 use crate::table::{Counts, enter};
@@ -13,7 +13,7 @@ use recording::line_end;
 use seq::Seq;
 
 // What a recording was found to be: its start number, its first bad line, 0 for none, and the counts of its table.
-#[derive(Drop)]
+#[derive(Clone, Copy)]
 pub struct Scanned {
     pub start: Seq,
     pub bad: usize,
@@ -21,7 +21,7 @@ pub struct Scanned {
 }
 
 fn is_bad(found: Found) -> bool
-    ensures { result ≡ isBad found }
+    ensures { result ≡ is_bad found }
 {
     match found {
         Found::Bad => true,
@@ -42,7 +42,7 @@ fn enter_found(
     requires cells_len { length cells.old ≡ CELLS }
     requires count_bound { counts.count ≤ NUMBERS }
     requires rising { Rising 0 (rows_of counts.count cells.old) }
-    ensures cells_after { table_of result cells.new ≡ enteredFound input.now start.0 (table_of counts cells.old) found }
+    ensures cells_after { table_of result cells.new ≡ entered_found input.now start.0 (table_of counts cells.old) found }
     ensures count_bound_2 { result.count ≤ NUMBERS }
 {
     match found {
@@ -55,7 +55,7 @@ fn enter_found(
 
 // Where the line after one that ends here begins.
 fn next_line(input: &[u8], end: usize) -> usize
-    ensures { result ≡ nextLine input.now end }
+    ensures { result ≡ next_line input.now end }
 {
     if end < input.len() { end + 1 } else { end }
 }
@@ -64,7 +64,7 @@ fn next_line(input: &[u8], end: usize) -> usize
 fn scan_body(input: &[u8], start: Seq, from: usize, cells: &mut [usize]) -> Scanned
     requires cells_len { length cells.old ≡ CELLS }
     requires le_from { 2 ≤ from }
-    ensures { Scans input.now start.0 (bodyLeft input.now Frame from 2) result cells.new }
+    ensures { Scans input.now start.0 (body_left input.now Frame from 2) result cells.new }
 {
     let mut at = from;
     let mut line: usize = 2;

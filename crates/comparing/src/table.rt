@@ -2,9 +2,9 @@
 // three cells: rank, place, and 1 where a repeat has other content, else 0.
 ghost use Rattle.std.specs.Prelude.{◌≡◌, ◌+◌, ◌*◌, ◌≤◌, ◌<◌, length, drop};
 ghost use Rattle.comparing.specs.Sizes.{CELLS, NUMBERS};
-ghost use Rattle.comparing.specs.Runs.{isEqual};
-ghost use Rattle.comparing.specs.Ranks.{rankBy};
-ghost use Rattle.comparing.specs.Rows.{Rising, row, rows_of, positionIn, insertAt, heldFirst};
+ghost use Rattle.comparing.specs.Runs.{is_equal};
+ghost use Rattle.comparing.specs.Ranks.{rank_by};
+ghost use Rattle.comparing.specs.Rows.{Rising, row, rows_of, position_in, insert_at, held_first};
 ghost use Rattle.comparing.specs.Cells.{Moved};
 ghost use Rattle.comparing.specs.Table.{earliest, repeated, table_of, added, entered_at, entered};
 
@@ -14,14 +14,14 @@ use crate::sizes::NUMBERS;
 use seq::{Apart, Seq};
 
 // What a table has of a number: the place of its first message, and whether a repeat has other content.
-#[derive(Drop)]
+#[derive(Clone, Copy)]
 pub enum Held {
     Not,
     At(usize, usize),
 }
 
 // How many numbers a table has, and the lines of the first far message and of the first number past 1,024, 0 for none.
-#[derive(Drop)]
+#[derive(Clone, Copy)]
 pub struct Counts {
     pub count: usize,
     pub far: usize,
@@ -30,7 +30,7 @@ pub struct Counts {
 
 // The rank of a number by its signed distance from the start number: ranks rise as the distance does.
 fn rank(d: i32) -> usize
-    ensures { result ≡ rankBy d }
+    ensures { result ≡ rank_by d }
 {
     (d as i64 + 0x8000_0000) as usize
 }
@@ -47,7 +47,7 @@ fn position(cells: &[usize], count: usize, rank: usize) -> usize
     requires cells_len { length cells.now ≡ CELLS }
     requires count_bound { count ≤ NUMBERS }
     requires rising { Rising 0 (rows_of count cells.now) }
-    ensures { result ≡ positionIn rank (rows_of count cells.now) }
+    ensures { result ≡ position_in rank (rows_of count cells.now) }
 {
     let mut low: usize = 0;
     let mut high: usize = count;
@@ -66,7 +66,7 @@ fn position(cells: &[usize], count: usize, rank: usize) -> usize
 pub(crate) fn held_at(cells: &[usize], count: usize, i: usize, rank: usize) -> Held
     requires cells_len { length cells.now ≡ CELLS }
     requires count_bound { count ≤ NUMBERS }
-    ensures { result ≡ heldFirst rank (drop i (rows_of count cells.now)) }
+    ensures { result ≡ held_first rank (drop i (rows_of count cells.now)) }
 {
     if count <= i {
         return Held::Not;
@@ -97,7 +97,7 @@ fn insert(cells: &mut [usize], count: usize, i: usize, rank: usize, at: usize)
     requires cells_len { length cells.old ≡ CELLS }
     requires count_bound { count < NUMBERS }
     requires i_le_count { i ≤ count }
-    ensures { rows_of (count + 1) cells.new ≡ insertAt i (row rank at 0) (rows_of count cells.old) }
+    ensures { rows_of (count + 1) cells.new ≡ insert_at i (row rank at 0) (rows_of count cells.old) }
 {
     make_room(cells, count, i);
     cells[i * 3] = rank;
@@ -106,7 +106,7 @@ fn insert(cells: &mut [usize], count: usize, i: usize, rank: usize, at: usize)
 }
 
 fn is_equal(content: Content) -> bool
-    ensures { result ≡ isEqual content }
+    ensures { result ≡ is_equal content }
 {
     match content {
         Content::Equal => true,

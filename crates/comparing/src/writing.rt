@@ -1,8 +1,8 @@
 // The list as text: one line a difference, a line for a refusal, and one that sums up.
 ghost use Rattle.std.specs.Prelude.{[], ◌∷◌, ◌≡◌, ◌-◌, length, take, drop};
-ghost use Rattle.text.specs.Put.{Puts, decimalText};
+ghost use Rattle.text.specs.Put.{Puts, decimal_text};
 ghost use Rattle.comparing.specs.declared.listing.Difference.TheVariants.{Differ, Begins};
-ghost use Rattle.comparing.specs.Writing.{numberParts, whatParts, sideText, countParts, lineText, refusedText, kindsIn, equalIn, summaryText, starts_with};
+ghost use Rattle.comparing.specs.Writing.{number_parts, what_parts, side_text, count_parts, line_text, refused_text, kinds_in, equal_in, summary_text, starts_with};
 
 use crate::comparison::Side;
 use crate::listing::{
@@ -20,7 +20,7 @@ pub const SUMMARY: usize = 320;
 
 // A number in eight digits.
 fn put_number(n: u32, out: &mut [u8], at: usize) -> usize
-    ensures { Puts (numberParts n) out.old at result out.new }
+    ensures { Puts (number_parts n) out.old at result out.new }
 {
     let a = put_hex((n / 16777216) as u8, out, at);
     let b = put_hex((n / 65536 % 256) as u8, out, a);
@@ -30,14 +30,14 @@ fn put_number(n: u32, out: &mut [u8], at: usize) -> usize
 
 // A number in decimal, and what stands behind it.
 fn put_count(count: usize, what: &[u8], out: &mut [u8], at: usize) -> usize
-    ensures { Puts (decimalText count ∷ what.now ∷ []) out.old at result out.new }
+    ensures { Puts (decimal_text count ∷ what.now ∷ []) out.old at result out.new }
 {
     let a = put_decimal(count as u64, out, at);
     put(what, out, a)
 }
 
 fn put_differ(place: usize, x: u8, y: u8, out: &mut [u8; LINE], at: usize) -> usize
-    ensures { Puts (whatParts (Differ place x y)) out.old at result out.new }
+    ensures { Puts (what_parts (Differ place x y)) out.old at result out.new }
 {
     let a = put(b" differ ", out, at);
     let b = put_count(place, b" ", out, a);
@@ -48,14 +48,14 @@ fn put_differ(place: usize, x: u8, y: u8, out: &mut [u8; LINE], at: usize) -> us
 }
 
 fn put_begins(length: usize, out: &mut [u8; LINE], at: usize) -> usize
-    ensures { Puts (whatParts (Begins length)) out.old at result out.new }
+    ensures { Puts (what_parts (Begins length)) out.old at result out.new }
 {
     let a = put(b" begins ", out, at);
     put_count(length, b"\n", out, a)
 }
 
 fn put_what(what: Difference, out: &mut [u8; LINE], at: usize) -> usize
-    ensures { Puts (whatParts what) out.old at result out.new }
+    ensures { Puts (what_parts what) out.old at result out.new }
 {
     match what {
         Difference::First => put(b" first\n", out, at),
@@ -69,8 +69,8 @@ fn put_what(what: Difference, out: &mut [u8; LINE], at: usize) -> usize
 
 // Writes the line of a difference, and says how long it is.
 pub fn write_difference(word: u64, out: &mut [u8; LINE]) -> usize
-    ensures value { result ≡ length (lineText word) }
-    ensures out_after { out.new ≡ starts_with (lineText word) out.old }
+    ensures value { result ≡ length (line_text word) }
+    ensures out_after { out.new ≡ starts_with (line_text word) out.old }
 {
     let number = number_in(word);
     let what = difference_of(word);
@@ -79,7 +79,7 @@ pub fn write_difference(word: u64, out: &mut [u8; LINE]) -> usize
 }
 
 fn put_side(side: Side, out: &mut [u8; LINE], at: usize) -> usize
-    ensures { Puts (sideText side ∷ []) out.old at result out.new }
+    ensures { Puts (side_text side ∷ []) out.old at result out.new }
 {
     match side {
         Side::First => put(b" first ", out, at),
@@ -89,8 +89,8 @@ fn put_side(side: Side, out: &mut [u8; LINE], at: usize) -> usize
 
 // Writes the line of a refusal, and says how long it is.
 pub fn write_refused(refusal: Refusal, side: Side, line: usize, out: &mut [u8; LINE]) -> usize
-    ensures value { result ≡ length (refusedText refusal side line) }
-    ensures out_after { out.new ≡ starts_with (refusedText refusal side line) out.old }
+    ensures value { result ≡ length (refused_text refusal side line) }
+    ensures out_after { out.new ≡ starts_with (refused_text refusal side line) out.old }
 {
     let a = put(b"refused ", out, 0);
     let b = put_decimal(refusal.number() as u64, out, a);
@@ -100,7 +100,7 @@ pub fn write_refused(refusal: Refusal, side: Side, line: usize, out: &mut [u8; L
 
 // How many of the first n differences are of a kind.
 pub fn count_kind(list: &[u64], n: usize, kind: u64) -> usize
-    ensures { result ≡ kindsIn kind (take n list.now) }
+    ensures { result ≡ kinds_in kind (take n list.now) }
 {
     let mut count: usize = 0;
     let mut i: usize = 0;
@@ -124,7 +124,7 @@ fn less(a: usize, b: usize) -> usize
 
 // The numbers that both have with equal messages.
 fn equal_in(list: &[u64], n: usize, first: usize) -> usize
-    ensures { result ≡ equalIn (take n list.now) first }
+    ensures { result ≡ equal_in (take n list.now) first }
 {
     let a = less(first, count_kind(list, n, FIRST));
     let b = less(a, count_kind(list, n, DIFFER));
@@ -133,7 +133,7 @@ fn equal_in(list: &[u64], n: usize, first: usize) -> usize
 
 // The numbers of each side, and those that are equal.
 fn put_sides(list: &[u64], n: usize, first: usize, second: usize, out: &mut [u8]) -> usize
-    ensures { Puts (take 7 (countParts (take n list.now) first second)) out.old 0 result out.new }
+    ensures { Puts (take 7 (count_parts (take n list.now) first second)) out.old 0 result out.new }
 {
     let a = put(b"numbers: ", out, 0);
     let b = put_count(first, b" first, ", out, a);
@@ -150,14 +150,14 @@ fn put_kind(
     out: &mut [u8; SUMMARY],
     at: usize,
 ) -> usize
-    ensures { Puts (decimalText (kindsIn kind (take n list.now)) ∷ what.now ∷ []) out.old at result out.new }
+    ensures { Puts (decimal_text (kinds_in kind (take n list.now)) ∷ what.now ∷ []) out.old at result out.new }
 {
     put_count(count_kind(list, n, kind), what, out, at)
 }
 
 // The differences of each kind, behind the counts of the sides.
 fn put_kinds(list: &[u64], n: usize, out: &mut [u8; SUMMARY], at: usize) -> usize
-    ensures { Puts (drop 7 (countParts (take n list.now) 0 0)) out.old at result out.new }
+    ensures { Puts (drop 7 (count_parts (take n list.now) 0 0)) out.old at result out.new }
 {
     let a = put_kind(list, n, FIRST, b" only first, ", out, at);
     let b = put_kind(list, n, SECOND, b" only second, ", out, a);
@@ -175,8 +175,8 @@ pub fn write_summary(
     second: usize,
     out: &mut [u8; SUMMARY],
 ) -> usize
-    ensures value { result ≡ length (summaryText (take n list.now) first second) }
-    ensures out_after { out.new ≡ starts_with (summaryText (take n list.now) first second) out.old }
+    ensures value { result ≡ length (summary_text (take n list.now) first second) }
+    ensures out_after { out.new ≡ starts_with (summary_text (take n list.now) first second) out.old }
 {
     if n == 0 {
         let a = put(b"equal: ", out, 0);

@@ -1,5 +1,7 @@
 // Compares pairs of recordings, one after the other, from standard input: a line with both lengths, five digits each, then the bytes of
 // the first and of the second. For each pair it writes what `compare` would, the line that sums up too, and a line with a full stop.
+#![tactic(auto)]
+
 ghost use Rattle.std.specs.Prelude.{◌≤◌};
 
 use comparing::{

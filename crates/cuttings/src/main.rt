@@ -2,6 +2,8 @@
 // An item is a line of twelve bytes, a letter and two numbers of four hexadecimal digits: `p` for a piece, with its length and the
 // buffer's, and then the piece's bytes; `c` closes the session; `b` drops it unclosed. After both another session begins. Each call writes
 // how many bytes it used and how many it wrote, and then its text.
+#![tactic(auto)]
+
 ghost use Rattle.std.specs.Prelude.{◌≤◌};
 
 use libc::{STDIN_FILENO, STDOUT_FILENO};
@@ -87,7 +89,7 @@ fn close_one(session: Session, store: &mut [u8], records: &mut [u64], line: &[u8
 }
 
 // A session to go on with, and whether there was an item.
-#[derive(Drop)]
+#[derive(Clone, Copy)]
 struct Turn {
     session: Session,
     is_more: bool,

@@ -8,40 +8,40 @@ use Rattle.refusal.specs.declared.verdict.Verdict.{Verdict}
 use Rattle.refusal.specs.declared.verdict.Verdict.TheVariants.{Pass, No}
 use Rattle.refusal.specs.Verdicts.{gate, gate-pass}
 use Rattle.engine.specs.declared.state.State.{State}
-use Rattle.engine.specs.CellCount.{isCellCount}
-use Rattle.engine.specs.Starting.{freshVerdict}
+use Rattle.engine.specs.CellCount.{is_cell_count}
+use Rattle.engine.specs.Starting.{fresh_verdict}
 use Rattle.engine.specs.Sizes.{DATA_BYTES}
 use Rattle.words.specs.Layout.{WORDS}
 
-unfoldable pub freshGate : (buffer cells records words : ℕ) → Verdict
-freshGate buffer n records words =
-    gate (isCellCount n && (leb 1 buffer && leb buffer (n * DATA_BYTES))) 21
+unfoldable pub fresh_gate : (buffer cells records words : ℕ) → Verdict
+fresh_gate buffer n records words =
+    gate (is_cell_count n && (leb 1 buffer && leb buffer (n * DATA_BYTES))) 21
     (gate (eqb records n) 2
     (gate (eqb words WORDS) 2
     Pass))
 
 -- a refusal leaves the state as it came
-abbrev pub stateBy : Verdict → State → State → State
-stateBy Pass old new = new
-stateBy (No e) old new = old
+abbrev pub state_by : Verdict → State → State → State
+state_by Pass old new = new
+state_by (No e) old new = old
 
 -- ---- laws
 
 module _ (buffer n records words : ℕ) where
   unfoldable set : Bool
-  set = isCellCount n && (leb 1 buffer && leb buffer (n * DATA_BYTES))
+  set = is_cell_count n && (leb 1 buffer && leb buffer (n * DATA_BYTES))
 
   -- where the engine's own call passes, the words are asked
-  pub gate-passed : freshVerdict buffer n records ≡ Pass → freshGate buffer n records words ≡ gate (eqb words WORDS) 2 Pass
-  unfolding freshVerdict freshGate set
+  pub gate-passed : fresh_verdict buffer n records ≡ Pass → fresh_gate buffer n records words ≡ gate (eqb words WORDS) 2 Pass
+  unfolding fresh_verdict fresh_gate set
   gate-passed e =
       let a = gate-pass set _ _ e in
       let b = gate-pass (eqb records n) _ _ a.1 in
       simp (a.0, b.0)
 
   -- .. and where it refuses, so is this
-  pub gate-refused : (r : Refusal) → freshVerdict buffer n records ≡ No r → freshGate buffer n records words ≡ No r
-  unfolding freshVerdict freshGate set
+  pub gate-refused : (r : Refusal) → fresh_verdict buffer n records ≡ No r → fresh_gate buffer n records words ≡ No r
+  unfolding fresh_verdict fresh_gate set
   gate-refused r e =
       cases set
       (λ t. cases (eqb records n) (λ u. let z : ◌≡◌ {A = ℕ} 0 1 = let w : Pass ≡ No r = simp (t, u) at e in cc in absurd (omega arith)) (λ u. simp (t, u) (simp (t, u) at e)))

@@ -10,13 +10,13 @@ use Rattle.door.specs.declared.given.Given.{Given}
 use Rattle.door.specs.declared.given.Given.TheVariants.{Message, Nothing}
 
 -- the longest round trip, where there is one
-abbrev pub maxPingGiven : Bool → ℕ → MaxPing
-maxPingGiven true v = UpTo v
-maxPingGiven false v = Unlimited
+abbrev pub max_ping_given : Bool → ℕ → MaxPing
+max_ping_given true v = UpTo v
+max_ping_given false v = Unlimited
 
 -- the message that a kind names, of those without a count
-unfoldable pub plainGiven : ℕ → Given
-plainGiven kind =
+unfoldable pub plain_given : ℕ → Given
+plain_given kind =
     cond (eqb kind MSG_DATA) (Message Data)
     (cond (eqb kind MSG_SEND_FINISH) (Message SendFinish)
     (cond (eqb kind MSG_RECEIVE_CLOSE) (Message ReceiveClose)
@@ -25,8 +25,8 @@ plainGiven kind =
 
 -- .. and of all: "A count is 0 for every kind but Consumed" (docs/CALLS.md)
 unfoldable pub given : ℕ → ℕ → Given
-unfolding plainGiven
-given kind count = cond (eqb kind MSG_CONSUMED) (Message (Consumed count)) (cond (eqb count 0) (plainGiven kind) Nothing)
+unfolding plain_given
+given kind count = cond (eqb kind MSG_CONSUMED) (Message (Consumed count)) (cond (eqb count 0) (plain_given kind) Nothing)
 
 -- by the message, where one is named
 abbrev pub asked : {A : Type 0} → Given → (ReliableMsg → A) → A → A
@@ -34,5 +34,5 @@ asked (Message msg) f none = f msg
 asked Nothing f none = none
 
 -- a deadline's settings
-abbrev pub timeoutGiven : (roundtrip resent unreliable min max : ℕ) → AckTimeout
-timeoutGiven a b c d e = record { roundtrip_factor = a; resent_factor = b; unreliable_factor = c; min = d; max = e }
+abbrev pub timeout_given : (roundtrip resent unreliable min max : ℕ) → AckTimeout
+timeout_given a b c d e = record { roundtrip_factor = a; resent_factor = b; unreliable_factor = c; min = d; max = e }

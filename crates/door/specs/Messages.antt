@@ -1,7 +1,7 @@
 -- Which message a kind and two numbers name, as the values of `fk_read` do (`values_of` of crate msg). A number that a kind does not use may be any.
 -- Assumes nothing.
 use Rattle.std.specs.Prelude.{◌≡◌, refl, true, false, List, [], ◌∷◌, ℕ, get_or}
-use Rattle.seq.specs.Numbers.{seqOf}
+use Rattle.seq.specs.Numbers.{seq_of}
 use Rattle.msg.specs.declared.link_msg.RefusedReason.TheVariants.{Closed, NotListening, ConnectionRefused, LinkRefused}
 use Rattle.msg.specs.declared.link_msg.LinkMsg.{LinkMsg}
 use Rattle.msg.specs.declared.link_msg.LinkMsg.TheVariants.{Welcome, Connect, Accepted, Refused, Ping, Pong, Data, Ack, Consumed, SendFinish, ReceiveClose, ReceiveFinish, TestData, SetBlock, Goodbye, Terminate}
@@ -10,53 +10,53 @@ use Rattle.door.specs.declared.messages.LinkGiven.{LinkGiven}
 use Rattle.door.specs.declared.messages.LinkGiven.TheVariants.{Message, Nothing}
 
 -- what each number names as a reason, and as a SetBlock, from 0; past them none
-abbrev pub reasonsGiven : List LinkGiven
-reasonsGiven = Nothing ∷ Message (Refused Closed) ∷ Message (Refused NotListening) ∷ Message (Refused ConnectionRefused) ∷ Message (Refused LinkRefused) ∷ []
+abbrev pub reasons_given : List LinkGiven
+reasons_given = Nothing ∷ Message (Refused Closed) ∷ Message (Refused NotListening) ∷ Message (Refused ConnectionRefused) ∷ Message (Refused LinkRefused) ∷ []
 
-unfoldable pub reasonGiven : ℕ → LinkGiven
-reasonGiven n = get_or reasonsGiven n Nothing
+unfoldable pub reason_given : ℕ → LinkGiven
+reason_given n = get_or reasons_given n Nothing
 
-abbrev pub blocksGiven : List LinkGiven
-blocksGiven = Message (SetBlock false) ∷ Message (SetBlock true) ∷ []
+abbrev pub blocks_given : List LinkGiven
+blocks_given = Message (SetBlock false) ∷ Message (SetBlock true) ∷ []
 
-unfoldable pub blockGiven : ℕ → LinkGiven
-blockGiven n = get_or blocksGiven n Nothing
+unfoldable pub block_given : ℕ → LinkGiven
+block_given n = get_or blocks_given n Nothing
 
 -- what each kind names, from 0, with the two numbers
-abbrev pub kindsGiven : (first second : ℕ) → List LinkGiven
-kindsGiven first second =
+abbrev pub kinds_given : (first second : ℕ) → List LinkGiven
+kinds_given first second =
     Nothing
     ∷ Message Welcome
     ∷ Message Connect
     ∷ Message Accepted
-    ∷ reasonGiven first
+    ∷ reason_given first
     ∷ Message Ping
     ∷ Message Pong
-    ∷ Message (Data (seqOf first))
-    ∷ Message (Ack (seqOf first))
-    ∷ Message (Consumed (seqOf first) second)
-    ∷ Message (SendFinish (seqOf first))
-    ∷ Message (ReceiveClose (seqOf first))
-    ∷ Message (ReceiveFinish (seqOf first))
+    ∷ Message (Data (seq_of first))
+    ∷ Message (Ack (seq_of first))
+    ∷ Message (Consumed (seq_of first) second)
+    ∷ Message (SendFinish (seq_of first))
+    ∷ Message (ReceiveClose (seq_of first))
+    ∷ Message (ReceiveFinish (seq_of first))
     ∷ Message (TestData first)
-    ∷ blockGiven first
+    ∷ block_given first
     ∷ Message Goodbye
     ∷ Message Terminate
     ∷ []
 
-unfoldable pub linkGiven : (kind first second : ℕ) → LinkGiven
-linkGiven kind first second = get_or (kindsGiven first second) kind Nothing
+unfoldable pub link_given : (kind first second : ℕ) → LinkGiven
+link_given kind first second = get_or (kinds_given first second) kind Nothing
 
 -- by the message, where one is named
-abbrev pub askedLink : {A : Type 0} → LinkGiven → (LinkMsg → A) → A → A
-askedLink (Message msg) f none = f msg
-askedLink Nothing f none = none
+abbrev pub asked_link : {A : Type 0} → LinkGiven → (LinkMsg → A) → A → A
+asked_link (Message msg) f none = f msg
+asked_link Nothing f none = none
 
 -- ---- laws
 
 -- the values of a message name it
-pub named-so : (msg : LinkMsg) → linkGiven (get_or (values_of msg) 0 0) (get_or (values_of msg) 1 0) (get_or (values_of msg) 2 0) ≡ Message msg
-unfolding linkGiven reasonGiven blockGiven
+pub named-so : (msg : LinkMsg) → link_given (get_or (values_of msg) 0 0) (get_or (values_of msg) 1 0) (get_or (values_of msg) 2 0) ≡ Message msg
+unfolding link_given reason_given block_given
 named-so Welcome = refl
 named-so Connect = refl
 named-so Accepted = refl

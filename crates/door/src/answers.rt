@@ -3,12 +3,12 @@ ghost use Rattle.std.specs.Prelude.{◌≡◌};
 ghost use Rattle.std.proofs.lemmas.List.Edits.{sets};
 ghost use Rattle.refusal.specs.Refusals.{number_of};
 ghost use Rattle.refusal.specs.Answers.{flag};
-ghost use Rattle.engine.specs.Answer.{outcomeTold};
-ghost use Rattle.engine.specs.Deadlines.{confirmTimeoutTold};
-ghost use Rattle.engine.specs.HandingOut.{dueTold, handOutTold, takeAckTold};
-ghost use Rattle.engine.specs.Links.{addTold};
-ghost use Rattle.engine.specs.Resending.{resendTold};
-ghost use Rattle.engine.specs.Sending.{sendTold};
+ghost use Rattle.engine.specs.Answer.{outcome_told};
+ghost use Rattle.engine.specs.Deadlines.{confirm_timeout_told};
+ghost use Rattle.engine.specs.HandingOut.{due_told, hand_out_told, take_ack_told};
+ghost use Rattle.engine.specs.Links.{add_told};
+ghost use Rattle.engine.specs.Resending.{resend_told};
+ghost use Rattle.engine.specs.Sending.{send_told};
 
 use engine::{AddAnswer, ConfirmTimeout, Due, HandOut, Outcome, ResendAnswer, SendAnswer, TakeAck};
 use refusal::Refusal;
@@ -40,7 +40,7 @@ fn flag(set: bool) -> u64
 }
 
 pub(crate) fn tell(outcome: Outcome) -> u64
-    ensures { result ≡ (outcomeTold outcome).number }
+    ensures { result ≡ (outcome_told outcome).number }
 {
     match outcome {
         Outcome::Done => 0,
@@ -50,8 +50,8 @@ pub(crate) fn tell(outcome: Outcome) -> u64
 
 // The slot.
 pub(crate) fn tell_added(answer: AddAnswer, values: &mut [u64; 3]) -> u64
-    ensures value { result ≡ (addTold answer).number }
-    ensures values_after { values.new ≡ sets values.old 0 (addTold answer).values }
+    ensures value { result ≡ (add_told answer).number }
+    ensures values_after { values.new ≡ sets values.old 0 (add_told answer).values }
 {
     match answer {
         AddAnswer::No(e) => refused(e),
@@ -64,8 +64,8 @@ pub(crate) fn tell_added(answer: AddAnswer, values: &mut [u64; 3]) -> u64
 
 // The number.
 pub(crate) fn tell_sent(answer: SendAnswer, values: &mut [u64; 3]) -> u64
-    ensures value { result ≡ (sendTold answer).number }
-    ensures values_after { values.new ≡ sets values.old 0 (sendTold answer).values }
+    ensures value { result ≡ (send_told answer).number }
+    ensures values_after { values.new ≡ sets values.old 0 (send_told answer).values }
 {
     match answer {
         SendAnswer::No(e) => refused(e),
@@ -78,8 +78,8 @@ pub(crate) fn tell_sent(answer: SendAnswer, values: &mut [u64; 3]) -> u64
 
 // The number.
 pub(crate) fn tell_ack(answer: TakeAck, values: &mut [u64; 3]) -> u64
-    ensures value { result ≡ (takeAckTold answer).number }
-    ensures values_after { values.new ≡ sets values.old 0 (takeAckTold answer).values }
+    ensures value { result ≡ (take_ack_told answer).number }
+    ensures values_after { values.new ≡ sets values.old 0 (take_ack_told answer).values }
 {
     match answer {
         TakeAck::No(e) => refused(e),
@@ -92,8 +92,8 @@ pub(crate) fn tell_ack(answer: TakeAck, values: &mut [u64; 3]) -> u64
 
 // Kind, count and length.
 pub(crate) fn tell_resent(answer: ResendAnswer, values: &mut [u64; 3]) -> u64
-    ensures value { result ≡ (resendTold answer).number }
-    ensures values_after { values.new ≡ sets values.old 0 (resendTold answer).values }
+    ensures value { result ≡ (resend_told answer).number }
+    ensures values_after { values.new ≡ sets values.old 0 (resend_told answer).values }
 {
     match answer {
         ResendAnswer::No(e) => refused(e),
@@ -108,8 +108,8 @@ pub(crate) fn tell_resent(answer: ResendAnswer, values: &mut [u64; 3]) -> u64
 
 // Kind, number and length.
 pub(crate) fn tell_message(answer: HandOut, values: &mut [u64; 3]) -> u64
-    ensures value { result ≡ (handOutTold answer).number }
-    ensures values_after { values.new ≡ sets values.old 0 (handOutTold answer).values }
+    ensures value { result ≡ (hand_out_told answer).number }
+    ensures values_after { values.new ≡ sets values.old 0 (hand_out_told answer).values }
 {
     match answer {
         HandOut::No(e) => refused(e),
@@ -124,8 +124,8 @@ pub(crate) fn tell_message(answer: HandOut, values: &mut [u64; 3]) -> u64
 
 // 1 or 0.
 pub(crate) fn tell_due(answer: Due, values: &mut [u64; 3]) -> u64
-    ensures value { result ≡ (dueTold answer).number }
-    ensures values_after { values.new ≡ sets values.old 0 (dueTold answer).values }
+    ensures value { result ≡ (due_told answer).number }
+    ensures values_after { values.new ≡ sets values.old 0 (due_told answer).values }
 {
     match answer {
         Due::No(e) => refused(e),
@@ -138,8 +138,8 @@ pub(crate) fn tell_due(answer: Due, values: &mut [u64; 3]) -> u64
 
 // Slot, flushed or not, and the deadline; nothing where no packet is named.
 pub(crate) fn tell_timeout(answer: ConfirmTimeout, values: &mut [u64; 3]) -> u64
-    ensures value { result ≡ (confirmTimeoutTold answer).number }
-    ensures values_after { values.new ≡ sets values.old 0 (confirmTimeoutTold answer).values }
+    ensures value { result ≡ (confirm_timeout_told answer).number }
+    ensures values_after { values.new ≡ sets values.old 0 (confirm_timeout_told answer).values }
 {
     match answer {
         ConfirmTimeout::No(e) => refused(e),

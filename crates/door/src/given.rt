@@ -1,7 +1,7 @@
 // What a host's numbers say.
 ghost use Rattle.std.specs.Prelude.{◌≡◌};
 ghost use Rattle.words.specs.Meaning.{state_of};
-ghost use Rattle.door.specs.Given.{maxPingGiven, plainGiven, given};
+ghost use Rattle.door.specs.Given.{max_ping_given, plain_given, given};
 
 use engine::Receiving;
 use link::MaxPing;
@@ -12,7 +12,7 @@ use words::receiving::rx_of;
 
 // The longest round trip that a link may have, where it has one.
 pub(crate) fn max_ping_given(limited: bool, max_ping: u64) -> MaxPing
-    ensures { result ≡ maxPingGiven limited max_ping }
+    ensures { result ≡ max_ping_given limited max_ping }
 {
     if limited {
         return MaxPing::UpTo(max_ping);
@@ -21,7 +21,7 @@ pub(crate) fn max_ping_given(limited: bool, max_ping: u64) -> MaxPing
 }
 
 // A message, or none.
-#[derive(Drop)]
+#[derive(Clone, Copy)]
 pub enum Given {
     Message(ReliableMsg),
     Nothing,
@@ -29,7 +29,7 @@ pub enum Given {
 
 // The message that has no count.
 fn plain_given(kind: u8) -> Given
-    ensures { result ≡ plainGiven kind }
+    ensures { result ≡ plain_given kind }
 {
     if kind == LinkMsg::MSG_DATA {
         return Given::Message(ReliableMsg::Data);

@@ -1,12 +1,12 @@
 // Links: adding one, and the plain changes of a row.
 ghost use Rattle.std.specs.Prelude.{◌≡◌};
 ghost use Rattle.std.proofs.lemmas.List.Edits.{sets};
-ghost use Rattle.seq.specs.Numbers.{seqOf};
-ghost use Rattle.engine.specs.Answer.{outcomeTold};
-ghost use Rattle.engine.specs.Links.{addTold, addOf, confirmOf, block_of, mark_of, pingOf, pongOf};
+ghost use Rattle.seq.specs.Numbers.{seq_of};
+ghost use Rattle.engine.specs.Answer.{outcome_told};
+ghost use Rattle.engine.specs.Links.{add_told, add_of, confirm_of, block_of, mark_of, ping_of, pong_of};
 ghost use Rattle.words.specs.Meaning.{state_of};
 ghost use Rattle.words.specs.Ready.{Left};
-ghost use Rattle.door.specs.Given.{maxPingGiven};
+ghost use Rattle.door.specs.Given.{max_ping_given};
 
 use crate::answers::{UNSOUND, tell, tell_added};
 use crate::given::max_ping_given;
@@ -26,9 +26,9 @@ pub extern "C" fn fk_add(
     unconfirmed: bool,
     values: &mut [u64; 3],
 ) -> u64
-    ensures value { result ≡ (addTold (addOf (state_of words.old) link_id roundtrip (maxPingGiven limited max_ping) blocked unconfirmed).answer).number }
-    ensures words_after { state_of words.new ≡ (addOf (state_of words.old) link_id roundtrip (maxPingGiven limited max_ping) blocked unconfirmed).state }
-    ensures values_after { values.new ≡ sets values.old 0 (addTold (addOf (state_of words.old) link_id roundtrip (maxPingGiven limited max_ping) blocked unconfirmed).answer).values }
+    ensures value { result ≡ (add_told (add_of (state_of words.old) link_id roundtrip (max_ping_given limited max_ping) blocked unconfirmed).answer).number }
+    ensures words_after { state_of words.new ≡ (add_of (state_of words.old) link_id roundtrip (max_ping_given limited max_ping) blocked unconfirmed).state }
+    ensures values_after { values.new ≡ sets values.old 0 (add_told (add_of (state_of words.old) link_id roundtrip (max_ping_given limited max_ping) blocked unconfirmed).answer).values }
     ensures left { Left result words.old words.new }
 {
     if !is_sound(words) {
@@ -41,8 +41,8 @@ pub extern "C" fn fk_add(
 
 #[unsafe(no_mangle)]
 pub extern "C" fn fk_confirm(words: &mut [u64], slot: u8) -> u64
-    ensures value { result ≡ (outcomeTold (confirmOf (state_of words.old) slot).outcome).number }
-    ensures words_after { state_of words.new ≡ (confirmOf (state_of words.old) slot).state }
+    ensures value { result ≡ (outcome_told (confirm_of (state_of words.old) slot).outcome).number }
+    ensures words_after { state_of words.new ≡ (confirm_of (state_of words.old) slot).state }
     ensures left { Left result words.old words.new }
 {
     if !is_sound(words) {
@@ -53,7 +53,7 @@ pub extern "C" fn fk_confirm(words: &mut [u64], slot: u8) -> u64
 
 #[unsafe(no_mangle)]
 pub extern "C" fn fk_block(words: &mut [u64], slot: u8, blocked: bool) -> u64
-    ensures value { result ≡ (outcomeTold (block_of (state_of words.old) slot blocked).outcome).number }
+    ensures value { result ≡ (outcome_told (block_of (state_of words.old) slot blocked).outcome).number }
     ensures words_after { state_of words.new ≡ (block_of (state_of words.old) slot blocked).state }
     ensures left { Left result words.old words.new }
 {
@@ -66,8 +66,8 @@ pub extern "C" fn fk_block(words: &mut [u64], slot: u8, blocked: bool) -> u64
 // Sets the limit mark.
 #[unsafe(no_mangle)]
 pub extern "C" fn fk_mark(words: &mut [u64], slot: u8, number: u32) -> u64
-    ensures value { result ≡ (outcomeTold (mark_of (state_of words.old) slot (seqOf number)).outcome).number }
-    ensures words_after { state_of words.new ≡ (mark_of (state_of words.old) slot (seqOf number)).state }
+    ensures value { result ≡ (outcome_told (mark_of (state_of words.old) slot (seq_of number)).outcome).number }
+    ensures words_after { state_of words.new ≡ (mark_of (state_of words.old) slot (seq_of number)).state }
     ensures left { Left result words.old words.new }
 {
     if !is_sound(words) {
@@ -79,8 +79,8 @@ pub extern "C" fn fk_mark(words: &mut [u64], slot: u8, number: u32) -> u64
 // Notes that a ping was sent.
 #[unsafe(no_mangle)]
 pub extern "C" fn fk_ping(words: &mut [u64], slot: u8, time: u64) -> u64
-    ensures value { result ≡ (outcomeTold (pingOf (state_of words.old) slot time).outcome).number }
-    ensures words_after { state_of words.new ≡ (pingOf (state_of words.old) slot time).state }
+    ensures value { result ≡ (outcome_told (ping_of (state_of words.old) slot time).outcome).number }
+    ensures words_after { state_of words.new ≡ (ping_of (state_of words.old) slot time).state }
     ensures left { Left result words.old words.new }
 {
     if !is_sound(words) {
@@ -92,8 +92,8 @@ pub extern "C" fn fk_ping(words: &mut [u64], slot: u8, time: u64) -> u64
 // A pong arrived.
 #[unsafe(no_mangle)]
 pub extern "C" fn fk_pong(words: &mut [u64], slot: u8, time: u64) -> u64
-    ensures value { result ≡ (outcomeTold (pongOf (state_of words.old) slot time).outcome).number }
-    ensures words_after { state_of words.new ≡ (pongOf (state_of words.old) slot time).state }
+    ensures value { result ≡ (outcome_told (pong_of (state_of words.old) slot time).outcome).number }
+    ensures words_after { state_of words.new ≡ (pong_of (state_of words.old) slot time).state }
     ensures left { Left result words.old words.new }
 {
     if !is_sound(words) {

@@ -1,17 +1,17 @@
 // Messages as bytes: read for a host, and written for it.
 ghost use Rattle.std.specs.Prelude.{◌≡◌, ◌∷◌, []};
 ghost use Rattle.std.proofs.lemmas.List.Edits.{sets};
-ghost use Rattle.msg.specs.Messages.{reasonByte, blockByte, values_of};
-ghost use Rattle.msg.specs.Reading.{readTold};
-ghost use Rattle.msg.specs.Writing.{writtenTold, writeOf, bufferOf};
-ghost use Rattle.door.specs.Messages.{reasonGiven, blockGiven, linkGiven, askedLink};
+ghost use Rattle.msg.specs.Messages.{reason_byte, block_byte, values_of};
+ghost use Rattle.msg.specs.Reading.{read_told};
+ghost use Rattle.msg.specs.Writing.{written_told, write_of, buffer_of};
+ghost use Rattle.door.specs.Messages.{reason_given, block_given, link_given, asked_link};
 
 use crate::answers::{UNKNOWN, refused, word};
 use msg::{LinkMsg, Reading, RefusedReason, Written, read, write};
 use seq::Seq;
 
 fn reason_number(reason: RefusedReason) -> u64
-    ensures { result ≡ reasonByte reason }
+    ensures { result ≡ reason_byte reason }
 {
     match reason {
         RefusedReason::Closed => 1,
@@ -22,7 +22,7 @@ fn reason_number(reason: RefusedReason) -> u64
 }
 
 fn block_number(blocked: bool) -> u64
-    ensures { result ≡ blockByte blocked }
+    ensures { result ≡ block_byte blocked }
 {
     if blocked { 1 } else { 0 }
 }
@@ -79,8 +79,8 @@ fn say(msg: LinkMsg, values: &mut [u64; 3])
 // Reads one message from all of the bytes; the values are its kind and what it carries.
 #[unsafe(no_mangle)]
 pub extern "C" fn fk_read(bytes: &[u8], values: &mut [u64; 3]) -> u64
-    ensures value { result ≡ (readTold bytes.now).number }
-    ensures values_after { values.new ≡ sets values.old 0 (readTold bytes.now).values }
+    ensures value { result ≡ (read_told bytes.now).number }
+    ensures values_after { values.new ≡ sets values.old 0 (read_told bytes.now).values }
 {
     let reading = read(bytes);
     match reading {
@@ -93,7 +93,7 @@ pub extern "C" fn fk_read(bytes: &[u8], values: &mut [u64; 3]) -> u64
 }
 
 // A message, or none.
-#[derive(Drop)]
+#[derive(Clone, Copy)]
 pub enum LinkGiven {
     Message(LinkMsg),
     Nothing,
@@ -106,7 +106,7 @@ fn refused_for(reason: RefusedReason) -> LinkGiven
 }
 
 fn reason_given(number: u32) -> LinkGiven
-    ensures { result ≡ reasonGiven number }
+    ensures { result ≡ reason_given number }
 {
     match number {
         1 => refused_for(RefusedReason::Closed),
@@ -118,7 +118,7 @@ fn reason_given(number: u32) -> LinkGiven
 }
 
 fn block_given(number: u32) -> LinkGiven
-    ensures { result ≡ blockGiven number }
+    ensures { result ≡ block_given number }
 {
     match number {
         0 => LinkGiven::Message(LinkMsg::SetBlock { blocked: false }),
@@ -129,7 +129,7 @@ fn block_given(number: u32) -> LinkGiven
 
 // The message that a kind and two numbers name, as the values of fk_read do.
 fn link_given(kind: u8, first: u32, second: u32) -> LinkGiven
-    ensures { result ≡ linkGiven kind first second }
+    ensures { result ≡ link_given kind first second }
 {
     let seq = Seq(first);
     let msg = match kind {
@@ -161,8 +161,8 @@ fn link_given(kind: u8, first: u32, second: u32) -> LinkGiven
 
 // How many bytes were written.
 fn tell_written(answer: Written, values: &mut [u64; 3]) -> u64
-    ensures value { result ≡ (writtenTold answer).number }
-    ensures values_after { values.new ≡ sets values.old 0 (writtenTold answer).values }
+    ensures value { result ≡ (written_told answer).number }
+    ensures values_after { values.new ≡ sets values.old 0 (written_told answer).values }
 {
     match answer {
         Written::No(e) => refused(e),
@@ -182,9 +182,9 @@ pub extern "C" fn fk_write(
     second: u32,
     values: &mut [u64; 3],
 ) -> u64
-    ensures value { result ≡ askedLink (linkGiven kind first second) (λ m. (writtenTold (writeOf m buffer.old)).number) 20 }
-    ensures buffer_after { buffer.new ≡ askedLink (linkGiven kind first second) (λ m. bufferOf m buffer.old) buffer.old }
-    ensures values_after { values.new ≡ askedLink (linkGiven kind first second) (λ m. sets values.old 0 (writtenTold (writeOf m buffer.old)).values) values.old }
+    ensures value { result ≡ asked_link (link_given kind first second) (λ m. (written_told (write_of m buffer.old)).number) 20 }
+    ensures buffer_after { buffer.new ≡ asked_link (link_given kind first second) (λ m. buffer_of m buffer.old) buffer.old }
+    ensures values_after { values.new ≡ asked_link (link_given kind first second) (λ m. sets values.old 0 (written_told (write_of m buffer.old)).values) values.old }
 {
     let asked = link_given(kind, first, second);
     match asked {

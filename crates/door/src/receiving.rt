@@ -1,9 +1,9 @@
 // Messages that arrive, are shown and are taken.
 ghost use Rattle.std.specs.Prelude.{◌≡◌, length};
 ghost use Rattle.std.proofs.lemmas.List.Edits.{sets};
-ghost use Rattle.engine.specs.Answer.{outcomeTold};
-ghost use Rattle.engine.specs.HandingOut.{handOutTold, showingOf, take_of, takeRecords};
-ghost use Rattle.engine.specs.Receiving.{receiveOf, receiveStore, receiveRecords};
+ghost use Rattle.engine.specs.Answer.{outcome_told};
+ghost use Rattle.engine.specs.HandingOut.{hand_out_told, showing_of, take_of, take_records};
+ghost use Rattle.engine.specs.Receiving.{receive_of, receive_store, receive_records};
 ghost use Rattle.words.specs.Meaning.{state_of};
 ghost use Rattle.words.specs.Ready.{Left};
 ghost use Rattle.door.specs.Given.{asked, given};
@@ -25,10 +25,10 @@ fn receive_message(
     number: u32,
     payload: &[u8],
 ) -> u64
-    ensures value { result ≡ (outcomeTold (receiveOf (state_of words.old) (length store.old) records.old slot msg number (length payload.now)).outcome).number }
-    ensures words_after { state_of words.new ≡ (receiveOf (state_of words.old) (length store.old) records.old slot msg number (length payload.now)).state }
-    ensures store_after { store.new ≡ receiveStore (state_of words.old) store.old records.old slot msg number payload.now }
-    ensures records_after { records.new ≡ receiveRecords (state_of words.old) (length store.old) records.old slot msg number (length payload.now) }
+    ensures value { result ≡ (outcome_told (receive_of (state_of words.old) (length store.old) records.old slot msg number (length payload.now)).outcome).number }
+    ensures words_after { state_of words.new ≡ (receive_of (state_of words.old) (length store.old) records.old slot msg number (length payload.now)).state }
+    ensures store_after { store.new ≡ receive_store (state_of words.old) store.old records.old slot msg number payload.now }
+    ensures records_after { records.new ≡ receive_records (state_of words.old) (length store.old) records.old slot msg number (length payload.now) }
     ensures left { Left result words.old words.new }
 {
     let rx = rx_said(words);
@@ -53,10 +53,10 @@ pub extern "C" fn fk_receive(
     count: u32,
     payload: &[u8],
 ) -> u64
-    ensures value { result ≡ asked (given kind count) (λ m. (outcomeTold (receiveOf (state_of words.old) (length store.old) records.old slot m number (length payload.now)).outcome).number) 20 }
-    ensures words_after { state_of words.new ≡ asked (given kind count) (λ m. (receiveOf (state_of words.old) (length store.old) records.old slot m number (length payload.now)).state) (state_of words.old) }
-    ensures store_after { store.new ≡ asked (given kind count) (λ m. receiveStore (state_of words.old) store.old records.old slot m number payload.now) store.old }
-    ensures records_after { records.new ≡ asked (given kind count) (λ m. receiveRecords (state_of words.old) (length store.old) records.old slot m number (length payload.now)) records.old }
+    ensures value { result ≡ asked (given kind count) (λ m. (outcome_told (receive_of (state_of words.old) (length store.old) records.old slot m number (length payload.now)).outcome).number) 20 }
+    ensures words_after { state_of words.new ≡ asked (given kind count) (λ m. (receive_of (state_of words.old) (length store.old) records.old slot m number (length payload.now)).state) (state_of words.old) }
+    ensures store_after { store.new ≡ asked (given kind count) (λ m. receive_store (state_of words.old) store.old records.old slot m number payload.now) store.old }
+    ensures records_after { records.new ≡ asked (given kind count) (λ m. receive_records (state_of words.old) (length store.old) records.old slot m number (length payload.now)) records.old }
     ensures left { Left result words.old words.new }
 {
     let asked = message_given(kind, count);
@@ -74,8 +74,8 @@ pub extern "C" fn fk_showing(
     records: &[u64],
     values: &mut [u64; 3],
 ) -> u64
-    ensures value { result ≡ (handOutTold (showingOf (state_of words.now) (length store.now) records.now)).number }
-    ensures values_after { values.new ≡ sets values.old 0 (handOutTold (showingOf (state_of words.now) (length store.now) records.now)).values }
+    ensures value { result ≡ (hand_out_told (showing_of (state_of words.now) (length store.now) records.now)).number }
+    ensures values_after { values.new ≡ sets values.old 0 (hand_out_told (showing_of (state_of words.now) (length store.now) records.now)).values }
 {
     let rx = rx_said(words);
     if !lengths_ok(rx, store.len(), records.len()) {
@@ -90,10 +90,10 @@ pub extern "C" fn fk_showing(
 // Takes the oldest ready message: kind, number and length.
 #[unsafe(no_mangle)]
 pub extern "C" fn fk_take(words: &mut [u64], records: &mut [u64], values: &mut [u64; 3]) -> u64
-    ensures value { result ≡ (handOutTold (take_of (state_of words.old) records.old).answer).number }
+    ensures value { result ≡ (hand_out_told (take_of (state_of words.old) records.old).answer).number }
     ensures words_after { state_of words.new ≡ (take_of (state_of words.old) records.old).state }
-    ensures records_after { records.new ≡ takeRecords (state_of words.old) records.old }
-    ensures values_after { values.new ≡ sets values.old 0 (handOutTold (take_of (state_of words.old) records.old).answer).values }
+    ensures records_after { records.new ≡ take_records (state_of words.old) records.old }
+    ensures values_after { values.new ≡ sets values.old 0 (hand_out_told (take_of (state_of words.old) records.old).answer).values }
     ensures left { Left result words.old words.new }
 {
     let rx = rx_said(words);

@@ -1,16 +1,16 @@
 // Messages that are sent, and what becomes of them.
 ghost use Rattle.std.specs.Prelude.{◌≡◌, length};
 ghost use Rattle.std.proofs.lemmas.List.Edits.{sets};
-ghost use Rattle.engine.specs.Acking.{ackOf};
-ghost use Rattle.engine.specs.Answer.{outcomeTold};
-ghost use Rattle.engine.specs.Deadlines.{confirmTimeoutTold, earliestConfirmTimeoutOf};
-ghost use Rattle.engine.specs.Flushing.{flushOf};
-ghost use Rattle.engine.specs.Resending.{resendTold, resendOf};
-ghost use Rattle.engine.specs.Sending.{sendTold, sendOf, sendStore};
-ghost use Rattle.engine.specs.Unconfirming.{unconfirmOf, removeOf};
+ghost use Rattle.engine.specs.Acking.{ack_of};
+ghost use Rattle.engine.specs.Answer.{outcome_told};
+ghost use Rattle.engine.specs.Deadlines.{confirm_timeout_told, earliest_confirm_timeout_of};
+ghost use Rattle.engine.specs.Flushing.{flush_of};
+ghost use Rattle.engine.specs.Resending.{resend_told, resend_of};
+ghost use Rattle.engine.specs.Sending.{send_told, send_of, send_store};
+ghost use Rattle.engine.specs.Unconfirming.{unconfirm_of, remove_of};
 ghost use Rattle.words.specs.Meaning.{state_of};
 ghost use Rattle.words.specs.Ready.{Left};
-ghost use Rattle.door.specs.Given.{asked, given, timeoutGiven};
+ghost use Rattle.door.specs.Given.{asked, given, timeout_given};
 
 use crate::answers::{UNKNOWN, UNSOUND, WRONG_LENGTH, tell, tell_resent, tell_sent, tell_timeout};
 use crate::given::{Given, message_given};
@@ -30,10 +30,10 @@ fn send_message(
     payload: &[u8],
     values: &mut [u64; 3],
 ) -> u64
-    ensures value { result ≡ (sendTold (sendOf (state_of words.old) (length store.old) slot time msg (length payload.now)).answer).number }
-    ensures words_after { state_of words.new ≡ (sendOf (state_of words.old) (length store.old) slot time msg (length payload.now)).state }
-    ensures store_after { store.new ≡ sendStore (state_of words.old) store.old slot time msg payload.now }
-    ensures values_after { values.new ≡ sets values.old 0 (sendTold (sendOf (state_of words.old) (length store.old) slot time msg (length payload.now)).answer).values }
+    ensures value { result ≡ (send_told (send_of (state_of words.old) (length store.old) slot time msg (length payload.now)).answer).number }
+    ensures words_after { state_of words.new ≡ (send_of (state_of words.old) (length store.old) slot time msg (length payload.now)).state }
+    ensures store_after { store.new ≡ send_store (state_of words.old) store.old slot time msg payload.now }
+    ensures values_after { values.new ≡ sets values.old 0 (send_told (send_of (state_of words.old) (length store.old) slot time msg (length payload.now)).answer).values }
     ensures left { Left result words.old words.new }
 {
     if store.len() != SENT_BYTES {
@@ -60,10 +60,10 @@ pub extern "C" fn fk_send(
     payload: &[u8],
     values: &mut [u64; 3],
 ) -> u64
-    ensures value { result ≡ asked (given kind count) (λ m. (sendTold (sendOf (state_of words.old) (length store.old) slot time m (length payload.now)).answer).number) 20 }
-    ensures words_after { state_of words.new ≡ asked (given kind count) (λ m. (sendOf (state_of words.old) (length store.old) slot time m (length payload.now)).state) (state_of words.old) }
-    ensures store_after { store.new ≡ asked (given kind count) (λ m. sendStore (state_of words.old) store.old slot time m payload.now) store.old }
-    ensures values_after { values.new ≡ asked (given kind count) (λ m. sets values.old 0 (sendTold (sendOf (state_of words.old) (length store.old) slot time m (length payload.now)).answer).values) values.old }
+    ensures value { result ≡ asked (given kind count) (λ m. (send_told (send_of (state_of words.old) (length store.old) slot time m (length payload.now)).answer).number) 20 }
+    ensures words_after { state_of words.new ≡ asked (given kind count) (λ m. (send_of (state_of words.old) (length store.old) slot time m (length payload.now)).state) (state_of words.old) }
+    ensures store_after { store.new ≡ asked (given kind count) (λ m. send_store (state_of words.old) store.old slot time m payload.now) store.old }
+    ensures values_after { values.new ≡ asked (given kind count) (λ m. sets values.old 0 (send_told (send_of (state_of words.old) (length store.old) slot time m (length payload.now)).answer).values) values.old }
     ensures left { Left result words.old words.new }
 {
     let asked = message_given(kind, count);
@@ -82,9 +82,9 @@ pub extern "C" fn fk_resend(
     number: u32,
     values: &mut [u64; 3],
 ) -> u64
-    ensures value { result ≡ (resendTold (resendOf (state_of words.old) slot time number).answer).number }
-    ensures words_after { state_of words.new ≡ (resendOf (state_of words.old) slot time number).state }
-    ensures values_after { values.new ≡ sets values.old 0 (resendTold (resendOf (state_of words.old) slot time number).answer).values }
+    ensures value { result ≡ (resend_told (resend_of (state_of words.old) slot time number).answer).number }
+    ensures words_after { state_of words.new ≡ (resend_of (state_of words.old) slot time number).state }
+    ensures values_after { values.new ≡ sets values.old 0 (resend_told (resend_of (state_of words.old) slot time number).answer).values }
     ensures left { Left result words.old words.new }
 {
     if !is_sound(words) {
@@ -96,8 +96,8 @@ pub extern "C" fn fk_resend(
 // An ack of a number arrived.
 #[unsafe(no_mangle)]
 pub extern "C" fn fk_ack(words: &mut [u64], slot: u8, time: u64, number: u32) -> u64
-    ensures value { result ≡ (outcomeTold (ackOf (state_of words.old) slot time number).outcome).number }
-    ensures words_after { state_of words.new ≡ (ackOf (state_of words.old) slot time number).state }
+    ensures value { result ≡ (outcome_told (ack_of (state_of words.old) slot time number).outcome).number }
+    ensures words_after { state_of words.new ≡ (ack_of (state_of words.old) slot time number).state }
     ensures left { Left result words.old words.new }
 {
     if !is_sound(words) {
@@ -108,8 +108,8 @@ pub extern "C" fn fk_ack(words: &mut [u64], slot: u8, time: u64, number: u32) ->
 
 #[unsafe(no_mangle)]
 pub extern "C" fn fk_flush(words: &mut [u64], slot: u8, time: u64) -> u64
-    ensures value { result ≡ (outcomeTold (flushOf (state_of words.old) slot time).outcome).number }
-    ensures words_after { state_of words.new ≡ (flushOf (state_of words.old) slot time).state }
+    ensures value { result ≡ (outcome_told (flush_of (state_of words.old) slot time).outcome).number }
+    ensures words_after { state_of words.new ≡ (flush_of (state_of words.old) slot time).state }
     ensures left { Left result words.old words.new }
 {
     if !is_sound(words) {
@@ -120,8 +120,8 @@ pub extern "C" fn fk_flush(words: &mut [u64], slot: u8, time: u64) -> u64
 
 #[unsafe(no_mangle)]
 pub extern "C" fn fk_unconfirm(words: &mut [u64], slot: u8) -> u64
-    ensures value { result ≡ (outcomeTold (unconfirmOf (state_of words.old) slot).outcome).number }
-    ensures words_after { state_of words.new ≡ (unconfirmOf (state_of words.old) slot).state }
+    ensures value { result ≡ (outcome_told (unconfirm_of (state_of words.old) slot).outcome).number }
+    ensures words_after { state_of words.new ≡ (unconfirm_of (state_of words.old) slot).state }
     ensures left { Left result words.old words.new }
 {
     if !is_sound(words) {
@@ -132,8 +132,8 @@ pub extern "C" fn fk_unconfirm(words: &mut [u64], slot: u8) -> u64
 
 #[unsafe(no_mangle)]
 pub extern "C" fn fk_remove(words: &mut [u64], slot: u8) -> u64
-    ensures value { result ≡ (outcomeTold (removeOf (state_of words.old) slot).outcome).number }
-    ensures words_after { state_of words.new ≡ (removeOf (state_of words.old) slot).state }
+    ensures value { result ≡ (outcome_told (remove_of (state_of words.old) slot).outcome).number }
+    ensures words_after { state_of words.new ≡ (remove_of (state_of words.old) slot).state }
     ensures left { Left result words.old words.new }
 {
     if !is_sound(words) {
@@ -154,8 +154,8 @@ pub extern "C" fn fk_earliest_confirm_timeout(
     unreliable: bool,
     values: &mut [u64; 3],
 ) -> u64
-    ensures value { result ≡ (confirmTimeoutTold (earliestConfirmTimeoutOf (state_of words.now) (timeoutGiven roundtrip_factor resent_factor unreliable_factor min max) unreliable)).number }
-    ensures values_after { values.new ≡ sets values.old 0 (confirmTimeoutTold (earliestConfirmTimeoutOf (state_of words.now) (timeoutGiven roundtrip_factor resent_factor unreliable_factor min max) unreliable)).values }
+    ensures value { result ≡ (confirm_timeout_told (earliest_confirm_timeout_of (state_of words.now) (timeout_given roundtrip_factor resent_factor unreliable_factor min max) unreliable)).number }
+    ensures values_after { values.new ≡ sets values.old 0 (confirm_timeout_told (earliest_confirm_timeout_of (state_of words.now) (timeout_given roundtrip_factor resent_factor unreliable_factor min max) unreliable)).values }
 {
     if !is_sound(words) {
         return UNSOUND;

@@ -1,9 +1,9 @@
 // The slow links.
 ghost use Rattle.std.specs.Prelude.{◌≡◌, ◌∷◌, []};
 ghost use Rattle.std.proofs.lemmas.List.Edits.{sets};
-ghost use Rattle.engine.specs.Slowness.{slowOf};
+ghost use Rattle.engine.specs.Slowness.{slow_of};
 ghost use Rattle.words.specs.Meaning.{state_of};
-ghost use Rattle.door.specs.Slowness.{eightOf};
+ghost use Rattle.door.specs.Slowness.{eight_of};
 
 use engine::SlowLinks;
 use links_in_place::slowness::slow;
@@ -11,7 +11,7 @@ use words::layout::WORDS;
 
 // Words of another length say eight empty rows, of which none is listed.
 fn slow_said(words: &[u64]) -> SlowLinks
-    ensures { result ≡ slowOf (state_of words.now).links }
+    ensures { result ≡ slow_of (state_of words.now).links }
 {
     if words.len() != WORDS {
         return SlowLinks {
@@ -33,8 +33,8 @@ fn wide(slot: u8) -> u64
 #[unsafe(no_mangle)]
 pub extern "C" fn fk_slow(words: &[u64], slots: &mut [u64; 8], values: &mut [u64; 3]) -> u64
     ensures value { result ≡ 0 }
-    ensures slots_after { slots.new ≡ sets slots.old 0 (eightOf (slowOf (state_of words.now).links).slots) }
-    ensures values_after { values.new ≡ sets values.old 0 ((slowOf (state_of words.now).links).count ∷ []) }
+    ensures slots_after { slots.new ≡ sets slots.old 0 (eight_of (slow_of (state_of words.now).links).slots) }
+    ensures values_after { values.new ≡ sets values.old 0 ((slow_of (state_of words.now).links).count ∷ []) }
 {
     let found = slow_said(words);
     let listed = found.slots;

@@ -1,12 +1,12 @@
 // A state's words: made, and judged.
 ghost use Rattle.std.specs.Prelude.{◌≡◌, [], length, replicate};
-ghost use Rattle.engine.specs.Decide.{soundb, soundWithb};
-ghost use Rattle.engine.specs.Starting.{freshState};
-ghost use Rattle.engine.specs.Stores.{storeBy};
-ghost use Rattle.refusal.specs.Answers.{toldBy};
+ghost use Rattle.engine.specs.Decide.{soundb, sound_withb};
+ghost use Rattle.engine.specs.Starting.{fresh_state};
+ghost use Rattle.engine.specs.Stores.{store_by};
+ghost use Rattle.refusal.specs.Answers.{told_by};
 ghost use Rattle.words.specs.Meaning.{state_of};
 ghost use Rattle.words.specs.Ready.{Left};
-ghost use Rattle.door.specs.Fresh.{freshGate, stateBy};
+ghost use Rattle.door.specs.Fresh.{fresh_gate, state_by};
 
 use crate::answers::{WRONG_LENGTH, refused};
 use engine::starting::{empty_records, fresh_verdict};
@@ -24,9 +24,9 @@ pub extern "C" fn fk_fresh(
     cells: u32,
     records: &mut [u64],
 ) -> u64
-    ensures value { result ≡ (toldBy (freshGate recv_buffer cells (length records.old) (length words.old)) []).number }
-    ensures words_after { state_of words.new ≡ stateBy (freshGate recv_buffer cells (length records.old) (length words.old)) (state_of words.old) (freshState start recv_buffer cells) }
-    ensures records_after { records.new ≡ storeBy (freshGate recv_buffer cells (length records.old) (length words.old)) records.old (replicate (length records.old) 0) }
+    ensures value { result ≡ (told_by (fresh_gate recv_buffer cells (length records.old) (length words.old)) []).number }
+    ensures words_after { state_of words.new ≡ state_by (fresh_gate recv_buffer cells (length records.old) (length words.old)) (state_of words.old) (fresh_state start recv_buffer cells) }
+    ensures records_after { records.new ≡ store_by (fresh_gate recv_buffer cells (length records.old) (length words.old)) records.old (replicate (length records.old) 0) }
     ensures left { Left result words.old words.new }
 {
     let verdict = fresh_verdict(recv_buffer, cells, records.len());
@@ -54,7 +54,7 @@ pub extern "C" fn fk_is_sound(words: &[u64]) -> bool
 // .. and sound with these records.
 #[unsafe(no_mangle)]
 pub extern "C" fn fk_is_sound_with(words: &[u64], records: &[u64]) -> bool
-    ensures { result ≡ soundWithb (state_of words.now) records.now }
+    ensures { result ≡ sound_withb (state_of words.now) records.now }
 {
     judging::is_sound_with(words, records)
 }

@@ -8,21 +8,21 @@ use Rattle.refusal.specs.Refusals.{refuse}
 use Rattle.engine.specs.declared.state.SentReliableStatus.{SentReliableStatus}
 use Rattle.engine.specs.declared.state.SentReliableStatus.TheVariants.{Sent, Received, ResendQueued}
 use Rattle.engine.specs.declared.answer.Outcome.TheVariants as outcomes
-use Rattle.engine.specs.Records.{isReadyKind}
-use Rattle.engine.specs.Table.{packetOf}
-use Rattle.engine.specs.Acking.{ackOf}
+use Rattle.engine.specs.Records.{is_ready_kind}
+use Rattle.engine.specs.Table.{packet_of}
+use Rattle.engine.specs.Acking.{ack_of}
 use Rattle.engine.specs.declared.handing_out.HandOut.TheVariants as handouts
 use Rattle.engine.specs.HandingOut.{take_of}
 use Rattle.laws.specs.Calls as calls
 use Rattle.ends.specs.World.{Msg, Packet, World, swap, called, newest, Brought, BroughtAck, AckFor, TimelyAck, Acked, Step, at_a, Run, ◌then◌, Fresh}
 
-abbrev pub noMsg : Msg
-noMsg = record { kind = msgs.Data; bytes = [] }
+abbrev pub no_msg : Msg
+no_msg = record { kind = msgs.Data; bytes = [] }
 
 -- "the data and finish marks (SendFinish)" among some messages
 unfoldable pub handed : List Msg → List Msg
 handed [] = []
-handed (m ∷ ms) = cond (isReadyKind m.kind) (m ∷ handed ms) (handed ms)
+handed (m ∷ ms) = cond (is_ready_kind m.kind) (m ∷ handed ms) (handed ms)
 
 abbrev pub Beginning : List Msg → List Msg → Type 0
 Beginning xs ys = (zs : List Msg) × (ys ≡ xs ++ zs)
@@ -33,7 +33,7 @@ Safe W = Beginning W.b.out (handed W.a.given)
 
 -- message i of those that were given is among what was accepted
 abbrev pub IsAccepted : List Packet → List Msg → ℕ → Type 0
-IsAccepted accepted given i = (p : Packet) × Memᴰ p accepted × (p.index ≡ i) × (p.msg ≡ get_or given i noMsg)
+IsAccepted accepted given i = (p : Packet) × Memᴰ p accepted × (p.index ≡ i) × (p.msg ≡ get_or given i no_msg)
 
 -- message i of those that a was given has been accepted by b, by a call not refused
 abbrev pub Accepted : World → ℕ → Type 0
@@ -52,8 +52,8 @@ abbrev pub AllOut : World → Type 0
 AllOut W = Emptied W → (take_of W.b.state W.b.records).answer ≡ handouts.No (refuse 19 tt) → W.b.out ≡ handed W.a.given
 
 -- the status of the packet of message i
-abbrev pub statusOf : World → ℕ → SentReliableStatus
-statusOf W i = (packetOf W.a.state.tx (plus W.start i)).status
+abbrev pub status_of : World → ℕ → SentReliableStatus
+status_of W i = (packet_of W.a.state.tx (plus W.start i)).status
 
 -- "the packet is Sent there"
 abbrev pub SentOver : SentReliableStatus → ℕ → Type 0
@@ -65,7 +65,7 @@ SentOver (ResendQueued link) slot = ⊥
 -- over it unrefused" isn't asked for: `timely` says that a message of the number was accepted, over whatever link
 pub data Returned (U : World) (i : ℕ) : (W : World) → Run U W → Type 0 where
   now : {W : World} (r : Run U W) (slot time n : ℕ) (brought : BroughtAck n W.ba) (timely : TimelyAck n W.a W.b)
-      → n ≡ plus W.start i → SentOver (statusOf W i) slot → (ackOf W.a.state slot time n).outcome ≡ outcomes.Done
+      → n ≡ plus W.start i → SentOver (status_of W i) slot → (ack_of W.a.state slot time n).outcome ≡ outcomes.Done
       → Returned U i (called W (calls.Ack slot time n)) (◌then◌ r (at_a (Acked slot time n brought timely)))
   earlier : {W X : World} {r : Run U W} (x : Step W X) → Returned U i W r → Returned U i X (◌then◌ r x)
 
@@ -73,7 +73,7 @@ pub data Returned (U : World) (i : ℕ) : (W : World) → Run U W → Type 0 whe
 pub record Open (W : World) (i : ℕ) : Type 0 where
   pub given : i < length W.a.given
   pub in-table : length W.a.given ≤ i + W.a.state.tx.txed_count
-  pub unreceived : statusOf W i ≡ Received → ⊥
+  pub unreceived : status_of W i ≡ Received → ⊥
 
 -- "sending stops": nothing is given to a from U to W
 abbrev pub Stops : World → World → Type 0
@@ -87,7 +87,7 @@ Drains U = (W : World) (r : Run U W) → Stops U W → ((i : ℕ) → Open U i �
 pub record Labelled (start : ℕ) (given : List Msg) (p : Packet) : Type 0 where
   pub inside : p.index < length given
   pub number_is : p.number ≡ plus start p.index
-  pub msg-is : p.msg ≡ get_or given p.index noMsg
+  pub msg-is : p.msg ≡ get_or given p.index no_msg
 
 -- .. of each message of a that is on the links or that b accepted. The next number is that of the place after all that was given, and an ack
 -- on the links is for a message that was accepted: so Timely and TimelyAck say how late is too late, and nothing else

@@ -19,19 +19,19 @@ use Rattle.engine.specs.declared.state.SentReliable.{SentReliable}
 use Rattle.engine.specs.declared.state.State.{State}
 use Rattle.engine.specs.declared.answer.Outcome.TheVariants as outcomes
 use Rattle.engine.specs.Answer.{done-passed}
-use Rattle.engine.specs.Packets.{noPacket, packets, isReceived}
-use Rattle.engine.specs.Table.{in_table, lookedAt}
+use Rattle.engine.specs.Packets.{no_packet, packets, is_received}
+use Rattle.engine.specs.Table.{in_table, looked_at}
 use Rattle.engine.specs.InTable.{looked-cell}
-use Rattle.engine.specs.Sending.{sentState, sentBy, sendOf}
-use Rattle.engine.specs.Acking.{settled, ackedState, ackVerdict, ackOf}
+use Rattle.engine.specs.Sending.{sent_state, sent_by, send_of}
+use Rattle.engine.specs.Acking.{settled, acked_state, ack_verdict, ack_of}
 use Rattle.laws.specs.Good.{Good}
 use Rattle.laws.specs.Calls as calls
 use Rattle.laws.specs.Calls.{Holding, next, done}
 use Rattle.laws.specs.Passed.{next-keeps, answer_keeps, left_passed, passed}
 use Rattle.laws.specs.PacketsKept.{packets-count, map_at}
-use Rattle.laws.specs.PacketEffects.{restated, changeAt, acked-packets, sweeps}
-use Rattle.ends.specs.World.{End, World, holds, called, TimelyAck, givenBy, sendAt, resendAt, receiveAt, takeAt, takeAckAt, Call, Other, Send, Resend, Receive, Acked, Take, TakeAck}
-use Rattle.ends.specs.Demand.{statusOf, SentOver}
+use Rattle.laws.specs.PacketEffects.{restated, change_at, acked-packets, sweeps}
+use Rattle.ends.specs.World.{End, World, holds, called, TimelyAck, given_by, send_at, resend_at, receive_at, take_at, take_ack_at, Call, Other, Send, Resend, Receive, Acked, Take, TakeAck}
+use Rattle.ends.specs.Demand.{status_of, SentOver}
 use Rattle.ends.specs.Inv.{way, Inv}
 use Rattle.ends.specs.TxSteps.{longer}
 use Rattle.ends.specs.Sender.{ack-small}
@@ -40,29 +40,29 @@ use Rattle.ends.specs.Left.{TxLeft, other-left, number-place, resent-left, recei
 -- ---- over a list of packets: message j, of `given` ones, is Received, or no more in the table
 
 abbrev DoneIn : ℕ → List SentReliable → ℕ → Type 0
-DoneIn given ps j = (k : ℕ) → k < length ps → j + length ps ≡ given + k → isReceived (get_or ps k noPacket).status ≡ true
+DoneIn given ps j = (k : ℕ) → k < length ps → j + length ps ≡ given + k → is_received (get_or ps k no_packet).status ≡ true
 
 module _ (given : ℕ) (ps : List SentReliable) (j : ℕ) where
   done-restated : (change : SentReliable → SentReliableStatus)
-      → ((k : ℕ) → k < length ps → j + length ps ≡ given + k → isReceived (change (get_or ps k noPacket)) ≡ true) → DoneIn given (map (restated change) ps) j
+      → ((k : ℕ) → k < length ps → j + length ps ≡ given + k → is_received (change (get_or ps k no_packet)) ≡ true) → DoneIn given (map (restated change) ps) j
   done-restated change stays k l q =
       let long : length (map (restated change) ps) ≡ length ps = length-map ps (restated change) in
       let l' : k < length ps = omega (arith, long) in
-      rw (map_at (restated change) noPacket ps k l') (stays k l' (omega (arith, long)))
+      rw (map_at (restated change) no_packet ps k l') (stays k l' (omega (arith, long)))
 
   done-dropped : (gone : ℕ) → gone ≤ length ps → DoneIn given ps j → DoneIn given (drop gone ps) j
   done-dropped gone few d k l q =
       let long : length (drop gone ps) ≡ length ps - gone = length-drop gone ps in
-      rw (get_or-drop gone ps k noPacket) (d (gone + k) (omega (arith, long)) (omega (arith, long)))
+      rw (get_or-drop gone ps k no_packet) (d (gone + k) (omega (arith, long)) (omega (arith, long)))
 
 -- what is Received stays so
-settled-received : (slot : ℕ) (st : SentReliableStatus) → isReceived st ≡ true → isReceived (settled slot st) ≡ true
+settled-received : (slot : ℕ) (st : SentReliableStatus) → is_received st ≡ true → is_received (settled slot st) ≡ true
 unfolding settled
 settled-received slot (statuses.Sent flight) r = false-true r
 settled-received slot statuses.Received r = refl
 settled-received slot (statuses.ResendQueued link) r = refl
 
-over-settled : (slot : ℕ) (st : SentReliableStatus) → SentOver st slot → isReceived (settled slot st) ≡ true
+over-settled : (slot : ℕ) (st : SentReliableStatus) → SentOver st slot → is_received (settled slot st) ≡ true
 unfolding settled
 over-settled slot (statuses.Sent flight) o = simp (eq-eqb flight.slot slot o)
 over-settled slot statuses.Received o = absurd o
@@ -94,21 +94,21 @@ module _ (W : World) (i : Inv (way W)) (good : Good W.a.state) (j : ℕ) where
 
   -- an ack: where each packet of message j is Received once its status is settled
   done-acked : (slot time n : ℕ) → n < 2 ^ 32
-      → ((k : ℕ) → k < length ps → j + length ps ≡ length W.a.given + k → isReceived (changeAt n (settled slot) (get_or ps k noPacket)) ≡ true)
+      → ((k : ℕ) → k < length ps → j + length ps ≡ length W.a.given + k → is_received (change_at n (settled slot) (get_or ps k no_packet)) ≡ true)
       → DoneBy (done (calls.Ack slot time n) h)
   done-acked slot time n number stays =
-      let qs = map (restated (changeAt n (settled slot))) ps in
+      let qs = map (restated (change_at n (settled slot))) ps in
       let sw = sweeps qs in
       subst (λ (l : List SentReliable). DoneIn (length W.a.given) l j) (sym (acked-packets S good slot time n number ∙ sw.left))
-      (done-dropped (length W.a.given) qs j sw.gone sw.within (done-restated (length W.a.given) ps j (changeAt n (settled slot)) stays))
+      (done-dropped (length W.a.given) qs j sw.gone sw.within (done-restated (length W.a.given) ps j (change_at n (settled slot)) stays))
 
   -- a call by which nothing is given keeps what is done
   pub done-step : {X : World} → Call W X → length X.a.given ≡ length W.a.given → Done W.a j → Done X.a j
-  unfolding sendAt sendOf resendAt receiveAt takeAt takeAckAt
+  unfolding send_at send_of resend_at receive_at take_at take_ack_at
   done-step (Other c u typed) quiet d = done-left (next c h) (other-left h good c u typed).tx d
   done-step (Send slot time m) quiet d =
-      answer_keeps (calls.Send slot time m.kind m.bytes) h (λ v. (sentBy v S (sentState S slot time m.kind (length m.bytes))).answer)
-      (λ a k. length (givenBy a W.a.given m) ≡ length W.a.given → DoneIn (length (givenBy a W.a.given m)) (packets k.state.tx) j)
+      answer_keeps (calls.Send slot time m.kind m.bytes) h (λ v. (sent_by v S (sent_state S slot time m.kind (length m.bytes))).answer)
+      (λ a k. length (given_by a W.a.given m) ≡ length W.a.given → DoneIn (length (given_by a W.a.given m)) (packets k.state.tx) j)
       (λ e more. absurd (omega (arith, more, longer W.a.given m))) (λ r same. d) quiet
   done-step (Resend slot time n number) quiet d =
       let c = calls.Resend slot time n in
@@ -119,13 +119,13 @@ module _ (W : World) (i : Inv (way W)) (good : Good W.a.state) (j : ℕ) where
   done-step (Acked slot time n brought timely) quiet d =
       next-keeps (calls.Ack slot time n) h DoneBy d
       (λ e. done-acked slot time n (ack-small W i good timely)
-      (λ k l q. cases (eqb (get_or ps k noPacket).seq.0 n) (λ t. simp t (settled-received slot (get_or ps k noPacket).status (d k l q))) (λ t. simp t (d k l q))))
+      (λ k l q. cases (eqb (get_or ps k no_packet).seq.0 n) (λ t. simp t (settled-received slot (get_or ps k no_packet).status (d k l q))) (λ t. simp t (d k l q))))
   done-step Take quiet d = next-keeps calls.Take h DoneBy d (λ e. done-left (done calls.Take h) (taken-tx h good) d)
   done-step (TakeAck slot) quiet d = next-keeps (calls.TakeAck slot) h DoneBy d (λ e. done-left (done (calls.TakeAck slot) h) (took-ack-tx h good slot) d)
 
   -- the packet of message j, by its number and in its place
-  pub status-at : (k : ℕ) → k < length ps → j + length ps ≡ length W.a.given + k → statusOf W j ≡ (get_or ps k noPacket).status
-  unfolding in_table lookedAt
+  pub status-at : (k : ℕ) → k < length ps → j + length ps ≡ length W.a.given + k → status_of W j ≡ (get_or ps k no_packet).status
+  unfolding in_table looked_at
   status-at k l q =
       let n = plus W.start j in
       let count = packets-count S.tx in
@@ -134,20 +134,20 @@ module _ (W : World) (i : Inv (way W)) (good : Good W.a.state) (j : ℕ) where
       let b = past S.tx.tx_seq.0 n in
       let held : in_table S.tx n ≡ true = join (le-leb 1 b (omega (arith, back))) (le-leb b S.tx.txed_count (omega (arith, back, count))) in
       let here = number-place h good k n (omega (arith, count)) (i.txi.each k j l q).number_is in
-      ap (λ (p : SentReliable). p.status) (looked-cell S good.shaped good.sound n (plus-lt W.start j) held) ∙ ap (λ x. (get_or ps x noPacket).status) here
+      ap (λ (p : SentReliable). p.status) (looked-cell S good.shaped good.sound n (plus-lt W.start j) held) ∙ ap (λ x. (get_or ps x no_packet).status) here
 
   -- an ack that comes where the packet was Sent
-  pub done-now : (slot time n : ℕ) → TimelyAck n W.a W.b → n ≡ plus W.start j → SentOver (statusOf W j) slot → (ackOf S slot time n).outcome ≡ outcomes.Done
+  pub done-now : (slot time n : ℕ) → TimelyAck n W.a W.b → n ≡ plus W.start j → SentOver (status_of W j) slot → (ack_of S slot time n).outcome ≡ outcomes.Done
       → Done (called W (calls.Ack slot time n)).a j
-  unfolding ackOf
+  unfolding ack_of
   done-now slot time n timely n-is over ok =
       let c = calls.Ack slot time n in
-      let e = done-passed (ackVerdict S slot time n) S (ackedState S slot time n) ok in
+      let e = done-passed (ack_verdict S slot time n) S (acked_state S slot time n) ok in
       subst DoneBy (sym (left_passed c h e))
       (done-acked slot time n (ack-small W i good timely)
       (λ k l q.
-      let st = (get_or ps k noPacket).status in
-      let same : eqb (get_or ps k noPacket).seq.0 n ≡ true = eq-eqb _ n ((i.txi.each k j l q).number_is ∙ sym n-is) in
+      let st = (get_or ps k no_packet).status in
+      let same : eqb (get_or ps k no_packet).seq.0 n ≡ true = eq-eqb _ n ((i.txi.each k j l q).number_is ∙ sym n-is) in
       simp same (over-settled slot st (subst (λ (x : SentReliableStatus). SentOver x slot) (status-at k l q) over))))
 
 -- a table of which each packet is done is empty: the first isn't Received

@@ -9,17 +9,17 @@ use Rattle.engine.specs.declared.state.State.{State}
 use Rattle.engine.specs.declared.state.SentReliable.{SentReliable}
 use Rattle.engine.specs.declared.state.Held.{Held}
 use Rattle.engine.specs.declared.state.Held.TheVariants.{Message}
-use Rattle.engine.specs.Packets.{noPacket, packets, isReceived}
-use Rattle.engine.specs.Records.{isFull, isReadyKind}
+use Rattle.engine.specs.Packets.{no_packet, packets, is_received}
+use Rattle.engine.specs.Records.{is_full, is_ready_kind}
 use Rattle.engine.specs.Received.{table_of, cell_of}
 use Rattle.engine.specs.Rows.{row_of}
 use Rattle.engine.specs.Sizes.{PACKETS, DATA_BYTES}
 use Rattle.ends.specs.World.{Msg, Packet, World, AckFor}
-use Rattle.ends.specs.Demand.{noMsg, handed, IsAccepted, Labelled}
-use Rattle.ends.specs.Store.{cellBytes}
+use Rattle.ends.specs.Demand.{no_msg, handed, IsAccepted, Labelled}
+use Rattle.ends.specs.Store.{cell_bytes}
 
 abbrev pub at : List Msg → ℕ → Msg
-at G j = get_or G j noMsg
+at G j = get_or G j no_msg
 
 -- ---- the sending end
 
@@ -28,8 +28,8 @@ pub record Carries (s : ℕ) (store : List ℕ) (H : ℕ → Type 0) (j : ℕ) (
   pub number_is : p.seq.0 ≡ plus s j
   pub kind-is : p.msg ≡ m.kind
   pub len_is : p.len ≡ length m.bytes
-  pub bytes-is : cellBytes PACKETS store (plus s j) (length m.bytes) ≡ m.bytes
-  pub received : isReceived p.status ≡ true → H j
+  pub bytes-is : cell_bytes PACKETS store (plus s j) (length m.bytes) ≡ m.bytes
+  pub received : is_received p.status ≡ true → H j
 
 -- the table carries the last messages that were given: packet i of it message j, both counted from their ends
 pub record TxI (s : ℕ) (G : List Msg) (next : ℕ) (ps : List SentReliable) (store : List ℕ) (e : ℕ) (H : ℕ → Type 0) : Type 0 where
@@ -39,14 +39,14 @@ pub record TxI (s : ℕ) (G : List Msg) (next : ℕ) (ps : List SentReliable) (s
   -- what isn't in the table any more is before the next expected
   pub tight : length G ≤ e + length ps
   pub store_long : length store ≡ PACKETS * DATA_BYTES
-  pub each : (i j : ℕ) → i < length ps → j + length ps ≡ length G + i → Carries s store H j (get_or ps i noPacket) (at G j)
+  pub each : (i j : ℕ) → i < length ps → j + length ps ≡ length G + i → Carries s store H j (get_or ps i no_packet) (at G j)
 
 -- ---- the receiving end, of N cells; c is what the cell of a number holds
 
 -- a cell holds message j
 pub record Holds (N s : ℕ) (store : List ℕ) (j : ℕ) (h : Held) (m : Msg) : Type 0 where
   pub cell-is : h ≡ Message m.kind (length m.bytes)
-  pub bytes-is : cellBytes N store (plus s j) (length m.bytes) ≡ m.bytes
+  pub bytes-is : cell_bytes N store (plus s j) (length m.bytes) ≡ m.bytes
 
 pub record RxI (N s : ℕ) (G : List Msg) (expected oldest : ℕ) (c : ℕ → Held) (store : List ℕ) (e o : ℕ) : Type 0 where
   pub exp-is : expected ≡ plus s e
@@ -55,12 +55,12 @@ pub record RxI (N s : ℕ) (G : List Msg) (expected oldest : ℕ) (c : ℕ → H
   pub eo : e ≤ o + N
   pub en : e ≤ length G
   pub store_long : length store ≡ N * DATA_BYTES
-  pub held : (j : ℕ) → o ≤ j → j < o + N → isFull (c (plus s j)) ≡ true → (j < length G) × Holds N s store j (c (plus s j)) (at G j)
-  pub ready : (j : ℕ) → o ≤ j → j < e → isFull (c (plus s j)) ≡ isReadyKind (at G j).kind
+  pub held : (j : ℕ) → o ≤ j → j < o + N → is_full (c (plus s j)) ≡ true → (j < length G) × Holds N s store j (c (plus s j)) (at G j)
+  pub ready : (j : ℕ) → o ≤ j → j < e → is_full (c (plus s j)) ≡ is_ready_kind (at G j).kind
 
 -- message j has been accepted
 abbrev pub Has : ℕ → ℕ → (ℕ → Held) → ℕ → ℕ → ℕ → Type 0
-Has N s c e o j = (j < e) ⊎ ((e ≤ j) × (j < o + N) × (isFull (c (plus s j)) ≡ true))
+Has N s c e o j = (j < e) ⊎ ((e ≤ j) × (j < o + N) × (is_full (c (plus s j)) ≡ true))
 
 -- ---- the links: what was put on them, and what was accepted, are messages that were given; just those accepted are had
 

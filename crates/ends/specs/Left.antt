@@ -17,10 +17,10 @@ use Rattle.refusal.specs.declared.verdict.Verdict.TheVariants.{Pass}
 use Rattle.refusal.specs.Tests.{false-true}
 use Rattle.link.specs.declared.row.LinkRow.{LinkRow}
 use Rattle.link.specs.declared.row.Limit.TheVariants.{At}
-use Rattle.link.specs.Row.{emptyRow, no_row, fresh_row, confirmed, blockedRow, unconfirmedRow, withUnacked}
-use Rattle.link.specs.Limit.{markedRow, markResent}
+use Rattle.link.specs.Row.{empty_row, no_row, fresh_row, confirmed, blocked_row, unconfirmed_row, with_unacked}
+use Rattle.link.specs.Limit.{marked_row, mark_resent}
 use Rattle.link.specs.Roundtrip.{pinged, ponged}
-use Rattle.link.specs.Acks.{waiting, ackTaken}
+use Rattle.link.specs.Acks.{waiting, ack_taken}
 use Rattle.engine.specs.declared.state.SentReliableStatus.{SentReliableStatus}
 use Rattle.engine.specs.declared.state.SentReliableStatus.TheVariants.{Sent, Received, ResendQueued}
 use Rattle.engine.specs.declared.state.SentReliable.{SentReliable}
@@ -28,37 +28,37 @@ use Rattle.engine.specs.declared.state.Held.{Held}
 use Rattle.engine.specs.declared.state.Held.TheVariants.{Nothing}
 use Rattle.engine.specs.Records.{held_of}
 use Rattle.engine.specs.declared.state.State.{State}
-use Rattle.engine.specs.Packets.{noPacket, packets, isReceived, isQueued}
-use Rattle.engine.specs.Sound.{packetAt}
-use Rattle.engine.specs.Received.{held_at, isUsed, cell_of}
+use Rattle.engine.specs.Packets.{no_packet, packets, is_received, is_queued}
+use Rattle.engine.specs.Sound.{packet_at}
+use Rattle.engine.specs.Received.{held_at, is_used, cell_of}
 use Rattle.engine.specs.Queue.{requeued}
-use Rattle.engine.specs.Table.{place, lookedAt, withPacket, withTable}
+use Rattle.engine.specs.Table.{place, looked_at, with_packet, with_table}
 use Rattle.engine.specs.Rows.{row_of}
-use Rattle.engine.specs.Links.{lowestIn}
-use Rattle.engine.specs.Unconfirming.{unconfirmed, unconfirmedState, removedState}
-use Rattle.engine.specs.Flushing.{flushed, flushedState}
-use Rattle.engine.specs.Sending.{toldRx, sentState}
+use Rattle.engine.specs.Links.{lowest_in}
+use Rattle.engine.specs.Unconfirming.{unconfirmed, unconfirmed_state, removed_state}
+use Rattle.engine.specs.Flushing.{flushed, flushed_state}
+use Rattle.engine.specs.Sending.{told_rx, sent_state}
 use Rattle.engine.specs.InTable.{packet-back}
-use Rattle.engine.specs.Resending.{resentState, ResendPassed}
-use Rattle.engine.specs.Acking.{ackedRow, ackedState}
-use Rattle.engine.specs.Receiving.{effectTx, repeatedState, effectState, receivedState}
-use Rattle.engine.specs.HandingOut.{takenState, takenAckState}
-use Rattle.engine.specs.Fields.{with_row, withTime, withReader}
+use Rattle.engine.specs.Resending.{resent_state, ResendPassed}
+use Rattle.engine.specs.Acking.{acked_row, acked_state}
+use Rattle.engine.specs.Receiving.{effect_tx, repeated_state, effect_state, received_state}
+use Rattle.engine.specs.HandingOut.{taken_state, taken_ack_state}
+use Rattle.engine.specs.Fields.{with_row, with_time, with_reader}
 use Rattle.engine.specs.Sizes.{SLOTS}
 use Rattle.laws.specs.Good.{Good}
 use Rattle.laws.specs.Calls as calls
-use Rattle.laws.specs.Calls.{Holding, withState, next, done, verdict}
+use Rattle.laws.specs.Calls.{Holding, with_state, next, done, verdict}
 use Rattle.laws.specs.Passed.{next-keeps, passed}
 use Rattle.laws.specs.PacketsKept.{packets-count}
-use Rattle.laws.specs.PacketEffects.{restated, changeAt, resentStatus, unconfirmed-packets, flushed-packets, resent-packets}
-use Rattle.ends.specs.World.{Msg, Packet, World, holds, called, sendAt, resendAt, receiveAt, takeAt, takeAckAt, Brought, BroughtAck, Timely, TimelyAck, Call, Other, Send, Resend, Receive, Acked, Take, TakeAck}
+use Rattle.laws.specs.PacketEffects.{restated, change_at, resent_status, unconfirmed-packets, flushed-packets, resent-packets}
+use Rattle.ends.specs.World.{Msg, Packet, World, holds, called, send_at, resend_at, receive_at, take_at, take_ack_at, Brought, BroughtAck, Timely, TimelyAck, Call, Other, Send, Resend, Receive, Acked, Take, TakeAck}
 use Rattle.laws.specs.RowAcks.{SameAcks, confirm-acks, block-acks, mark-acks, ping-acks, pong-acks, unconfirm-acks, unacked-acks, resent-acks, acked-acks}
 
 -- every packet stays, with another status perhaps, and no other is Received
 pub record Restated (ps ps' : List SentReliable) : Type 0 where
   pub change : SentReliable → SentReliableStatus
   pub is : ps' ≡ map (restated change) ps
-  pub same : (i : ℕ) → i < length ps → isReceived (change (get_or ps i noPacket)) ≡ isReceived (get_or ps i noPacket).status
+  pub same : (i : ℕ) → i < length ps → is_received (change (get_or ps i no_packet)) ≡ is_received (get_or ps i no_packet).status
 
 -- h became k: of the sending half ..
 pub record TxLeft (h k : Holding) : Type 0 where
@@ -88,7 +88,7 @@ pub record Left (h k : Holding) : Type 0 where
 pub rx-kept : (h k : Holding) → RxLeft h k → (P : ℕ → ℕ → ℕ → (ℕ → Held) → List ℕ → Type 0)
     → P h.state.rx.cells h.state.rx.rx_seq.0 h.state.rx.rx_oldest.0 (cell_of h.state.rx.cells (calls.table h)) h.received
     → P k.state.rx.cells k.state.rx.rx_seq.0 k.state.rx.rx_oldest.0 (cell_of k.state.rx.cells (calls.table k)) k.received
-unfolding cell_of isUsed held_at
+unfolding cell_of is_used held_at
 rx-kept h k same P x =
     subst (λ (t : ℕ × ℕ × ℕ × (ℕ → Held) × List ℕ). P t.0 t.1 t.2 t.3 t.4)
     (λ d. (
@@ -113,7 +113,7 @@ pub tx-same : (h : Holding) → TxLeft h h
 tx-same h = record { next-same = refl; sent-same = refl; restates = unchanged (packets h.state.tx) }
 
 -- .. but for whether the reader is open
-pub read_left : (h : Holding) (reads : Bool) → Left h (withState h (withReader h.state reads))
+pub read_left : (h : Holding) (reads : Bool) → Left h (with_state h (with_reader h.state reads))
 unfolding row_of
 read_left h reads = record {
   tx = record { next-same = refl; sent-same = refl; restates = unchanged (packets h.state.tx) };
@@ -155,22 +155,22 @@ module _ (s t : State) (slot : ℕ) (row : LinkRow) (eight : length s.links ≡ 
       ]
 
 -- .. and no more, at some time
-pub row-left : (h : Holding) → Good h.state → (slot : ℕ) (row : LinkRow) (time : ℕ) → slot < SLOTS → Fewer row (row_of h.state slot) → Left h (withState h (withTime (with_row h.state slot row) time))
+pub row-left : (h : Holding) → Good h.state → (slot : ℕ) (row : LinkRow) (time : ℕ) → slot < SLOTS → Fewer row (row_of h.state slot) → Left h (with_state h (with_time (with_row h.state slot row) time))
 row-left h good slot row time small fewer = record {
   tx = record { next-same = refl; sent-same = refl; restates = unchanged (packets h.state.tx) };
   rx = record { seq-same = refl; oldest-same = refl; end_same = refl; count_same = refl; records-same = refl; received-same = refl };
-  acks = rows_left h.state (withTime (with_row h.state slot row) time) slot row good.shaped.links-full small refl fewer;
+  acks = rows_left h.state (with_time (with_row h.state slot row) time) slot row good.shaped.links-full small refl fewer;
 }
 
 -- ---- the calls of which nothing is written down
 
-unconfirmed-received : (slot : ℕ) (st : SentReliableStatus) → isReceived (unconfirmed slot st) ≡ isReceived st
+unconfirmed-received : (slot : ℕ) (st : SentReliableStatus) → is_received (unconfirmed slot st) ≡ is_received st
 unfolding unconfirmed
 unconfirmed-received slot (Sent flight) = cases (eqb flight.slot slot) (λ t. simp t) (λ t. simp t)
 unconfirmed-received slot Received = refl
 unconfirmed-received slot (ResendQueued link) = refl
 
-flushed-received : (slot time : ℕ) (st : SentReliableStatus) → isReceived (flushed slot time st) ≡ isReceived st
+flushed-received : (slot time : ℕ) (st : SentReliableStatus) → is_received (flushed slot time st) ≡ is_received st
 unfolding flushed
 flushed-received slot time (Sent flight) = cases (eqb flight.slot slot) (λ t. simp t) (λ t. simp t)
 flushed-received slot time Received = refl
@@ -180,39 +180,39 @@ module _ (h : Holding) (good : Good h.state) where
   abbrev s : State
   s = h.state
 
-  unconfirmed-tx : (slot : ℕ) → TxLeft h (withState h (unconfirmedState s slot))
-  unfolding unconfirmedState requeued withTable
+  unconfirmed-tx : (slot : ℕ) → TxLeft h (with_state h (unconfirmed_state s slot))
+  unfolding unconfirmed_state requeued with_table
   unconfirmed-tx slot = record {
     next-same = refl;
     sent-same = refl;
     restates = record {
       change = λ p. unconfirmed slot p.status;
       is = unconfirmed-packets s good slot;
-      same = λ i l. unconfirmed-received slot (get_or (packets s.tx) i noPacket).status;
+      same = λ i l. unconfirmed-received slot (get_or (packets s.tx) i no_packet).status;
     };
   }
 
-  unconfirmed-left : (slot : ℕ) → slot < SLOTS → Left h (withState h (unconfirmedState s slot))
-  unfolding unconfirmedState requeued
+  unconfirmed-left : (slot : ℕ) → slot < SLOTS → Left h (with_state h (unconfirmed_state s slot))
+  unfolding unconfirmed_state requeued
   unconfirmed-left slot small = record {
     tx = unconfirmed-tx slot;
     rx = record { seq-same = refl; oldest-same = refl; end_same = refl; count_same = refl; records-same = refl; received-same = refl };
-    acks = rows_left s (unconfirmedState s slot) slot (unconfirmedRow (row_of s slot)) good.shaped.links-full small refl (same-fewer _ _ (unconfirm-acks (row_of s slot)));
+    acks = rows_left s (unconfirmed_state s slot) slot (unconfirmed_row (row_of s slot)) good.shaped.links-full small refl (same-fewer _ _ (unconfirm-acks (row_of s slot)));
   }
 
-  removed-left : (slot : ℕ) → slot < SLOTS → Left h (withState h (removedState s slot))
-  unfolding removedState unconfirmedState requeued withTable waiting emptyRow
+  removed-left : (slot : ℕ) → slot < SLOTS → Left h (with_state h (removed_state s slot))
+  unfolding removed_state unconfirmed_state requeued with_table waiting empty_row
   removed-left slot small =
       let tx = unconfirmed-tx slot in
       record {
         tx = record { next-same = tx.next-same; sent-same = tx.sent-same; restates = tx.restates };
         rx = record { seq-same = refl; oldest-same = refl; end_same = refl; count_same = refl; records-same = refl; received-same = refl };
-        acks = rows_left s (removedState s slot) slot emptyRow good.shaped.links-full small (set-set s.links slot (unconfirmedRow (row_of s slot)) emptyRow)
-            (none-fewer emptyRow (row_of s slot) refl);
+        acks = rows_left s (removed_state s slot) slot empty_row good.shaped.links-full small (set-set s.links slot (unconfirmed_row (row_of s slot)) empty_row)
+            (none-fewer empty_row (row_of s slot) refl);
       }
 
-  flushed-left : (slot time : ℕ) → Left h (withState h (flushedState s slot time))
-  unfolding flushedState withTable row_of
+  flushed-left : (slot time : ℕ) → Left h (with_state h (flushed_state s slot time))
+  unfolding flushed_state with_table row_of
   flushed-left slot time = record {
     tx = record {
       next-same = refl;
@@ -220,7 +220,7 @@ module _ (h : Holding) (good : Good h.state) where
       restates = record {
         change = λ p. flushed slot time p.status;
         is = flushed-packets s good slot time;
-        same = λ i l. flushed-received slot time (get_or (packets s.tx) i noPacket).status;
+        same = λ i l. flushed-received slot time (get_or (packets s.tx) i no_packet).status;
       };
     };
     rx = record { seq-same = refl; oldest-same = refl; end_same = refl; count_same = refl; records-same = refl; received-same = refl };
@@ -230,58 +230,58 @@ module _ (h : Holding) (good : Good h.state) where
   -- ---- the calls of which something is: what they leave besides
 
   -- a packet's number is the table's at its place
-  pub number-place : (i n : ℕ) → i < s.tx.txed_count → (packetAt s i).seq.0 ≡ n → place s.tx n ≡ i
+  pub number-place : (i n : ℕ) → i < s.tx.txed_count → (packet_at s i).seq.0 ≡ n → place s.tx n ≡ i
   unfolding place
   number-place i n l e =
       omega (arith, ap (past s.tx.tx_seq.0) (sym e) ∙ packet-back s good.shaped good.sound i l)
 
   -- a packet that is resent was queued, and so not Received
-  queued-unreceived : (st : SentReliableStatus) → isQueued st ≡ true → isReceived st ≡ false
+  queued-unreceived : (st : SentReliableStatus) → is_queued st ≡ true → is_received st ≡ false
   queued-unreceived (Sent flight) q = false-true q
   queued-unreceived Received q = false-true q
   queued-unreceived (ResendQueued link) q = refl
 
-  pub resent-left : (slot time n : ℕ) → n < 2 ^ 32 → ResendPassed s slot time n → Left h (withState h (resentState s slot time n))
-  unfolding resentState requeued withPacket lookedAt
+  pub resent-left : (slot time n : ℕ) → n < 2 ^ 32 → ResendPassed s slot time n → Left h (with_state h (resent_state s slot time n))
+  unfolding resent_state requeued with_packet looked_at
   resent-left slot time n number p = record {
     tx = record {
       next-same = refl;
       sent-same = refl;
       restates = record {
-        change = changeAt n (resentStatus s slot time);
+        change = change_at n (resent_status s slot time);
         is = resent-packets s good slot time n number p.held;
-        same = λ i l. cases (eqb (packetAt s i).seq.0 n) (λ t. simp t (sym (unreceived i (omega (arith, packets-count s.tx)) (eqb-true _ n t)))) (λ t. simp t);
+        same = λ i l. cases (eqb (packet_at s i).seq.0 n) (λ t. simp t (sym (unreceived i (omega (arith, packets-count s.tx)) (eqb-true _ n t)))) (λ t. simp t);
       };
     };
     rx = record { seq-same = refl; oldest-same = refl; end_same = refl; count_same = refl; records-same = refl; received-same = refl };
-    acks = rows_left s (resentState s slot time n) slot (withUnacked (markResent (row_of s slot) n) ((row_of s slot).txed_unacked_data + (lookedAt s.tx n).len)) good.shaped.links-full p.timed.at.small refl
+    acks = rows_left s (resent_state s slot time n) slot (with_unacked (mark_resent (row_of s slot) n) ((row_of s slot).txed_unacked_data + (looked_at s.tx n).len)) good.shaped.links-full p.timed.at.small refl
         (same-fewer _ _ (resent-acks (row_of s slot) n _));
   }
     where
-      unreceived : (i : ℕ) → i < s.tx.txed_count → (packetAt s i).seq.0 ≡ n → isReceived (packetAt s i).status ≡ false
-      unreceived i l e = queued-unreceived (packetAt s i).status (ap (λ k. isQueued (packetAt s k).status) (sym (number-place i n l e)) ∙ p.queued)
+      unreceived : (i : ℕ) → i < s.tx.txed_count → (packet_at s i).seq.0 ≡ n → is_received (packet_at s i).status ≡ false
+      unreceived i l e = queued-unreceived (packet_at s i).status (ap (λ k. is_queued (packet_at s k).status) (sym (number-place i n l e)) ∙ p.queued)
 
   pub sent-rx : (slot time : ℕ) (msg : ReliableMsg) (bytes : List ℕ) → RxLeft h (done (calls.Send slot time msg bytes) h)
-  unfolding sentState toldRx
+  unfolding sent_state told_rx
   sent-rx slot time msg bytes = record { seq-same = refl; oldest-same = refl; end_same = refl; count_same = refl; records-same = refl; received-same = refl }
 
   pub sent-acks : (slot time : ℕ) (msg : ReliableMsg) (bytes : List ℕ) → slot < SLOTS → AcksLeft h (done (calls.Send slot time msg bytes) h)
-  unfolding sentState
+  unfolding sent_state
   sent-acks slot time msg bytes small =
-      rows_left s (sentState s slot time msg (length bytes)) slot (withUnacked (row_of s slot) ((row_of s slot).txed_unacked_data + length bytes)) good.shaped.links-full small refl
+      rows_left s (sent_state s slot time msg (length bytes)) slot (with_unacked (row_of s slot) ((row_of s slot).txed_unacked_data + length bytes)) good.shaped.links-full small refl
       (same-fewer _ _ (unacked-acks (row_of s slot) _))
 
   pub acked-rx : (slot time n : ℕ) → RxLeft h (done (calls.Ack slot time n) h)
-  unfolding ackedState
+  unfolding acked_state
   acked-rx slot time n = record { seq-same = refl; oldest-same = refl; end_same = refl; count_same = refl; records-same = refl; received-same = refl }
 
   pub acked-acks-left : (slot time n : ℕ) → slot < SLOTS → AcksLeft h (done (calls.Ack slot time n) h)
-  unfolding ackedState
+  unfolding acked_state
   acked-acks-left slot time n small =
-      rows_left s (ackedState s slot time n) slot (ackedRow s slot time n) good.shaped.links-full small refl (same-fewer _ _ (acked-acks s slot time n))
+      rows_left s (acked_state s slot time n) slot (acked_row s slot time n) good.shaped.links-full small refl (same-fewer _ _ (acked-acks s slot time n))
 
   pub received-tx : (slot : ℕ) (msg : ReliableMsg) (n : ℕ) (bytes : List ℕ) → TxLeft h (done (calls.Receive slot msg n bytes) h)
-  unfolding repeatedState effectState receivedState effectTx
+  unfolding repeated_state effect_state received_state effect_tx
   received-tx slot msg n bytes =
       let same = unchanged (packets s.tx) in
       cases (calls.again h n)
@@ -289,16 +289,16 @@ module _ (h : Holding) (good : Good h.state) where
       (λ t. simp t (record { next-same = refl; sent-same = refl; restates = same }))
 
   pub taken-tx : TxLeft h (done calls.Take h)
-  unfolding takenState
+  unfolding taken_state
   taken-tx = record { next-same = refl; sent-same = refl; restates = unchanged (packets s.tx) }
 
   pub took-ack-tx : (slot : ℕ) → TxLeft h (done (calls.TakeAck slot) h)
-  unfolding takenAckState
+  unfolding taken_ack_state
   took-ack-tx slot = record { next-same = refl; sent-same = refl; restates = unchanged (packets s.tx) }
 
-  pub took-ack-left : (slot : ℕ) → slot < SLOTS → Fewer (ackTaken (row_of s slot)) (row_of s slot) → Left h (done (calls.TakeAck slot) h)
-  unfolding takenAckState
-  took-ack-left slot small fewer = row-left h good slot (ackTaken (row_of s slot)) s.time small fewer
+  pub took-ack-left : (slot : ℕ) → slot < SLOTS → Fewer (ack_taken (row_of s slot)) (row_of s slot) → Left h (done (calls.TakeAck slot) h)
+  unfolding taken_ack_state
+  took-ack-left slot small fewer = row-left h good slot (ack_taken (row_of s slot)) s.time small fewer
 
 -- a call of which nothing is written down leaves all of it
 module _ (h : Holding) (good : Good h.state) where
@@ -313,17 +313,17 @@ module _ (h : Holding) (good : Good h.state) where
   other-left (calls.Add id roundtrip max blocked unconfirmed) u t =
       let new = fresh_row id roundtrip max blocked unconfirmed in
       let c = calls.Add id roundtrip max blocked unconfirmed in
-      if-passed c (λ e. row-left h good (lowestIn h.state) new h.state.time (passed c h t good e).small (none-fewer new (row (lowestIn h.state)) refl))
+      if-passed c (λ e. row-left h good (lowest_in h.state) new h.state.time (passed c h t good e).small (none-fewer new (row (lowest_in h.state)) refl))
   other-left (calls.Remove slot) u t = if-passed (calls.Remove slot) (λ e. removed-left h good slot (passed (calls.Remove slot) h t good e).small)
   other-left (calls.Confirm slot) u t =
       if-passed (calls.Confirm slot) (λ e. row-left h good slot (confirmed (row slot)) h.state.time (passed (calls.Confirm slot) h t good e).small (same-fewer _ _ (confirm-acks (row slot))))
   other-left (calls.Unconfirm slot) u t = if-passed (calls.Unconfirm slot) (λ e. unconfirmed-left h good slot (passed (calls.Unconfirm slot) h t good e).small)
   other-left (calls.Block slot blocked) u t =
       if-passed (calls.Block slot blocked)
-      (λ e. row-left h good slot (blockedRow (row slot) blocked) h.state.time (passed (calls.Block slot blocked) h t good e).small (same-fewer _ _ (block-acks (row slot) blocked)))
+      (λ e. row-left h good slot (blocked_row (row slot) blocked) h.state.time (passed (calls.Block slot blocked) h t good e).small (same-fewer _ _ (block-acks (row slot) blocked)))
   other-left (calls.Mark slot seq) u t =
       if-passed (calls.Mark slot seq)
-      (λ e. row-left h good slot (markedRow (row slot) (At seq)) h.state.time (passed (calls.Mark slot seq) h t good e).small (same-fewer _ _ (mark-acks (row slot) (At seq))))
+      (λ e. row-left h good slot (marked_row (row slot) (At seq)) h.state.time (passed (calls.Mark slot seq) h t good e).small (same-fewer _ _ (mark-acks (row slot) (At seq))))
   other-left (calls.Ping slot time) u t =
       if-passed (calls.Ping slot time)
       (λ e. row-left h good slot (pinged (row slot) time) time (passed (calls.Ping slot time) h t good e).at.small (same-fewer _ _ (ping-acks (row slot) time)))
@@ -362,7 +362,7 @@ module _ (W : World) (c : calls.Call) where
   other-made u t = record { world = called W c; call = Other c u t; leaves = refl }
 
 pub every_call : (W : World) (c : calls.Call) → calls.Typed c → Arrives W c → ArrivesAck W c → Made W c
-unfolding sendAt resendAt receiveAt takeAt takeAckAt
+unfolding send_at resend_at receive_at take_at take_ack_at
 every_call W (calls.Add id roundtrip max blocked unconfirmed) t m a = other-made W _ tt t
 every_call W (calls.Remove slot) t m a = other-made W _ tt t
 every_call W (calls.Confirm slot) t m a = other-made W _ tt t
@@ -372,17 +372,17 @@ every_call W (calls.Mark slot seq) t m a = other-made W _ tt t
 every_call W (calls.Ping slot time) t m a = other-made W _ tt t
 every_call W (calls.Pong slot time) t m a = other-made W _ tt t
 every_call W (calls.Flush slot time) t m a = other-made W _ tt t
-every_call W (calls.Send slot time msg bytes) t m a = let p : Msg = record { kind = msg; bytes = bytes } in record { world = sendAt W slot time p; call = Send slot time p; leaves = refl }
-every_call W (calls.Resend slot time n) t m a = record { world = resendAt W slot time n; call = Resend slot time n t; leaves = refl }
+every_call W (calls.Send slot time msg bytes) t m a = let p : Msg = record { kind = msg; bytes = bytes } in record { world = send_at W slot time p; call = Send slot time p; leaves = refl }
+every_call W (calls.Resend slot time n) t m a = record { world = resend_at W slot time n; call = Resend slot time n t; leaves = refl }
 every_call W (calls.Ack slot time n) t m a =
     let b = a slot time n refl in
     record { world = called W (calls.Ack slot time n); call = Acked slot time n b.0 b.1; leaves = refl }
 every_call W (calls.Receive slot msg n bytes) t m a =
     let b = m slot msg n bytes refl in
-    record { world = receiveAt W slot b.0; call = Receive slot b.0 b.2 b.3; leaves = ap (λ c. next c (holds W.a)) (sym b.1) }
+    record { world = receive_at W slot b.0; call = Receive slot b.0 b.2 b.3; leaves = ap (λ c. next c (holds W.a)) (sym b.1) }
 every_call W calls.Show t m a = other-made W _ tt t
-every_call W calls.Take t m a = record { world = takeAt W; call = Take; leaves = refl }
+every_call W calls.Take t m a = record { world = take_at W; call = Take; leaves = refl }
 every_call W calls.Due t m a = other-made W _ tt t
 every_call W calls.Close t m a = other-made W _ tt t
-every_call W (calls.TakeAck slot) t m a = record { world = takeAckAt W slot; call = TakeAck slot; leaves = refl }
+every_call W (calls.TakeAck slot) t m a = record { world = take_ack_at W slot; call = TakeAck slot; leaves = refl }
 every_call W (calls.EarliestConfirmTimeout timeout unreliable) t m a = other-made W _ tt t

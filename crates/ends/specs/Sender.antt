@@ -21,28 +21,28 @@ use Rattle.engine.specs.declared.state.State.{State}
 use Rattle.engine.specs.declared.sending.SendAnswer.{SendAnswer}
 use Rattle.engine.specs.declared.sending.SendAnswer.TheVariants as sends
 use Rattle.engine.specs.declared.resending.ResendAnswer.TheVariants as resends
-use Rattle.engine.specs.Packets.{noPacket, packets, isReceived}
-use Rattle.engine.specs.Records.{isFull}
-use Rattle.engine.specs.Received.{table_of, expectedAt, cell_of}
+use Rattle.engine.specs.Packets.{no_packet, packets, is_received}
+use Rattle.engine.specs.Records.{is_full}
+use Rattle.engine.specs.Received.{table_of, expected_at, cell_of}
 use Rattle.engine.specs.Queue.{requeued}
 use Rattle.engine.specs.Rows.{row_of}
-use Rattle.engine.specs.Stores.{cellStart, copied}
-use Rattle.engine.specs.Table.{in_table, place, lookedAt}
+use Rattle.engine.specs.Stores.{cell_start, copied}
+use Rattle.engine.specs.Table.{in_table, place, looked_at}
 use Rattle.engine.specs.InTable.{Placed, placed, looked-number}
-use Rattle.engine.specs.Sending.{sentTx, sentState, sentBy, sendOf, SendPassed}
-use Rattle.engine.specs.Resending.{resentState, resentBy, resendOf, ResendPassed}
-use Rattle.engine.specs.Acking.{settled, receivedTx, settledTxAs, sweptTx, ackedTx, ackedState}
+use Rattle.engine.specs.Sending.{sent_tx, sent_state, sent_by, send_of, SendPassed}
+use Rattle.engine.specs.Resending.{resent_state, resent_by, resend_of, ResendPassed}
+use Rattle.engine.specs.Acking.{settled, received_tx, settled_tx_as, swept_tx, acked_tx, acked_state}
 use Rattle.engine.specs.Sizes.{PACKETS, DATA_BYTES}
 use Rattle.laws.specs.Good.{Good}
 use Rattle.laws.specs.Calls as calls
 use Rattle.laws.specs.Calls.{Holding, next, done}
 use Rattle.laws.specs.Passed.{next-keeps, answer_keeps, passed}
 use Rattle.laws.specs.PacketsKept.{packets-count}
-use Rattle.laws.specs.PacketEffects.{restated, changeAt, sent-packets, acked-packets, sweeps}
+use Rattle.laws.specs.PacketEffects.{restated, change_at, sent-packets, acked-packets, sweeps}
 use Rattle.engine.specs.CellCount.{cell-count}
 use Rattle.engine.specs.Sound.{SoundRecords}
 use Rattle.laws.specs.CellEffects.{table-of}
-use Rattle.ends.specs.World.{Msg, Packet, World, holds, written, newest, TimelyAck, givenBy, putBy, sendAt, putAgainBy, resendAt, receiveAt, takeAt, takeAckAt, Call, Other, Send, Resend, Receive, Acked, Take, TakeAck}
+use Rattle.ends.specs.World.{Msg, Packet, World, holds, written, newest, TimelyAck, given_by, put_by, send_at, put_again_by, resend_at, receive_at, take_at, take_ack_at, Call, Other, Send, Resend, Receive, Acked, Take, TakeAck}
 use Rattle.ends.specs.Demand.{handed, Labelled}
 use Rattle.ends.specs.Inv.{at, Carries, TxI, HasAt, way, Inv}
 use Rattle.ends.specs.TxSteps.{longer, at_old, at_new, tx-restated, tx-dropped, tx-sent}
@@ -61,11 +61,11 @@ pub newest-of : (s given j : ℕ) → j < given → given ≤ j + PACKETS → ne
 newest-of s given j l u = omega (arith, minus-ahead s given j (omega arith) (omega arith))
 
 -- an ack moves no next number
-acked-next : (s : State) (slot a : ℕ) → (ackedTx s slot a).tx_seq ≡ s.tx.tx_seq
-unfolding ackedTx settledTxAs receivedTx requeued
-acked-next s slot a = cases (in_table s.tx a) (λ t. simp t (by (lookedAt s.tx a).status s.tx (lookedAt s.tx a))) (λ t. simp t)
+acked-next : (s : State) (slot a : ℕ) → (acked_tx s slot a).tx_seq ≡ s.tx.tx_seq
+unfolding acked_tx settled_tx_as received_tx requeued
+acked-next s slot a = cases (in_table s.tx a) (λ t. simp t (by (looked_at s.tx a).status s.tx (looked_at s.tx a))) (λ t. simp t)
   where
-    by : (st : SentReliableStatus) (tx : Sending) (p : SentReliable) → (settledTxAs st tx slot a p).tx_seq ≡ tx.tx_seq
+    by : (st : SentReliableStatus) (tx : Sending) (p : SentReliable) → (settled_tx_as st tx slot a p).tx_seq ≡ tx.tx_seq
     by (statuses.Sent flight) tx p = cases (eqb flight.slot slot) (λ t. simp t) (λ t. simp t)
     by statuses.Received tx p = refl
     by (statuses.ResendQueued link) tx p = refl
@@ -103,7 +103,7 @@ module _ (W : World) (i : Inv (way W)) (good : Good W.a.state) where
   -- ---- Send
 
   abbrev sent-world : SendAnswer → Msg → Holding → World
-  sent-world answer m k = written W k (givenBy answer G m) W.a.out W.a.accepted (putBy answer W.ab.msgs (length G) m) W.ab.acks
+  sent-world answer m k = written W k (given_by answer G m) W.a.out W.a.accepted (put_by answer W.ab.msgs (length G) m) W.ab.acks
 
   -- what was accepted was given
   has-inside : (j : ℕ) → HasAt W.b.state.rx.cells (way W) i.e i.o j → j < length G
@@ -112,12 +112,12 @@ module _ (W : World) (i : Inv (way W)) (good : Good W.a.state) where
 
   send-inv : (slot time : ℕ) (m : Msg) → SendPassed S (length W.a.sent) slot time m.kind (length m.bytes)
       → Inv (way (sent-world (sends.Number S.tx.tx_seq) m (done (calls.Send slot time m.kind m.bytes) h)))
-  unfolding sentState sentTx
+  unfolding sent_state sent_tx
   send-inv slot time m ok = record {
     e = i.e;
     o = i.o;
     small = λ j l. short j l (ℕ_discrete j (length G));
-    txi = subst (λ (qs : List SentReliable). TxI W.start (G ++ (m ∷ [])) (plus S.tx.tx_seq.0 1) qs (copied W.a.sent (cellStart PACKETS S.tx.tx_seq.0) m.bytes) i.e (HasAt W.b.state.rx.cells (way W) i.e i.o))
+    txi = subst (λ (qs : List SentReliable). TxI W.start (G ++ (m ∷ [])) (plus S.tx.tx_seq.0 1) qs (copied W.a.sent (cell_start PACKETS S.tx.tx_seq.0) m.bytes) i.e (HasAt W.b.state.rx.cells (way W) i.e i.o))
         (sym (sent-packets S good slot (row_of S slot).link_id time m.kind (length m.bytes) ok.room.places))
         (tx-sent W.start G S.tx.tx_seq.0 ps W.a.sent i.e _ i.txi m _ i.small (omega (arith, packets-count S.tx, ok.room.places)) ok.short refl refl refl refl);
     rxi = rx-grown G m i.rxi;
@@ -148,8 +148,8 @@ module _ (W : World) (i : Inv (way W)) (good : Good W.a.state) where
   -- ---- Resend
 
   resend-inv : (slot time n : ℕ) → n < 2 ^ 32 → ResendPassed S slot time n
-      → Inv (way (written W (done (calls.Resend slot time n) h) G W.a.out W.a.accepted (putAgainBy (resends.Message (lookedAt S.tx n).msg (lookedAt S.tx n).len) W n) W.ab.acks))
-  unfolding lookedAt place
+      → Inv (way (written W (done (calls.Resend slot time n) h) G W.a.out W.a.accepted (put_again_by (resends.Message (looked_at S.tx n).msg (looked_at S.tx n).len) W n) W.ab.acks))
+  unfolding looked_at place
   resend-inv slot time n number ok = record {
     e = i.e;
     o = i.o;
@@ -175,7 +175,7 @@ module _ (W : World) (i : Inv (way W)) (good : Good W.a.state) where
       inside : k < length ps
       inside = omega (arith, spot.back_low, spot.back-high, packets-count S.tx)
 
-      carried : Carries W.start W.a.sent (HasAt W.b.state.rx.cells (way W) i.e i.o) j (get_or ps k noPacket) (at G j)
+      carried : Carries W.start W.a.sent (HasAt W.b.state.rx.cells (way W) i.e i.o) j (get_or ps k no_packet) (at G j)
       carried = i.txi.each k j inside (omega (arith, i.txi.within))
 
       n-is : n ≡ plus W.start j
@@ -184,13 +184,13 @@ module _ (W : World) (i : Inv (way W)) (good : Good W.a.state) where
       index_is : newest W.start (length G) n ≡ j
       index_is = ap (newest W.start (length G)) n-is ∙ newest-of W.start (length G) j (omega (arith, inside, i.txi.within)) (omega (arith, i.txi.room, i.txi.within))
 
-      bytes-is : take (lookedAt S.tx n).len (drop (cellStart PACKETS n) W.a.sent) ≡ (at G j).bytes
+      bytes-is : take (looked_at S.tx n).len (drop (cell_start PACKETS n) W.a.sent) ≡ (at G j).bytes
       bytes-is =
-          ap (λ l. take l (drop (cellStart PACKETS n) W.a.sent)) carried.len_is
-          ∙ ap (λ x. take (length (at G j).bytes) (drop (cellStart PACKETS x) W.a.sent)) n-is ∙ carried.bytes-is
+          ap (λ l. take l (drop (cell_start PACKETS n) W.a.sent)) carried.len_is
+          ∙ ap (λ x. take (length (at G j).bytes) (drop (cell_start PACKETS x) W.a.sent)) n-is ∙ carried.bytes-is
 
       down : (p : Packet)
-          → (p ≡ record { index = newest W.start (length G) n; number = n; msg = record { kind = (lookedAt S.tx n).msg; bytes = take (lookedAt S.tx n).len (drop (cellStart PACKETS n) W.a.sent) } })
+          → (p ≡ record { index = newest W.start (length G) n; number = n; msg = record { kind = (looked_at S.tx n).msg; bytes = take (looked_at S.tx n).len (drop (cell_start PACKETS n) W.a.sent) } })
           ⊎ Memᴰ p W.ab.msgs → Labelled W.start G p
       down p (inl z) = rw z (record {
         inside = rw index_is (omega (arith, inside, i.txi.within));
@@ -202,9 +202,9 @@ module _ (W : World) (i : Inv (way W)) (good : Good W.a.state) where
   -- ---- Ack
 
   ack-inv : Good W.b.state → SoundRecords (calls.table (holds W.b)) → (slot time n : ℕ) → TimelyAck n W.a W.b → n < 2 ^ 32 → Inv (way (then (done (calls.Ack slot time n) h)))
-  unfolding ackedState sweptTx
+  unfolding acked_state swept_tx
   ack-inv other recorded slot time n timely number =
-      let change = changeAt n (settled slot) in
+      let change = change_at n (settled slot) in
       let qs = map (restated change) ps in
       let one : TxI W.start G S.tx.tx_seq.0 qs W.a.sent i.e H = tx-restated W.start G _ ps W.a.sent i.e H i.txi change had in
       let sw = sweeps qs in
@@ -217,12 +217,12 @@ module _ (W : World) (i : Inv (way W)) (good : Good W.a.state) where
       H = HasAt W.b.state.rx.cells (way W) i.e i.o
 
       -- who is Received then was so before, or has the number of a message that was accepted: its own, since that isn't late
-      had : (k j : ℕ) → k < length ps → j + length ps ≡ length G + k → isReceived (changeAt n (settled slot) (get_or ps k noPacket)) ≡ true → H j
+      had : (k j : ℕ) → k < length ps → j + length ps ≡ length G + k → is_received (change_at n (settled slot) (get_or ps k no_packet)) ≡ true → H j
       had k j l q r =
           let c = i.txi.each k j l q in
           let m = timely.acked.message in
           let was = i.links.taken m timely.acked.member in
-          cases (eqb (get_or ps k noPacket).seq.0 n)
+          cases (eqb (get_or ps k no_packet).seq.0 n)
           (λ t.
           let number : plus W.start j ≡ plus W.start m.index = sym c.number_is ∙ eqb-true _ n t ∙ sym timely.acked.numbered ∙ was.0.number_is in
           let same : m.index ≡ j =
@@ -236,11 +236,11 @@ module _ (W : World) (i : Inv (way W)) (good : Good W.a.state) where
       lacks (inr x) =
           let rx = W.b.state.rx in
           let table = table-of W.b.state other W.b.records recorded in
-          let ahead : expectedAt rx ≡ i.e - i.o = rx-ahead i.rxi (cell-count rx.cells other.sound.cell-count).few in
+          let ahead : expected_at rx ≡ i.e - i.o = rx-ahead i.rxi (cell-count rx.cells other.sound.cell-count).few in
           let q : i.o + (i.e - i.o) ≡ i.e = omega (arith, i.rxi.oe) in
-          let number : plus rx.rx_oldest.0 (expectedAt rx) ≡ plus W.start i.e =
+          let number : plus rx.rx_oldest.0 (expected_at rx) ≡ plus W.start i.e =
           ap (plus rx.rx_oldest.0) ahead ∙ rx-number i.rxi (i.e - i.o) ∙ ap (plus W.start) q in
-          false-true (sym (ap isFull (sym (ap (cell_of rx.cells (table_of rx W.b.records)) number) ∙ table.held)) ∙ x.2)
+          false-true (sym (ap is_full (sym (ap (cell_of rx.cells (table_of rx W.b.records)) number) ∙ table.held)) ∙ x.2)
 
   -- an ack's number is that of an accepted message
   pub ack-small : {n : ℕ} → TimelyAck n W.a W.b → n < 2 ^ 32
@@ -251,15 +251,15 @@ module _ (W : World) (i : Inv (way W)) (good : Good W.a.state) where
   -- ---- every call
 
   pub sender : Good W.b.state → SoundRecords (calls.table (holds W.b)) → {X : World} → Call W X → Inv (way X)
-  unfolding sendAt sendOf resendAt resendOf receiveAt takeAt takeAckAt
+  unfolding send_at send_of resend_at resend_of receive_at take_at take_ack_at
   sender other recorded (Other c u typed) = still (next c h) (other-left h good c u typed).tx
   sender other recorded (Send slot time m) =
       let c = calls.Send slot time m.kind m.bytes in
-      answer_keeps c h (λ v. (sentBy v S (sentState S slot time m.kind (length m.bytes))).answer) (λ a k. Inv (way (sent-world a m k)))
+      answer_keeps c h (λ v. (sent_by v S (sent_state S slot time m.kind (length m.bytes))).answer) (λ a k. Inv (way (sent-world a m k)))
       (λ e. send-inv slot time m (passed c h tt good e)) (λ r. i)
   sender other recorded (Resend slot time n number) =
       let c = calls.Resend slot time n in
-      answer_keeps c h (λ v. (resentBy v S n (resentState S slot time n)).answer) (λ a k. Inv (way (written W k G W.a.out W.a.accepted (putAgainBy a W n) W.ab.acks)))
+      answer_keeps c h (λ v. (resent_by v S n (resent_state S slot time n)).answer) (λ a k. Inv (way (written W k G W.a.out W.a.accepted (put_again_by a W n) W.ab.acks)))
       (λ e. resend-inv slot time n number (passed c h number good e)) (λ r. i)
   sender other recorded (Receive slot p brought timely) =
       let c = calls.Receive slot p.msg.kind p.number p.msg.bytes in

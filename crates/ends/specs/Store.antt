@@ -4,7 +4,7 @@ use Rattle.std.proofs.Common.{sym, ◌∙◌, ap, mod-lt, arith, inl, inr, lengt
 use Rattle.std.proofs.Math.ListN.{get_or-append}
 use Rattle.std.proofs.Math.Decide.{dec_lt}
 use Rattle.engine.specs.Sizes.{DATA_BYTES}
-use Rattle.engine.specs.Stores.{cellStart, copied}
+use Rattle.engine.specs.Stores.{cell_start, copied}
 
 abbrev get : List ℕ → ℕ → ℕ → List ℕ
 get d at n = take n (drop at d)
@@ -17,13 +17,13 @@ get-copied-same d at v h =
     ap (λ (x : List ℕ). take (length v) x) (drop_at (take at d) (v ++ drop (at + length v) d) at (length-take-le at d (omega arith)))
     ∙ take_at v (drop (at + length v) d) (length v) refl
 
-getD-copied-lt : (d : List ℕ) (at : ℕ) (v : List ℕ) (k : ℕ) → at ≤ length d → k < at → get_or (copied d at v) k 0 ≡ get_or d k 0
-getD-copied-lt d at v k h p =
+get_d-copied-lt : (d : List ℕ) (at : ℕ) (v : List ℕ) (k : ℕ) → at ≤ length d → k < at → get_or (copied d at v) k 0 ≡ get_or d k 0
+get_d-copied-lt d at v k h p =
     get_or-append (take at d) (v ++ drop (at + length v) d) 0 k (rw (length-take-le at d h) p)
     ∙ get_or-take at d k 0 p
 
-getD-copied-ge : (d : List ℕ) (at : ℕ) (v : List ℕ) (k : ℕ) → at ≤ length d → at + length v ≤ k → get_or (copied d at v) k 0 ≡ get_or d k 0
-getD-copied-ge d at v k h p =
+get_d-copied-ge : (d : List ℕ) (at : ℕ) (v : List ℕ) (k : ℕ) → at ≤ length d → at + length v ≤ k → get_or (copied d at v) k 0 ≡ get_or d k 0
+get_d-copied-ge d at v k h p =
     let m : ℕ = k - (at + length v) in
     let l : length (take at d) ≡ at = length-take-le at d h in
     let e : k ≡ length (take at d) + (length v + m) = omega (arith, l) in
@@ -44,35 +44,35 @@ get-copied-other d at v at2 n h side =
     each : (i : ℕ) → i < n → (at2 + n ≤ at) ⊎ (at + length v ≤ at2) → get_or (get (copied d at v) at2 n) i 0 ≡ get_or (get d at2 n) i 0
     each i q (inl p) =
         get_or-take n (drop at2 (copied d at v)) i 0 q ∙ get_or-drop at2 (copied d at v) i 0
-        ∙ getD-copied-lt d at v (at2 + i) (omega arith) (omega arith)
+        ∙ get_d-copied-lt d at v (at2 + i) (omega arith) (omega arith)
         ∙ sym (get_or-take n (drop at2 d) i 0 q ∙ get_or-drop at2 d i 0)
     each i q (inr p) =
         get_or-take n (drop at2 (copied d at v)) i 0 q ∙ get_or-drop at2 (copied d at v) i 0
-        ∙ getD-copied-ge d at v (at2 + i) (omega arith) (omega arith)
+        ∙ get_d-copied-ge d at v (at2 + i) (omega arith) (omega arith)
         ∙ sym (get_or-take n (drop at2 d) i 0 q ∙ get_or-drop at2 d i 0)
 
 -- ---- cells
 
 -- the first bytes of a number's cell
-abbrev pub cellBytes : ℕ → List ℕ → ℕ → ℕ → List ℕ
-cellBytes N store n len = get store (cellStart N n) len
+abbrev pub cell_bytes : ℕ → List ℕ → ℕ → ℕ → List ℕ
+cell_bytes N store n len = get store (cell_start N n) len
 
 module _ (N : ℕ) (some : 0 < N) (store : List ℕ) (long : length store ≡ N * DATA_BYTES) (n : ℕ) (bytes : List ℕ) (short : length bytes ≤ DATA_BYTES) where
-  inside : cellStart N n + length bytes ≤ length store
+  inside : cell_start N n + length bytes ≤ length store
   inside = let l = mod-lt n some in omega arith
 
   -- what was written is there ..
-  pub copied-here : cellBytes N (copied store (cellStart N n) bytes) n (length bytes) ≡ bytes
-  copied-here = get-copied-same store (cellStart N n) bytes inside
+  pub copied-here : cell_bytes N (copied store (cell_start N n) bytes) n (length bytes) ≡ bytes
+  copied-here = get-copied-same store (cell_start N n) bytes inside
 
   -- .. every other cell is as it was ..
-  pub copied-there : (m len : ℕ) → len ≤ DATA_BYTES → m % N ≢ n % N → cellBytes N (copied store (cellStart N n) bytes) m len ≡ cellBytes N store m len
-  copied-there m len fits ne = get-copied-other store (cellStart N n) bytes (cellStart N m) len inside (which (dec_lt (m % N) (n % N)))
+  pub copied-there : (m len : ℕ) → len ≤ DATA_BYTES → m % N ≢ n % N → cell_bytes N (copied store (cell_start N n) bytes) m len ≡ cell_bytes N store m len
+  copied-there m len fits ne = get-copied-other store (cell_start N n) bytes (cell_start N m) len inside (which (dec_lt (m % N) (n % N)))
     where
-      which : Dec (m % N < n % N) → (cellStart N m + len ≤ cellStart N n) ⊎ (cellStart N n + length bytes ≤ cellStart N m)
+      which : Dec (m % N < n % N) → (cell_start N m + len ≤ cell_start N n) ⊎ (cell_start N n + length bytes ≤ cell_start N m)
       which (yes p) = inl (omega arith)
       which (no p) = inr (omega arith)
 
   -- .. and the store as long
-  pub copied-long : length (copied store (cellStart N n) bytes) ≡ N * DATA_BYTES
-  copied-long = length-copied store (cellStart N n) bytes inside ∙ long
+  pub copied-long : length (copied store (cell_start N n) bytes) ≡ N * DATA_BYTES
+  copied-long = length-copied store (cell_start N n) bytes inside ∙ long

@@ -15,7 +15,7 @@ use Rattle.refusal.specs.Refusals.{refuse}
 use Rattle.refusal.specs.Verdicts.{gate}
 use Rattle.refusal.specs.Tests.{false-true}
 use Rattle.link.specs.declared.row.LinkRow.{LinkRow}
-use Rattle.link.specs.Row.{emptyRow, no_row}
+use Rattle.link.specs.Row.{empty_row, no_row}
 use Rattle.link.specs.Acks.{waiting}
 use Rattle.engine.specs.declared.state.SentReliable.{SentReliable}
 use Rattle.engine.specs.declared.state.Receiving.{Receiving}
@@ -24,19 +24,19 @@ use Rattle.engine.specs.declared.sending.SendAnswer.{SendAnswer}
 use Rattle.engine.specs.declared.sending.SendAnswer.TheVariants as sends
 use Rattle.engine.specs.declared.handing_out.HandOut.TheVariants as handouts
 use Rattle.engine.specs.Answer.{done-passed}
-use Rattle.engine.specs.Starting.{freshTx, freshRx, freshState, freshVerdict, fresh_of, freshRecords}
-use Rattle.engine.specs.Packets.{noPacket, packets, isReceived}
+use Rattle.engine.specs.Starting.{fresh_tx, fresh_rx, fresh_state, fresh_verdict, fresh_of, fresh_records}
+use Rattle.engine.specs.Packets.{no_packet, packets, is_received}
 use Rattle.engine.specs.CellCount.{cell-count}
-use Rattle.engine.specs.Records.{isFull}
-use Rattle.engine.specs.Received.{RxTable, table_of, expectedAt, inUse, held_at, isUsed, cell_of, view-held}
+use Rattle.engine.specs.Records.{is_full}
+use Rattle.engine.specs.Received.{RxTable, table_of, expected_at, in_use, held_at, is_used, cell_of, view-held}
 use Rattle.engine.specs.DecidedTables.{plus-zero}
 use Rattle.engine.specs.declared.answer.Outcome.TheVariants as outcomes
 use Rattle.engine.specs.Sound.{SoundRecords}
 use Rattle.engine.specs.Ring.{window}
 use Rattle.engine.specs.Rows.{row_of}
-use Rattle.engine.specs.Decide.{soundWithb, sound-true, records-true}
-use Rattle.engine.specs.Sending.{sendOf}
-use Rattle.engine.specs.HandingOut.{readyOf, readyBytes, handOutBy, takeVerdict, take_of}
+use Rattle.engine.specs.Decide.{sound_withb, sound-true, records-true}
+use Rattle.engine.specs.Sending.{send_of}
+use Rattle.engine.specs.HandingOut.{ready_of, ready_bytes, hand_out_by, take_verdict, take_of}
 use Rattle.engine.specs.Sizes.{SLOTS, DATA_BYTES, SENT_BYTES}
 use Rattle.engine.specs.Totals.{fits, MAX_TOTAL}
 use Rattle.laws.specs.Good.{Good}
@@ -45,7 +45,7 @@ use Rattle.laws.specs.SoundKept.{kept, fresh-good}
 use Rattle.laws.specs.RecordsKept.{records-kept, fresh-recorded}
 use Rattle.laws.specs.LinksKept.{fresh-is, fresh-numbers}
 use Rattle.laws.specs.PacketsKept.{packets-count}
-use Rattle.ends.specs.World.{Msg, End, World, swap, holds, givenBy, sendAt, resendAt, receiveAt, takeAt, takeAckAt, Call, Other, Send, Resend, Receive, Acked, Take, TakeAck, Step, at_a, at_b, Run, here, ◌then◌, Fresh, fresh, freshEnd, freshWorld}
+use Rattle.ends.specs.World.{Msg, End, World, swap, holds, given_by, send_at, resend_at, receive_at, take_at, take_ack_at, Call, Other, Send, Resend, Receive, Acked, Take, TakeAck, Step, at_a, at_b, Run, here, ◌then◌, Fresh, fresh, fresh_end, fresh_world}
 use Rattle.ends.specs.Demand.{handed, Safe, Complete, AllOut, Returned, now, earlier, Drains, Pinned, Demand3}
 use Rattle.ends.specs.Inv.{way, Inv}
 use Rattle.ends.specs.RxSteps.{handed-append, rx-ahead}
@@ -82,7 +82,7 @@ record Leaves (W X : World) (c : Call W X) : Type 0 where
   other-same : X.b ≡ W.b
 
 leaves : {W X : World} (c : Call W X) → Leaves W X c
-unfolding call_of sendAt resendAt receiveAt takeAt takeAckAt
+unfolding call_of send_at resend_at receive_at take_at take_ack_at
 leaves (Other c u typed) = record { held-is = refl; other-same = refl }
 leaves (Send slot time m) = record { held-is = refl; other-same = refl }
 leaves (Resend slot time n number) = record { held-is = refl; other-same = refl }
@@ -92,14 +92,14 @@ leaves Take = record { held-is = refl; other-same = refl }
 leaves (TakeAck slot) = record { held-is = refl; other-same = refl }
 
 -- no message is taken back
-given-more : (a : SendAnswer) (given : List Msg) (m : Msg) → length given ≤ length (givenBy a given m)
+given-more : (a : SendAnswer) (given : List Msg) (m : Msg) → length given ≤ length (given_by a given m)
 given-more (sends.Number seq) given m = omega (arith, longer given m)
 given-more (sends.No r) given m = omega arith
 
 call-grows : {W X : World} → Call W X → length W.a.given ≤ length X.a.given
-unfolding sendAt resendAt receiveAt takeAt takeAckAt
+unfolding send_at resend_at receive_at take_at take_ack_at
 call-grows (Other c u typed) = omega arith
-call-grows {W} (Send slot time m) = given-more (sendOf W.a.state (length W.a.sent) slot time m.kind (length m.bytes)).answer W.a.given m
+call-grows {W} (Send slot time m) = given-more (send_of W.a.state (length W.a.sent) slot time m.kind (length m.bytes)).answer W.a.given m
 call-grows (Resend slot time n number) = omega arith
 call-grows (Receive slot p brought timely) = omega arith
 call-grows (Acked slot time n brought timely) = omega arith
@@ -138,19 +138,19 @@ joined-after (◌then◌ r x) j = next x (joined-after r j)
 -- ---- fresh ends
 
 -- no cell is in use
-fresh-cell : (start buffer cells : ℕ) → start < 2 ^ 32 → (records : List ℕ) (n : ℕ) → isFull (cell_of cells (table_of (freshState start buffer cells).rx records) n) ≡ false
-unfolding cell_of isUsed
+fresh-cell : (start buffer cells : ℕ) → start < 2 ^ 32 → (records : List ℕ) (n : ℕ) → is_full (cell_of cells (table_of (fresh_state start buffer cells).rx records) n) ≡ false
+unfolding cell_of is_used
 fresh-cell start buffer cells s32 records n =
-    simp (le-ltb (past n (freshState start buffer cells).rx.rx_oldest.0) (inUse (freshState start buffer cells).rx) (omega (arith, (fresh-numbers start buffer cells s32).1)))
+    simp (le-ltb (past n (fresh_state start buffer cells).rx.rx_oldest.0) (in_use (fresh_state start buffer cells).rx) (omega (arith, (fresh-numbers start buffer cells s32).1)))
 
 -- for no slot an ack waits
-fresh-row : (start buffer cells : ℕ) (k : ℕ) → waiting (row_of (freshState start buffer cells) k) ≡ []
-unfolding freshState row_of waiting emptyRow
-fresh-row start buffer cells k = cases (ltb k SLOTS) (λ t. simp t (ap (λ (r : LinkRow). waiting r) (get_or-replicate SLOTS k emptyRow no_row (ltb-true k SLOTS t)))) (λ t. simp t)
+fresh-row : (start buffer cells : ℕ) (k : ℕ) → waiting (row_of (fresh_state start buffer cells) k) ≡ []
+unfolding fresh_state row_of waiting empty_row
+fresh-row start buffer cells k = cases (ltb k SLOTS) (λ t. simp t (ap (λ (r : LinkRow). waiting r) (get_or-replicate SLOTS k empty_row no_row (ltb-true k SLOTS t)))) (λ t. simp t)
 
 fresh-inv : (s x m y n : ℕ) (sa rb kb : List ℕ) → s < 2 ^ 32 → length sa ≡ SENT_BYTES → length rb ≡ n * DATA_BYTES
-    → Inv (record { start = s; sender = freshState s x m; sent = sa; given = []; msgs = []; receiver = freshState s y n; received = rb; records = kb; out = []; accepted = []; acks = [] })
-unfolding freshState freshTx freshRx window handed plus
+    → Inv (record { start = s; sender = fresh_state s x m; sent = sa; given = []; msgs = []; receiver = fresh_state s y n; received = rb; records = kb; out = []; accepted = []; acks = [] })
+unfolding fresh_state fresh_tx fresh_rx window handed plus
 fresh-inv s x m y n sa rb kb s32 la lb =
     let zero : s ≡ plus s 0 = omega arith in
     record {
@@ -177,14 +177,14 @@ fresh-inv s x m y n sa rb kb s32 la lb =
 -- what is given to a fresh end
 record Starts (s buffer cells : ℕ) (records : List ℕ) : Type 0 where
   number : s < 2 ^ 32
-  passed : freshVerdict buffer cells (length records) ≡ verdicts.Pass
+  passed : fresh_verdict buffer cells (length records) ≡ verdicts.Pass
 
 starts : (s buffer cells : ℕ) (records : List ℕ) → s < 2 ^ 32 → (fresh_of s buffer cells (length records)).outcome ≡ outcomes.Done → Starts s buffer cells records
 unfolding fresh_of
-starts s buffer cells records s32 done = record { number = s32; passed = done-passed (freshVerdict buffer cells (length records)) _ _ done }
+starts s buffer cells records s32 done = record { number = s32; passed = done-passed (fresh_verdict buffer cells (length records)) _ _ done }
 
 fresh-side : (s x m y n : ℕ) (sa ra ka sb rb kb : List ℕ) → Starts s x m ka → Starts s y n kb → length sa ≡ SENT_BYTES → length rb ≡ n * DATA_BYTES
-    → Inv (way (freshWorld s (freshEnd s x m sa ra ka) (freshEnd s y n sb rb kb)))
+    → Inv (way (fresh_world s (fresh_end s x m sa ra ka) (fresh_end s y n sb rb kb)))
 fresh-side s x m y n sa ra ka sb rb kb a b la lb =
     subst Inv (λ d. record {
       start = s;
@@ -194,11 +194,11 @@ fresh-side s x m y n sa ra ka sb rb kb a b la lb =
       msgs = [];
       receiver = sym (fresh-is s y n b.number kb b.passed) d;
       received = rb;
-      records = freshRecords y n kb;
+      records = fresh_records y n kb;
       out = [];
       accepted = [];
       acks = [];
-    }) (fresh-inv s x m y n sa rb (freshRecords y n kb) a.number la lb)
+    }) (fresh-inv s x m y n sa rb (fresh_records y n kb) a.number la lb)
 
 pub joined-fresh : {U : World} → Fresh U → Joined U
 joined-fresh (fresh s x m y n sa ra ka sb rb kb s32 hx hy l₁ l₂ l₃ l₄) =
@@ -216,18 +216,18 @@ joined-fresh (fresh s x m y n sa ra ka sb rb kb s32 hx hy l₁ l₂ l₃ l₄) =
 -- ---- nothing to take
 
 -- an answer is a refusal just if the verdict is
-full-verdict : (v : Verdict) (t : RxTable) → handOutBy v t ≡ handouts.No (refuse 19 tt) → v ≡ verdicts.No (refuse 19 tt)
-unfolding handOutBy
+full-verdict : (v : Verdict) (t : RxTable) → hand_out_by v t ≡ handouts.No (refuse 19 tt) → v ≡ verdicts.No (refuse 19 tt)
+unfolding hand_out_by
 full-verdict verdicts.Pass t e = let z : ◌≡◌ {A = ℕ} 0 1 = cc in absurd (omega arith)
 full-verdict (verdicts.No r) t e = cc
 
 -- with a message ready, the verdict of taking is not 19
-nothing-refused : {X : Type 0} (s : State) (records : List ℕ) → Good s → SoundRecords (table_of s.rx records) → isFull (readyOf (table_of s.rx records)) ≡ true
-    → takeVerdict s records ≡ verdicts.No (refuse 19 tt) → X
-unfolding takeVerdict soundWithb
+nothing-refused : {X : Type 0} (s : State) (records : List ℕ) → Good s → SoundRecords (table_of s.rx records) → is_full (ready_of (table_of s.rx records)) ≡ true
+    → take_verdict s records ≡ verdicts.No (refuse 19 tt) → X
+unfolding take_verdict sound_withb
 nothing-refused s records good recorded ready v =
     let t = table_of s.rx records in
-    not-nothing (fits s.rx.rxed_reliable_consumed (readyBytes (readyOf t)) MAX_TOTAL)
+    not-nothing (fits s.rx.rxed_reliable_consumed (ready_bytes (ready_of t)) MAX_TOTAL)
     (simp (eq-eqb (length records) s.rx.cells recorded.long, sound-true s good.sound, records-true t recorded, ready) at v)
   where
     not-nothing : {X : Type 0} (b : Bool) → gate b 9 verdicts.Pass ≡ verdicts.No (refuse 19 tt) → X
@@ -251,7 +251,7 @@ module _ (W : World) (i : Inv (way W)) where
 
   -- .. and with nothing ready too, all of it was handed out
   all-out : Good W.b.state → SoundRecords (calls.table (holds W.b)) → AllOut W
-  unfolding take_of readyOf held_at
+  unfolding take_of ready_of held_at
   all-out good recorded emptied nothing = go (dec_lt i.o i.e)
     where
       rx : Receiving
@@ -264,18 +264,18 @@ module _ (W : World) (i : Inv (way W)) where
       t = table_of W.b.state.rx W.b.records
 
       -- the oldest number, before the next expected, holds a message
-      full : i.o < i.e → isFull (readyOf t) ≡ true
+      full : i.o < i.e → is_full (ready_of t) ≡ true
       full l =
           let count = cell-count N good.sound.cell-count in
           let few = count.few in
           let differ : rx.rx_oldest.0 ≡ rx.rx_seq.0 → ⊥ =
           λ q. let same = plus-apart W.start i.o i.e (omega arith) (omega (arith, i.rxi.eo, few)) (sym i.rxi.old-is ∙ q ∙ i.rxi.exp-is) in omega (arith, same) in
-          let ahead : 0 < expectedAt rx = omega (arith, rx-ahead i.rxi few) in
+          let ahead : 0 < expected_at rx = omega (arith, rx-ahead i.rxi few) in
           let first = view-held N count t 0 (omega (arith, ahead, good.sound.near)) ∙ ap (held_at N W.b.records) (plus-zero rx.rx_oldest.0 good.shaped.oldest-u32) in
-          simp (ne_eqb _ _ differ) (ap isFull (sym first) ∙ recorded.oldest ahead)
+          simp (ne_eqb _ _ differ) (ap is_full (sym first) ∙ recorded.oldest ahead)
 
       go : Dec (i.o < i.e) → W.b.out ≡ handed W.a.given
-      go (yes l) = nothing-refused W.b.state W.b.records good recorded (full l) (full-verdict (takeVerdict W.b.state W.b.records) t nothing)
+      go (yes l) = nothing-refused W.b.state W.b.records good recorded (full l) (full-verdict (take_verdict W.b.state W.b.records) t nothing)
       go (no l) =
           let all : i.o ≡ length W.a.given = omega (arith, i.rxi.oe, i.rxi.en, i.txi.tight, packets-count W.a.state.tx) in
           i.out-is ∙ ap (λ (n : ℕ). handed (take n W.a.given)) all ∙ ap handed (take-length W.a.given)
@@ -324,7 +324,7 @@ drains-from U j W r q returned = let k = joined-after r j in all_done W k.one k.
 
     each : (i : ℕ) → i < length W.a.given → Dec (length U.a.given ≤ i + length ps) → Done W.a i
     each i l (no y) = done_all r j q i (λ k u e. absurd (y (omega arith)))
-    each i l (yes y) = look (isReceived (get_or ps k noPacket).status) refl
+    each i l (yes y) = look (is_received (get_or ps k no_packet).status) refl
       where
         k : ℕ
         k = i + length ps - length U.a.given
@@ -335,12 +335,12 @@ drains-from U j W r q returned = let k = joined-after r j in all_done W k.one k.
         place : i + length ps ≡ length U.a.given + k
         place = omega arith
 
-        look : (b : Bool) → isReceived (get_or ps k noPacket).status ≡ b → Done W.a i
+        look : (b : Bool) → is_received (get_or ps k no_packet).status ≡ b → Done W.a i
         look true b = done_all r j q i (λ n u e. let same : n ≡ k = omega (arith, place) in rw same b)
         look false b = done-returned i j q (returned i (record {
           given = omega (arith, q, l);
           in-table = omega (arith, packets-count U.a.state.tx);
-          unreceived = λ z. false-true (sym b ∙ ap isReceived (sym (status-at U j.one j.good-a i k here place) ∙ z));
+          unreceived = λ z. false-true (sym b ∙ ap is_received (sym (status-at U j.one j.good-a i k here place) ∙ z));
         }))
 
 -- ---- Demand 3

@@ -10,14 +10,14 @@ use Rattle.seq.specs.Laws.{plus-plus, cell-counted}
 use Rattle.refusal.specs.Tests.{false-true}
 use Rattle.engine.specs.declared.state.SentReliableStatus.{SentReliableStatus}
 use Rattle.engine.specs.declared.state.SentReliable.{SentReliable}
-use Rattle.engine.specs.Packets.{noPacket, isReceived}
+use Rattle.engine.specs.Packets.{no_packet, is_received}
 use Rattle.engine.specs.InTable.{cells-divide}
-use Rattle.engine.specs.Stores.{cellStart, copied}
+use Rattle.engine.specs.Stores.{cell_start, copied}
 use Rattle.engine.specs.Sizes.{PACKETS, DATA_BYTES}
 use Rattle.laws.specs.PacketsKept.{map_at}
 use Rattle.laws.specs.PacketEffects.{restated}
 use Rattle.ends.specs.World.{Msg}
-use Rattle.ends.specs.Demand.{noMsg}
+use Rattle.ends.specs.Demand.{no_msg}
 use Rattle.ends.specs.Store.{copied-here, copied-there, copied-long}
 use Rattle.ends.specs.Inv.{at, Carries, TxI}
 
@@ -28,10 +28,10 @@ module _ (G : List Msg) (m : Msg) where
   longer = length-append G (m ∷ [])
 
   pub at_old : (j : ℕ) → j < length G → at (G ++ (m ∷ [])) j ≡ at G j
-  at_old j h = get_or-append G (m ∷ []) noMsg j h
+  at_old j h = get_or-append G (m ∷ []) no_msg j h
 
   pub at_new : (j : ℕ) → j ≡ length G → at (G ++ (m ∷ [])) j ≡ m
-  at_new j e = ap (at (G ++ (m ∷ []))) e ∙ get_or-append_seam G m [] noMsg
+  at_new j e = ap (at (G ++ (m ∷ []))) e ∙ get_or-append_seam G m [] no_msg
 
 -- numbers less than 64 apart have cells of their own
 cells-differ : (s j k : ℕ) → j < k → k < j + PACKETS → plus s j % PACKETS ≡ plus s k % PACKETS → ⊥
@@ -42,7 +42,7 @@ cells-differ s j k p q e =
 module _ (s : ℕ) (G : List Msg) (next : ℕ) (ps : List SentReliable) (store : List ℕ) (e : ℕ) (H : ℕ → Type 0) (i : TxI s G next ps store e H) where
   -- statuses change: who is Received then, the other end has
   pub tx-restated : (change : SentReliable → SentReliableStatus)
-      → ((k j : ℕ) → k < length ps → j + length ps ≡ length G + k → isReceived (change (get_or ps k noPacket)) ≡ true → H j)
+      → ((k j : ℕ) → k < length ps → j + length ps ≡ length G + k → is_received (change (get_or ps k no_packet)) ≡ true → H j)
       → TxI s G next (map (restated change) ps) store e H
   tx-restated change had =
       let long : length (map (restated change) ps) ≡ length ps = length-map ps (restated change) in
@@ -56,12 +56,12 @@ module _ (s : ℕ) (G : List Msg) (next : ℕ) (ps : List SentReliable) (store :
             let l' : k < length ps = omega (arith, long) in
             let q' : j + length ps ≡ length G + k = omega (arith, long) in
             let old = i.each k j l' q' in
-            rw (map_at (restated change) noPacket ps k l')
+            rw (map_at (restated change) no_packet ps k l')
             (record { number_is = old.number_is; kind-is = old.kind-is; len_is = old.len_is; bytes-is = old.bytes-is; received = had k j l' q' });
       }
 
   -- Received packets are dropped from the front: the other end has those, and lacks message e, so e isn't among them
-  pub tx-dropped : (gone : ℕ) → gone ≤ length ps → ((k : ℕ) → k < gone → isReceived (get_or ps k noPacket).status ≡ true) → (H e → ⊥) → TxI s G next (drop gone ps) store e H
+  pub tx-dropped : (gone : ℕ) → gone ≤ length ps → ((k : ℕ) → k < gone → is_received (get_or ps k no_packet).status ≡ true) → (H e → ⊥) → TxI s G next (drop gone ps) store e H
   tx-dropped gone few dropped lacks =
       let long : length (drop gone ps) ≡ length ps - gone = length-drop gone ps in
       record {
@@ -70,7 +70,7 @@ module _ (s : ℕ) (G : List Msg) (next : ℕ) (ps : List SentReliable) (store :
         within = omega (arith, long, i.within);
         tight = up (dec_le (length G) (e + length (drop gone ps)));
         store_long = i.store_long;
-        each = λ k j l q. rw (get_or-drop gone ps k noPacket) (i.each (gone + k) j (omega (arith, long)) (omega (arith, long)));
+        each = λ k j l q. rw (get_or-drop gone ps k no_packet) (i.each (gone + k) j (omega (arith, long)) (omega (arith, long)));
       }
     where
       up : Dec (length G ≤ e + length (drop gone ps)) → length G ≤ e + length (drop gone ps)
@@ -82,8 +82,8 @@ module _ (s : ℕ) (G : List Msg) (next : ℕ) (ps : List SentReliable) (store :
 
   -- a message is sent
   pub tx-sent : (m : Msg) (p : SentReliable) → ((j : ℕ) → j < length G → length (at G j).bytes ≤ DATA_BYTES) → length ps < PACKETS → length m.bytes ≤ DATA_BYTES
-      → p.seq.0 ≡ next → p.msg ≡ m.kind → p.len ≡ length m.bytes → isReceived p.status ≡ false
-      → TxI s (G ++ (m ∷ [])) (plus next 1) (ps ++ (p ∷ [])) (copied store (cellStart PACKETS next) m.bytes) e H
+      → p.seq.0 ≡ next → p.msg ≡ m.kind → p.len ≡ length m.bytes → is_received p.status ≡ false
+      → TxI s (G ++ (m ∷ [])) (plus next 1) (ps ++ (p ∷ [])) (copied store (cell_start PACKETS next) m.bytes) e H
   tx-sent m p small free fits number kind len fresh =
       let more : length (ps ++ (p ∷ [])) ≡ length ps + 1 = length-append ps (p ∷ []) in
       let given = longer G m in
@@ -97,11 +97,11 @@ module _ (s : ℕ) (G : List Msg) (next : ℕ) (ps : List SentReliable) (store :
       }
     where
       carried : (k j : ℕ) → k < length (ps ++ (p ∷ [])) → j + length (ps ++ (p ∷ [])) ≡ length (G ++ (m ∷ [])) + k → Dec (k ≡ length ps)
-          → Carries s (copied store (cellStart PACKETS next) m.bytes) H j (get_or (ps ++ (p ∷ [])) k noPacket) (at (G ++ (m ∷ [])) j)
+          → Carries s (copied store (cell_start PACKETS next) m.bytes) H j (get_or (ps ++ (p ∷ [])) k no_packet) (at (G ++ (m ∷ [])) j)
       carried k j l q (yes y) =
           let last : j ≡ length G = omega (arith, q, y, longer G m, length-append ps (p ∷ [])) in
           let here : plus s j ≡ next = ap (plus s) last ∙ sym i.next-is in
-          rw (y, get_or-append_seam ps p [] noPacket, at_new G m j last)
+          rw (y, get_or-append_seam ps p [] no_packet, at_new G m j last)
           (record {
             number_is = number ∙ sym here;
             kind-is = kind;
@@ -114,7 +114,7 @@ module _ (s : ℕ) (G : List Msg) (next : ℕ) (ps : List SentReliable) (store :
           let q' : j + length ps ≡ length G + k = omega (arith, q, longer G m, length-append ps (p ∷ [])) in
           let old = i.each k j l' q' in
           let lt : j < length G = omega arith in
-          rw (get_or-append ps (p ∷ []) noPacket k l', at_old G m j lt)
+          rw (get_or-append ps (p ∷ []) no_packet k l', at_old G m j lt)
           (record {
             number_is = old.number_is;
             kind-is = old.kind-is;

@@ -8,20 +8,20 @@ use Rattle.msg.specs.declared.reliable.ReliableMsg.{ReliableMsg}
 use Rattle.engine.specs.declared.state.State.{State}
 use Rattle.engine.specs.declared.answer.Outcome.{Outcome}
 use Rattle.engine.specs.declared.answer.Outcome.TheVariants as outcomes
-use Rattle.engine.specs.Stores.{cellStart}
-use Rattle.engine.specs.Starting.{fresh_of, freshRecords}
+use Rattle.engine.specs.Stores.{cell_start}
+use Rattle.engine.specs.Starting.{fresh_of, fresh_records}
 use Rattle.engine.specs.declared.sending.SendAnswer.{SendAnswer}
 use Rattle.engine.specs.declared.sending.SendAnswer.TheVariants as sends
 use Rattle.engine.specs.declared.resending.ResendAnswer.{ResendAnswer}
 use Rattle.engine.specs.declared.resending.ResendAnswer.TheVariants as resends
-use Rattle.engine.specs.Sending.{sendOf}
-use Rattle.engine.specs.Resending.{resendOf}
-use Rattle.engine.specs.Receiving.{receiveOf}
+use Rattle.engine.specs.Sending.{send_of}
+use Rattle.engine.specs.Resending.{resend_of}
+use Rattle.engine.specs.Receiving.{receive_of}
 use Rattle.engine.specs.declared.handing_out.HandOut.{HandOut}
 use Rattle.engine.specs.declared.handing_out.HandOut.TheVariants as handouts
 use Rattle.engine.specs.declared.handing_out.TakeAck.{TakeAck as AckAnswer}
 use Rattle.engine.specs.declared.handing_out.TakeAck.TheVariants as acks
-use Rattle.engine.specs.HandingOut.{shownOf, take_of, takeAckOf}
+use Rattle.engine.specs.HandingOut.{shown_of, take_of, take_ack_of}
 use Rattle.engine.specs.Sizes.{PACKETS, DATA_BYTES, SENT_BYTES}
 use Rattle.laws.specs.Calls as calls
 
@@ -93,67 +93,67 @@ called W c = written W (calls.next c (holds W.a)) W.a.given W.a.out W.a.accepted
 -- ---- and what the observer writes down, by the call's answer: of a refused call nothing
 
 -- "an accepted Send": what was given, "by a call not refused", is put on the links
-abbrev pub givenBy : SendAnswer → List Msg → Msg → List Msg
-givenBy (sends.Number seq) given m = given ++ (m ∷ [])
-givenBy (sends.No r) given m = given
+abbrev pub given_by : SendAnswer → List Msg → Msg → List Msg
+given_by (sends.Number seq) given m = given ++ (m ∷ [])
+given_by (sends.No r) given m = given
 
-abbrev pub putBy : SendAnswer → List Packet → ℕ → Msg → List Packet
-putBy (sends.Number seq) msgs index m = record { index = index; number = seq.0; msg = m } ∷ msgs
-putBy (sends.No r) msgs index m = msgs
+abbrev pub put_by : SendAnswer → List Packet → ℕ → Msg → List Packet
+put_by (sends.Number seq) msgs index m = record { index = index; number = seq.0; msg = m } ∷ msgs
+put_by (sends.No r) msgs index m = msgs
 
-unfoldable pub sendAt : World → ℕ → ℕ → Msg → World
-sendAt W slot time m =
-    let answer = (sendOf W.a.state (length W.a.sent) slot time m.kind (length m.bytes)).answer in
+unfoldable pub send_at : World → ℕ → ℕ → Msg → World
+send_at W slot time m =
+    let answer = (send_of W.a.state (length W.a.sent) slot time m.kind (length m.bytes)).answer in
     let call = calls.Send slot time m.kind m.bytes in
-    written W (calls.next call (holds W.a)) (givenBy answer W.a.given m) W.a.out W.a.accepted
-    (putBy answer W.ab.msgs (length W.a.given) m) W.ab.acks
+    written W (calls.next call (holds W.a)) (given_by answer W.a.given m) W.a.out W.a.accepted
+    (put_by answer W.ab.msgs (length W.a.given) m) W.ab.acks
 
 -- of the messages given from number `start` on, the index of the newest that has number n
 abbrev pub newest : ℕ → ℕ → ℕ → ℕ
 newest start given n = given - minus (plus start given) n
 
 -- "an accepted Resend (with its sent cell)": what it answers is put on the links, with the bytes of the number's sent cell
-abbrev pub putAgainBy : ResendAnswer → World → ℕ → List Packet
-putAgainBy (resends.Message kind len) W n =
-    record { index = newest W.start (length W.a.given) n; number = n; msg = record { kind = kind; bytes = take len (drop (cellStart PACKETS n) W.a.sent) } } ∷ W.ab.msgs
-putAgainBy (resends.No r) W n = W.ab.msgs
+abbrev pub put_again_by : ResendAnswer → World → ℕ → List Packet
+put_again_by (resends.Message kind len) W n =
+    record { index = newest W.start (length W.a.given) n; number = n; msg = record { kind = kind; bytes = take len (drop (cell_start PACKETS n) W.a.sent) } } ∷ W.ab.msgs
+put_again_by (resends.No r) W n = W.ab.msgs
 
-unfoldable pub resendAt : World → ℕ → ℕ → ℕ → World
-resendAt W slot time n =
+unfoldable pub resend_at : World → ℕ → ℕ → ℕ → World
+resend_at W slot time n =
     written W (calls.next (calls.Resend slot time n) (holds W.a)) W.a.given W.a.out W.a.accepted
-    (putAgainBy (resendOf W.a.state slot time n).answer W n) W.ab.acks
+    (put_again_by (resend_of W.a.state slot time n).answer W n) W.ab.acks
 
 -- Receive: what isn't refused is accepted
-abbrev pub acceptedBy : Outcome → List Packet → Packet → List Packet
-acceptedBy outcomes.Done accepted p = p ∷ accepted
-acceptedBy (outcomes.No r) accepted p = accepted
+abbrev pub accepted_by : Outcome → List Packet → Packet → List Packet
+accepted_by outcomes.Done accepted p = p ∷ accepted
+accepted_by (outcomes.No r) accepted p = accepted
 
-unfoldable pub receiveAt : World → ℕ → Packet → World
-receiveAt W slot p =
-    let outcome = (receiveOf W.a.state (length W.a.received) W.a.records slot p.msg.kind p.number (length p.msg.bytes)).outcome in
+unfoldable pub receive_at : World → ℕ → Packet → World
+receive_at W slot p =
+    let outcome = (receive_of W.a.state (length W.a.received) W.a.records slot p.msg.kind p.number (length p.msg.bytes)).outcome in
     let call = calls.Receive slot p.msg.kind p.number p.msg.bytes in
-    written W (calls.next call (holds W.a)) W.a.given W.a.out (acceptedBy outcome W.a.accepted p) W.ab.msgs W.ab.acks
+    written W (calls.next call (holds W.a)) W.a.given W.a.out (accepted_by outcome W.a.accepted p) W.ab.msgs W.ab.acks
 
 -- Take: what was handed out is the kind that taking answers, with the bytes that showing gives before it
-abbrev pub outBy : HandOut → List Msg → List ℕ → List Msg
-outBy (handouts.Message kind seq len) out shown = out ++ (record { kind = kind; bytes = shown } ∷ [])
-outBy (handouts.No r) out shown = out
+abbrev pub out_by : HandOut → List Msg → List ℕ → List Msg
+out_by (handouts.Message kind seq len) out shown = out ++ (record { kind = kind; bytes = shown } ∷ [])
+out_by (handouts.No r) out shown = out
 
-unfoldable pub takeAt : World → World
-takeAt W =
+unfoldable pub take_at : World → World
+take_at W =
     written W (calls.next calls.Take (holds W.a)) W.a.given
-    (outBy (take_of W.a.state W.a.records).answer W.a.out (shownOf W.a.state W.a.received W.a.records)) W.a.accepted
+    (out_by (take_of W.a.state W.a.records).answer W.a.out (shown_of W.a.state W.a.received W.a.records)) W.a.accepted
     W.ab.msgs W.ab.acks
 
 -- "the taking of an ack": it is put on the links
-abbrev pub putAckBy : AckAnswer → List ℕ → List ℕ
-putAckBy (acks.Number seq) numbers = seq.0 ∷ numbers
-putAckBy (acks.No r) numbers = numbers
+abbrev pub put_ack_by : AckAnswer → List ℕ → List ℕ
+put_ack_by (acks.Number seq) numbers = seq.0 ∷ numbers
+put_ack_by (acks.No r) numbers = numbers
 
-unfoldable pub takeAckAt : World → ℕ → World
-takeAckAt W slot =
+unfoldable pub take_ack_at : World → ℕ → World
+take_ack_at W slot =
     written W (calls.next (calls.TakeAck slot) (holds W.a)) W.a.given W.a.out W.a.accepted W.ab.msgs
-    (putAckBy (takeAckOf W.a.state slot).answer W.ab.acks)
+    (put_ack_by (take_ack_of W.a.state slot).answer W.ab.acks)
 
 -- ---- the premises
 
@@ -189,12 +189,12 @@ pub record TimelyAck (n : ℕ) (sender receiver : End) : Type 0 where
 
 pub data Call : World → World → Type 0 where
   Other : {W : World} (c : calls.Call) → calls.Unnoted c → calls.Typed c → Call W (called W c)
-  Send : {W : World} (slot time : ℕ) (m : Msg) → Call W (sendAt W slot time m)
-  Resend : {W : World} (slot time n : ℕ) → n < 2 ^ 32 → Call W (resendAt W slot time n)
-  Receive : {W : World} (slot : ℕ) (p : Packet) → Brought p W.ba → Timely p.index W.b → Call W (receiveAt W slot p)
+  Send : {W : World} (slot time : ℕ) (m : Msg) → Call W (send_at W slot time m)
+  Resend : {W : World} (slot time n : ℕ) → n < 2 ^ 32 → Call W (resend_at W slot time n)
+  Receive : {W : World} (slot : ℕ) (p : Packet) → Brought p W.ba → Timely p.index W.b → Call W (receive_at W slot p)
   Acked : {W : World} (slot time n : ℕ) → BroughtAck n W.ba → TimelyAck n W.a W.b → Call W (called W (calls.Ack slot time n))
-  Take : {W : World} → Call W (takeAt W)
-  TakeAck : {W : World} (slot : ℕ) → Call W (takeAckAt W slot)
+  Take : {W : World} → Call W (take_at W)
+  TakeAck : {W : World} (slot : ℕ) → Call W (take_ack_at W slot)
 
 pub data Step : World → World → Type 0 where
   at_a : {W X : World} → Call W X → Step W X
@@ -207,12 +207,12 @@ pub data Run (W : World) : World → Type 0 where
 
 -- ---- "two fresh ends, started at the same number"
 
-abbrev pub freshEnd : (start buffer cells : ℕ) (sent received records : List ℕ) → End
-freshEnd start buffer cells sent received records = record {
+abbrev pub fresh_end : (start buffer cells : ℕ) (sent received records : List ℕ) → End
+fresh_end start buffer cells sent received records = record {
   state = (fresh_of start buffer cells (length records)).state;
   sent = sent;
   received = received;
-  records = freshRecords buffer cells records;
+  records = fresh_records buffer cells records;
   given = [];
   out = [];
   accepted = [];
@@ -221,8 +221,8 @@ freshEnd start buffer cells sent received records = record {
 abbrev pub silent : Wire
 silent = record { msgs = []; acks = [] }
 
-abbrev pub freshWorld : ℕ → End → End → World
-freshWorld start a b = record { start = start; a = a; b = b; ab = silent; ba = silent }
+abbrev pub fresh_world : ℕ → End → End → World
+fresh_world start a b = record { start = start; a = a; b = b; ab = silent; ba = silent }
 
 -- any number; at each end a setting of the receive buffer, a cell count and a record space that aren't refused, whatever the records held; and the two stores of
 -- its size, with any bytes in them
@@ -230,4 +230,4 @@ pub data Fresh : World → Type 0 where
   fresh : (start buffer-a cells-a buffer-b cells-b : ℕ) (sent-a received-a records-a sent-b received-b records-b : List ℕ) → start < 2 ^ 32
       → (fresh_of start buffer-a cells-a (length records-a)).outcome ≡ outcomes.Done → (fresh_of start buffer-b cells-b (length records-b)).outcome ≡ outcomes.Done
       → length sent-a ≡ SENT_BYTES → length received-a ≡ cells-a * DATA_BYTES → length sent-b ≡ SENT_BYTES → length received-b ≡ cells-b * DATA_BYTES
-      → Fresh (freshWorld start (freshEnd start buffer-a cells-a sent-a received-a records-a) (freshEnd start buffer-b cells-b sent-b received-b records-b))
+      → Fresh (fresh_world start (fresh_end start buffer-a cells-a sent-a received-a records-a) (fresh_end start buffer-b cells-b sent-b received-b records-b))

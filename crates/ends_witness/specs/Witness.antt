@@ -1,10 +1,10 @@
 -- The premises of demand 3 can be met, with any bytes in the stores: a run over the wrap with a loss, a reordering, a resend over another
 -- link and a repeat, to a hand-out of all that was given and an empty table. Each step is computed from the engine's own
 -- definitions. Assumes nothing.
-use Rattle.engine.specs.CellCount.{isCellCount}
-use Rattle.engine.specs.Records.{heldAs, held_of, isRecord, keptRecord}
-use Rattle.engine.specs.Received.{table_of, held_at, isUsed, cell_of, bytesIn}
-use Rattle.engine.specs.Packets.{queuedOf, sum_of}
+use Rattle.engine.specs.CellCount.{is_cell_count}
+use Rattle.engine.specs.Records.{held_as, held_of, is_record, kept_record}
+use Rattle.engine.specs.Received.{table_of, held_at, is_used, cell_of, bytes_in}
+use Rattle.engine.specs.Packets.{queued_of, sum_of}
 use Rattle.std.specs.Prelude.{◌≡◌, cond, ℕ, ◌+◌, ◌<◌, replicate}
 use Rattle.std.proofs.Math.Path.{refl, sym}
 use Rattle.std.proofs.Common.{◌∙◌, ap, subst, arith}
@@ -21,79 +21,79 @@ use Rattle.engine.specs.declared.state.State.{State}
 use Rattle.engine.specs.declared.state.SentReliableStatus.{SentReliableStatus}
 use Rattle.engine.specs.declared.state.SentReliableStatus.TheVariants as statuses
 use Rattle.engine.specs.declared.answer.Outcome.TheVariants as outcomes
-use Rattle.engine.specs.Stores.{storeBy, copied, cellStart}
+use Rattle.engine.specs.Stores.{store_by, copied, cell_start}
 use Rattle.engine.specs.declared.handing_out.HandOut.{HandOut}
 use Rattle.engine.specs.declared.handing_out.HandOut.TheVariants as handouts
-use Rattle.seq.specs.Numbers.{seqOf, plus, minus, signed}
+use Rattle.seq.specs.Numbers.{seq_of, plus, minus, signed}
 use Rattle.seq.specs.Distance.{distance_of, near, before, past}
-use Rattle.link.specs.Acks.{ackQueued, waiting, oldestAck, shifted, ackTaken}
-use Rattle.link.specs.Limit.{markedRow, markAckedAs, markResentAs}
-use Rattle.link.specs.Roundtrip.{tripAfter, tripMoved}
-use Rattle.link.specs.Row.{fresh_row, emptyRow, unconfirmedRow, withUnacked}
-use Rattle.engine.specs.Decide.{soundb, sound?, records?, recordsb, soundWithb}
-use Rattle.engine.specs.Starting.{freshTx, freshRx, freshState, freshVerdict, fresh_of, freshRecords}
-use Rattle.engine.specs.Gates.{slotVerdict, timedVerdict}
+use Rattle.link.specs.Acks.{ack_queued, waiting, oldest_ack, shifted, ack_taken}
+use Rattle.link.specs.Limit.{marked_row, mark_acked_as, mark_resent_as}
+use Rattle.link.specs.Roundtrip.{trip_after, trip_moved}
+use Rattle.link.specs.Row.{fresh_row, empty_row, unconfirmed_row, with_unacked}
+use Rattle.engine.specs.Decide.{soundb, sound?, records?, recordsb, sound_withb}
+use Rattle.engine.specs.Starting.{fresh_tx, fresh_rx, fresh_state, fresh_verdict, fresh_of, fresh_records}
+use Rattle.engine.specs.Gates.{slot_verdict, timed_verdict}
 use Rattle.engine.specs.Queue.{requeued}
-use Rattle.engine.specs.Ring.{window, nextCell, refilled}
-use Rattle.engine.specs.Rows.{row_of, slotOk, timeOk}
-use Rattle.engine.specs.Table.{in_table, withPacket, place, lookedAt, withTable, packetOf}
-use Rattle.engine.specs.Tally.{lengthOk}
-use Rattle.engine.specs.Links.{lowestEmpty, addVerdict, addOf, is_taken}
-use Rattle.engine.specs.Unconfirming.{unconfirmed, unconfirmedState, unconfirmOf}
-use Rattle.engine.specs.Resending.{resendVerdict, resentState, resendOf, isListed}
-use Rattle.engine.specs.Sending.{totalsOk, sendVerdict, sentTx, toldRx, sentState, sendOf, sendStore}
-use Rattle.engine.specs.Acking.{ackedRow, ackedTx, ackedState, ackVerdict, ackOf, settledRowAs, receivedTx, settledTxAs, sweepFrom, sweepOf, sweptTx}
+use Rattle.engine.specs.Ring.{window, next_cell, refilled}
+use Rattle.engine.specs.Rows.{row_of, slot_ok, time_ok}
+use Rattle.engine.specs.Table.{in_table, with_packet, place, looked_at, with_table, packet_of}
+use Rattle.engine.specs.Tally.{length_ok}
+use Rattle.engine.specs.Links.{lowest_empty, add_verdict, add_of, is_taken}
+use Rattle.engine.specs.Unconfirming.{unconfirmed, unconfirmed_state, unconfirm_of}
+use Rattle.engine.specs.Resending.{resend_verdict, resent_state, resend_of, is_listed}
+use Rattle.engine.specs.Sending.{totals_ok, send_verdict, sent_tx, told_rx, sent_state, send_of, send_store}
+use Rattle.engine.specs.Acking.{acked_row, acked_tx, acked_state, ack_verdict, ack_of, settled_row_as, received_tx, settled_tx_as, sweep_from, sweep_of, swept_tx}
 use Rattle.engine.specs.Turns.{turns}
-use Rattle.engine.specs.Cells.{nearOldest, isRepeat, canAdvance, passedOver, endAfter, openedRecords, put_in}
-use Rattle.engine.specs.Receiving.{messageVerdict, receiveVerdict, effectTx, repeatedState, effectState, receivedState, receiveOf, receiveStore, receiveRecords}
-use Rattle.engine.specs.HandingOut.{ackAnswer, takenAckState, takeAckOf, readyOf, handOutBy, showVerdict, showingOf, shownOf, partAs, takeVerdict, canSkip, passed_by, takenIn, takenState, take_of, takeRecords, takeAckVerdict}
+use Rattle.engine.specs.Cells.{near_oldest, is_repeat, can_advance, passed_over, end_after, opened_records, put_in}
+use Rattle.engine.specs.Receiving.{message_verdict, receive_verdict, effect_tx, repeated_state, effect_state, received_state, receive_of, receive_store, receive_records}
+use Rattle.engine.specs.HandingOut.{ack_answer, taken_ack_state, take_ack_of, ready_of, hand_out_by, show_verdict, showing_of, shown_of, part_as, take_verdict, can_skip, passed_by, taken_in, taken_state, take_of, take_records, take_ack_verdict}
 use Rattle.engine.specs.Sizes.{PACKETS}
 use Rattle.laws.specs.Calls as calls
-use Rattle.ends.specs.World.{Msg, Packet, World, swap, holds, written, called, givenBy, putBy, sendAt, resendAt, acceptedBy, receiveAt, outBy, takeAt, takeAckAt, freshWorld, freshEnd, BEHIND, TimelyAck, Call, Other, Send, Resend, Receive, Acked, Take, TakeAck, at_a, at_b, Run, here, ◌then◌, Fresh, fresh}
-use Rattle.ends.specs.Demand.{Emptied, SentOver, statusOf, Returned, now, earlier, Open, Stops}
+use Rattle.ends.specs.World.{Msg, Packet, World, swap, holds, written, called, given_by, put_by, send_at, resend_at, accepted_by, receive_at, out_by, take_at, take_ack_at, fresh_world, fresh_end, BEHIND, TimelyAck, Call, Other, Send, Resend, Receive, Acked, Take, TakeAck, at_a, at_b, Run, here, ◌then◌, Fresh, fresh}
+use Rattle.ends.specs.Demand.{Emptied, SentOver, status_of, Returned, now, earlier, Open, Stops}
 use Rattle.ends.specs.Theorem.{demand3}
-use Rattle.ends.specs.Store.{cellBytes, copied-here, copied-long}
+use Rattle.ends.specs.Store.{cell_bytes, copied-here, copied-long}
 
 -- ---- the calls that look at a store's length, with the length and the cell count written down
 
-sendWith : ℕ → World → ℕ → ℕ → Msg → World
-sendWith n W slot time m =
-    let r = sendOf W.a.state n slot time m.kind (length m.bytes) in
-    let store = storeBy (sendVerdict W.a.state n slot time m.kind (length m.bytes)) W.a.sent (copied W.a.sent (cellStart PACKETS W.a.state.tx.tx_seq.0) m.bytes) in
-    written W (record { state = r.state; sent = store; received = W.a.received; records = W.a.records }) (givenBy r.answer W.a.given m) W.a.out W.a.accepted
-    (putBy r.answer W.ab.msgs (length W.a.given) m) W.ab.acks
+send_with : ℕ → World → ℕ → ℕ → Msg → World
+send_with n W slot time m =
+    let r = send_of W.a.state n slot time m.kind (length m.bytes) in
+    let store = store_by (send_verdict W.a.state n slot time m.kind (length m.bytes)) W.a.sent (copied W.a.sent (cell_start PACKETS W.a.state.tx.tx_seq.0) m.bytes) in
+    written W (record { state = r.state; sent = store; received = W.a.received; records = W.a.records }) (given_by r.answer W.a.given m) W.a.out W.a.accepted
+    (put_by r.answer W.ab.msgs (length W.a.given) m) W.ab.acks
 
-receiveWith : (store cells : ℕ) → World → ℕ → Packet → World
-receiveWith n N W slot p =
+receive_with : (store cells : ℕ) → World → ℕ → Packet → World
+receive_with n N W slot p =
     let s = W.a.state in
-    let r = receiveOf s n W.a.records slot p.msg.kind p.number (length p.msg.bytes) in
-    let store = storeBy (receiveVerdict s n W.a.records slot p.msg.kind p.number (length p.msg.bytes)) W.a.received
-    (cond (isRepeat s.rx.cells (table_of s.rx W.a.records) p.number) W.a.received (copied W.a.received (cellStart N p.number) p.msg.bytes)) in
-    let records = receiveRecords s n W.a.records slot p.msg.kind p.number (length p.msg.bytes) in
-    written W (record { state = r.state; sent = W.a.sent; received = store; records = records }) W.a.given W.a.out (acceptedBy r.outcome W.a.accepted p) W.ab.msgs W.ab.acks
+    let r = receive_of s n W.a.records slot p.msg.kind p.number (length p.msg.bytes) in
+    let store = store_by (receive_verdict s n W.a.records slot p.msg.kind p.number (length p.msg.bytes)) W.a.received
+    (cond (is_repeat s.rx.cells (table_of s.rx W.a.records) p.number) W.a.received (copied W.a.received (cell_start N p.number) p.msg.bytes)) in
+    let records = receive_records s n W.a.records slot p.msg.kind p.number (length p.msg.bytes) in
+    written W (record { state = r.state; sent = W.a.sent; received = store; records = records }) W.a.given W.a.out (accepted_by r.outcome W.a.accepted p) W.ab.msgs W.ab.acks
 
-takeWith : (store cells : ℕ) → World → World
-takeWith n N W =
+take_with : (store cells : ℕ) → World → World
+take_with n N W =
     written W (calls.next calls.Take (holds W.a)) W.a.given
-    (outBy (take_of W.a.state W.a.records).answer W.a.out (partAs N (showingOf W.a.state n W.a.records) W.a.received)) W.a.accepted
+    (out_by (take_of W.a.state W.a.records).answer W.a.out (part_as N (showing_of W.a.state n W.a.records) W.a.received)) W.a.accepted
     W.ab.msgs W.ab.acks
 
-send-step : (W : World) (slot time : ℕ) (m : Msg) → length W.a.sent ≡ 65536 → Call W (sendWith 65536 W slot time m)
-unfolding sendAt sendStore sendWith
-send-step W slot time m h = subst (λ (n : ℕ). Call W (sendWith n W slot time m)) h (Send slot time m)
+send-step : (W : World) (slot time : ℕ) (m : Msg) → length W.a.sent ≡ 65536 → Call W (send_with 65536 W slot time m)
+unfolding send_at send_store send_with
+send-step W slot time m h = subst (λ (n : ℕ). Call W (send_with n W slot time m)) h (Send slot time m)
 
 receive-step : (W : World) (slot : ℕ) (p : Packet) → length W.a.received ≡ 65536 → Memᴰ p W.ba.msgs → length W.b.given < p.index + BEHIND
-    → W.a.state.rx.cells ≡ 64 → Call W (receiveWith 65536 64 W slot p)
-unfolding receiveAt receiveStore receiveWith
-receive-step W slot p h brought timely e = subst (λ (k : ℕ × ℕ). Call W (receiveWith k.0 k.1 W slot p)) (λ d. (h d, e d)) (Receive slot p brought timely)
+    → W.a.state.rx.cells ≡ 64 → Call W (receive_with 65536 64 W slot p)
+unfolding receive_at receive_store receive_with
+receive-step W slot p h brought timely e = subst (λ (k : ℕ × ℕ). Call W (receive_with k.0 k.1 W slot p)) (λ d. (h d, e d)) (Receive slot p brought timely)
 
-take_step : (W : World) → length W.a.received ≡ 65536 → W.a.state.rx.cells ≡ 64 → Call W (takeWith 65536 64 W)
-unfolding takeAt shownOf takeWith
-take_step W h e = subst (λ (k : ℕ × ℕ). Call W (takeWith k.0 k.1 W)) (λ d. (h d, e d)) Take
+take_step : (W : World) → length W.a.received ≡ 65536 → W.a.state.rx.cells ≡ 64 → Call W (take_with 65536 64 W)
+unfolding take_at shown_of take_with
+take_step W h e = subst (λ (k : ℕ × ℕ). Call W (take_with k.0 k.1 W)) (λ d. (h d, e d)) Take
 
 -- the numbers of the acks that wait for a slot, oldest first
-abbrev pub waitingOf : State → ℕ → List ℕ
-waitingOf s slot = map (λ (n : Seq). n.0) (waiting (row_of s slot))
+abbrev pub waiting_of : State → ℕ → List ℕ
+waiting_of s slot = map (λ (n : Seq). n.0) (waiting (row_of s slot))
 
 -- a packet that is Sent isn't Received
 sent-unreceived : (st : SentReliableStatus) (slot : ℕ) → SentOver st slot → st ≡ statuses.Received → ⊥
@@ -109,7 +109,7 @@ abbrev pub lent : List ℕ
 lent = replicate CELLS 7
 
 fresh_ok : (fresh_of 4294967295 65536 CELLS (length lent)).outcome ≡ outcomes.Done
-unfolding fresh_of freshVerdict isCellCount
+unfolding fresh_of fresh_verdict is_cell_count
 fresh_ok = refl
 
 -- a byte of data, then the end: their numbers are 2^32 − 1 and 0
@@ -127,7 +127,7 @@ p1 = record { index = 1; number = 0; msg = finish }
 
 -- two fresh ends, just before the wrap, with any bytes in their stores
 abbrev pub begun : List ℕ → List ℕ → List ℕ → List ℕ → World
-begun sent-a received-a sent-b received-b = freshWorld 4294967295 (freshEnd 4294967295 65536 CELLS sent-a received-a lent) (freshEnd 4294967295 65536 CELLS sent-b received-b lent)
+begun sent-a received-a sent-b received-b = fresh_world 4294967295 (fresh_end 4294967295 65536 CELLS sent-a received-a lent) (fresh_end 4294967295 65536 CELLS sent-b received-b lent)
 
 -- what a run from there shows
 pub record Met (sent-a received-a sent-b received-b : List ℕ) : Type 0 where
@@ -139,13 +139,13 @@ pub record Met (sent-a received-a sent-b received-b : List ℕ) : Type 0 where
   -- both packets are in the table, and Sent over link 1, where they were resent
   pub open-0 : Open resent 0
   pub open-1 : Open resent 1
-  pub over-0 : SentOver (statusOf resent 0) 1
-  pub over-1 : SentOver (statusOf resent 1) 1
+  pub over-0 : SentOver (status_of resent 0) 1
+  pub over-1 : SentOver (status_of resent 1) 1
   -- both arrive over link 1, unrefused: no ack waited for it, and now one of each does
   pub arrived : World
   pub between : Run resent arrived
-  pub unqueued : waitingOf resent.b.state 1 ≡ []
-  pub queued : waitingOf arrived.b.state 1 ≡ 4294967295 ∷ 0 ∷ []
+  pub unqueued : waiting_of resent.b.state 1 ≡ []
+  pub queued : waiting_of arrived.b.state 1 ≡ 4294967295 ∷ 0 ∷ []
   -- sending has stopped, and both acks return there
   pub quiet : Stops resent ended
   pub returned : (i : ℕ) → Open resent i → Returned resent i ended second
@@ -179,43 +179,43 @@ module _ (sa ra sb rb : List ℕ) where
 
   -- a sends both messages over link 0; the first is lost, the second arrives
   w5 : World
-  w5 = sendWith 65536 w4 0 0 data-7
+  w5 = send_with 65536 w4 0 0 data-7
 
   w6 : World
-  w6 = sendWith 65536 w5 0 0 finish
+  w6 = send_with 65536 w5 0 0 finish
 
   w7 : World
-  w7 = swap (receiveWith 65536 64 (swap w6) 0 p1)
+  w7 = swap (receive_with 65536 64 (swap w6) 0 p1)
 
   -- a doubts link 0, and resends both over link 1
   w8 : World
   w8 = called w7 (calls.Unconfirm 0)
 
   w9 : World
-  w9 = resendAt w8 1 0 4294967295
+  w9 = resend_at w8 1 0 4294967295
 
   w10 : World
-  w10 = resendAt w9 1 0 0
+  w10 = resend_at w9 1 0 0
 
   -- both arrive over link 1, the second as a repeat; b hands out both, in order
   w11 : World
-  w11 = swap (receiveWith 65536 64 (swap w10) 1 p0)
+  w11 = swap (receive_with 65536 64 (swap w10) 1 p0)
 
   w12 : World
-  w12 = swap (receiveWith 65536 64 (swap w11) 1 p1)
+  w12 = swap (receive_with 65536 64 (swap w11) 1 p1)
 
   w13 : World
-  w13 = swap (takeWith 65536 64 (swap w12))
+  w13 = swap (take_with 65536 64 (swap w12))
 
   w14 : World
-  w14 = swap (takeWith 65536 64 (swap w13))
+  w14 = swap (take_with 65536 64 (swap w13))
 
   -- b takes the two acks that wait for link 1, and they come back to a over it; the ack that waits for link 0 stays
   w15 : World
-  w15 = swap (takeAckAt (swap w14) 1)
+  w15 = swap (take_ack_at (swap w14) 1)
 
   w16 : World
-  w16 = swap (takeAckAt (swap w15) 1)
+  w16 = swap (take_ack_at (swap w15) 1)
 
   w17 : World
   w17 = called w16 (calls.Ack 1 0 0)
@@ -226,10 +226,10 @@ module _ (sa ra sb rb : List ℕ) where
   -- ---- what is computed
 
   abbrev sent-cell : List ℕ
-  sent-cell = cellBytes PACKETS (copied sa 64512 (7 ∷ [])) 4294967295 1
+  sent-cell = cell_bytes PACKETS (copied sa 64512 (7 ∷ [])) 4294967295 1
 
   abbrev received-cell : List ℕ
-  received-cell = cellBytes CELLS (copied rb 64512 (7 ∷ [])) 4294967295 1
+  received-cell = cell_bytes CELLS (copied rb 64512 (7 ∷ [])) 4294967295 1
 
   record Computed : Type 0 where
     sent-4 : w4.a.sent ≡ sa
@@ -250,10 +250,10 @@ module _ (sa ra sb rb : List ℕ) where
     msgs-6 : w6.ab.msgs ≡ p1 ∷ p0 ∷ []
     msgs-10 : w10.ab.msgs ≡ p1 ∷ record { index = 0; number = 4294967295; msg = record { kind = msgs.Data; bytes = sent-cell } } ∷ p1 ∷ p0 ∷ []
     msgs-11 : w11.ab.msgs ≡ p1 ∷ record { index = 0; number = 4294967295; msg = record { kind = msgs.Data; bytes = sent-cell } } ∷ p1 ∷ p0 ∷ []
-    waits-10 : waitingOf w10.b.state 1 ≡ []
-    waits-12 : waitingOf w12.b.state 1 ≡ 4294967295 ∷ 0 ∷ []
-    over-10-0 : SentOver (statusOf w10 0) 1
-    over-10-1 : SentOver (statusOf w10 1) 1
+    waits-10 : waiting_of w10.b.state 1 ≡ []
+    waits-12 : waiting_of w12.b.state 1 ≡ 4294967295 ∷ 0 ∷ []
+    over-10-0 : SentOver (status_of w10 0) 1
+    over-10-1 : SentOver (status_of w10 1) 1
     table-10 : w10.a.state.tx.txed_count ≡ 2
 
   -- .. and of the later worlds, apart, since one declaration may take only so many steps
@@ -261,20 +261,20 @@ module _ (sa ra sb rb : List ℕ) where
     given-16 : w16.a.given ≡ data-7 ∷ finish ∷ []
     acks-16 : w16.ba.acks ≡ 0 ∷ 4294967295 ∷ []
     all-16 : w16.b.accepted ≡ p1 ∷ p0 ∷ p1 ∷ []
-    over-1 : SentOver (statusOf w16 1) 1
-    over-0 : SentOver (statusOf w17 0) 1
+    over-1 : SentOver (status_of w16 1) 1
+    over-0 : SentOver (status_of w17 0) 1
     number-1 : 0 ≡ plus w16.start 1
     number-0 : 4294967295 ≡ plus w16.start 0
-    accepted-16 : (ackOf w16.a.state 1 0 0).outcome ≡ outcomes.Done
+    accepted-16 : (ack_of w16.a.state 1 0 0).outcome ≡ outcomes.Done
     copies-16 : length w16.ab.msgs ≡ 4
 
   record ComputedLast : Type 0 where
-    accepted-17 : (ackOf w17.a.state 1 0 4294967295).outcome ≡ outcomes.Done
+    accepted-17 : (ack_of w17.a.state 1 0 4294967295).outcome ≡ outcomes.Done
     table-18 : w18.a.state.tx.txed_count ≡ 0
     none-16 : (take_of w16.b.state w16.b.records).answer ≡ handouts.No (refuse 19 tt)
 
   computed : Computed
-  unfolding plus minus signed distance_of near before past ackQueued waiting oldestAck shifted ackTaken markedRow markAckedAs markResentAs tripAfter tripMoved fresh_row emptyRow unconfirmedRow withUnacked nextCell window sound? records? recordsb soundWithb isCellCount queuedOf sum_of bytesIn refilled place lookedAt packetOf withTable is_taken isListed takeAckVerdict soundb freshTx freshRx freshState freshVerdict fresh_of freshRecords slotVerdict timedVerdict requeued row_of slotOk timeOk in_table withPacket lengthOk lowestEmpty addVerdict addOf unconfirmed unconfirmedState unconfirmOf resendVerdict resentState resendOf totalsOk sendVerdict sentTx toldRx sentState sendOf sendStore ackedRow ackedTx ackedState ackVerdict ackOf settledRowAs receivedTx settledTxAs sweepFrom sweepOf sweptTx heldAs held_of isRecord keptRecord held_at isUsed cell_of nearOldest isRepeat canAdvance passedOver endAfter openedRecords put_in turns messageVerdict receiveVerdict effectTx repeatedState effectState receivedState receiveOf receiveStore receiveRecords ackAnswer takenAckState takeAckOf readyOf handOutBy showVerdict showingOf shownOf takeVerdict canSkip passed_by takenIn takenState take_of takeRecords resendAt takeAckAt sendWith receiveWith takeWith w0 w1 w2 w3 w4 w5 w6 w7 w8 w9 w10 w11 w12 w13 w14 w15 w16 w17 w18
+  unfolding plus minus signed distance_of near before past ack_queued waiting oldest_ack shifted ack_taken marked_row mark_acked_as mark_resent_as trip_after trip_moved fresh_row empty_row unconfirmed_row with_unacked next_cell window sound? records? recordsb sound_withb is_cell_count queued_of sum_of bytes_in refilled place looked_at packet_of with_table is_taken is_listed take_ack_verdict soundb fresh_tx fresh_rx fresh_state fresh_verdict fresh_of fresh_records slot_verdict timed_verdict requeued row_of slot_ok time_ok in_table with_packet length_ok lowest_empty add_verdict add_of unconfirmed unconfirmed_state unconfirm_of resend_verdict resent_state resend_of totals_ok send_verdict sent_tx told_rx sent_state send_of send_store acked_row acked_tx acked_state ack_verdict ack_of settled_row_as received_tx settled_tx_as sweep_from sweep_of swept_tx held_as held_of is_record kept_record held_at is_used cell_of near_oldest is_repeat can_advance passed_over end_after opened_records put_in turns message_verdict receive_verdict effect_tx repeated_state effect_state received_state receive_of receive_store receive_records ack_answer taken_ack_state take_ack_of ready_of hand_out_by show_verdict showing_of shown_of take_verdict can_skip passed_by taken_in taken_state take_of take_records resend_at take_ack_at send_with receive_with take_with w0 w1 w2 w3 w4 w5 w6 w7 w8 w9 w10 w11 w12 w13 w14 w15 w16 w17 w18
   computed = record {
     sent-4 = refl;
     sent-5 = refl;
@@ -302,7 +302,7 @@ module _ (sa ra sb rb : List ℕ) where
   }
 
   computed-later : ComputedLater
-  unfolding plus minus signed distance_of near before past ackQueued waiting oldestAck shifted ackTaken markedRow markAckedAs markResentAs tripAfter tripMoved fresh_row emptyRow unconfirmedRow withUnacked nextCell window sound? records? recordsb soundWithb isCellCount queuedOf sum_of bytesIn refilled place lookedAt packetOf withTable is_taken isListed takeAckVerdict soundb freshTx freshRx freshState freshVerdict fresh_of freshRecords slotVerdict timedVerdict requeued row_of slotOk timeOk in_table withPacket lengthOk lowestEmpty addVerdict addOf unconfirmed unconfirmedState unconfirmOf resendVerdict resentState resendOf totalsOk sendVerdict sentTx toldRx sentState sendOf sendStore ackedRow ackedTx ackedState ackVerdict ackOf settledRowAs receivedTx settledTxAs sweepFrom sweepOf sweptTx heldAs held_of isRecord keptRecord held_at isUsed cell_of nearOldest isRepeat canAdvance passedOver endAfter openedRecords put_in turns messageVerdict receiveVerdict effectTx repeatedState effectState receivedState receiveOf receiveStore receiveRecords ackAnswer takenAckState takeAckOf readyOf handOutBy showVerdict showingOf shownOf takeVerdict canSkip passed_by takenIn takenState take_of takeRecords resendAt takeAckAt sendWith receiveWith takeWith w0 w1 w2 w3 w4 w5 w6 w7 w8 w9 w10 w11 w12 w13 w14 w15 w16 w17 w18
+  unfolding plus minus signed distance_of near before past ack_queued waiting oldest_ack shifted ack_taken marked_row mark_acked_as mark_resent_as trip_after trip_moved fresh_row empty_row unconfirmed_row with_unacked next_cell window sound? records? recordsb sound_withb is_cell_count queued_of sum_of bytes_in refilled place looked_at packet_of with_table is_taken is_listed take_ack_verdict soundb fresh_tx fresh_rx fresh_state fresh_verdict fresh_of fresh_records slot_verdict timed_verdict requeued row_of slot_ok time_ok in_table with_packet length_ok lowest_empty add_verdict add_of unconfirmed unconfirmed_state unconfirm_of resend_verdict resent_state resend_of totals_ok send_verdict sent_tx told_rx sent_state send_of send_store acked_row acked_tx acked_state ack_verdict ack_of settled_row_as received_tx settled_tx_as sweep_from sweep_of swept_tx held_as held_of is_record kept_record held_at is_used cell_of near_oldest is_repeat can_advance passed_over end_after opened_records put_in turns message_verdict receive_verdict effect_tx repeated_state effect_state received_state receive_of receive_store receive_records ack_answer taken_ack_state take_ack_of ready_of hand_out_by show_verdict showing_of shown_of take_verdict can_skip passed_by taken_in taken_state take_of take_records resend_at take_ack_at send_with receive_with take_with w0 w1 w2 w3 w4 w5 w6 w7 w8 w9 w10 w11 w12 w13 w14 w15 w16 w17 w18
   computed-later = record {
     given-16 = refl;
     acks-16 = refl;
@@ -316,30 +316,30 @@ module _ (sa ra sb rb : List ℕ) where
   }
 
   computed-last : ComputedLast
-  unfolding plus minus signed distance_of near before past ackQueued waiting oldestAck shifted ackTaken markedRow markAckedAs markResentAs tripAfter tripMoved fresh_row emptyRow unconfirmedRow withUnacked nextCell window sound? records? recordsb soundWithb isCellCount queuedOf sum_of bytesIn refilled place lookedAt packetOf withTable is_taken isListed takeAckVerdict soundb freshTx freshRx freshState freshVerdict fresh_of freshRecords slotVerdict timedVerdict requeued row_of slotOk timeOk in_table withPacket lengthOk lowestEmpty addVerdict addOf unconfirmed unconfirmedState unconfirmOf resendVerdict resentState resendOf totalsOk sendVerdict sentTx toldRx sentState sendOf sendStore ackedRow ackedTx ackedState ackVerdict ackOf settledRowAs receivedTx settledTxAs sweepFrom sweepOf sweptTx heldAs held_of isRecord keptRecord held_at isUsed cell_of nearOldest isRepeat canAdvance passedOver endAfter openedRecords put_in turns messageVerdict receiveVerdict effectTx repeatedState effectState receivedState receiveOf receiveStore receiveRecords ackAnswer takenAckState takeAckOf readyOf handOutBy showVerdict showingOf shownOf takeVerdict canSkip passed_by takenIn takenState take_of takeRecords resendAt takeAckAt sendWith receiveWith takeWith w0 w1 w2 w3 w4 w5 w6 w7 w8 w9 w10 w11 w12 w13 w14 w15 w16 w17 w18
+  unfolding plus minus signed distance_of near before past ack_queued waiting oldest_ack shifted ack_taken marked_row mark_acked_as mark_resent_as trip_after trip_moved fresh_row empty_row unconfirmed_row with_unacked next_cell window sound? records? recordsb sound_withb is_cell_count queued_of sum_of bytes_in refilled place looked_at packet_of with_table is_taken is_listed take_ack_verdict soundb fresh_tx fresh_rx fresh_state fresh_verdict fresh_of fresh_records slot_verdict timed_verdict requeued row_of slot_ok time_ok in_table with_packet length_ok lowest_empty add_verdict add_of unconfirmed unconfirmed_state unconfirm_of resend_verdict resent_state resend_of totals_ok send_verdict sent_tx told_rx sent_state send_of send_store acked_row acked_tx acked_state ack_verdict ack_of settled_row_as received_tx settled_tx_as sweep_from sweep_of swept_tx held_as held_of is_record kept_record held_at is_used cell_of near_oldest is_repeat can_advance passed_over end_after opened_records put_in turns message_verdict receive_verdict effect_tx repeated_state effect_state received_state receive_of receive_store receive_records ack_answer taken_ack_state take_ack_of ready_of hand_out_by show_verdict showing_of shown_of take_verdict can_skip passed_by taken_in taken_state take_of take_records resend_at take_ack_at send_with receive_with take_with w0 w1 w2 w3 w4 w5 w6 w7 w8 w9 w10 w11 w12 w13 w14 w15 w16 w17 w18
   computed-last = record { accepted-17 = refl; table-18 = refl; none-16 = refl }
 
   -- what b is answered as it takes both, and what is shown before
   abbrev first_out : HandOut
-  first_out = handouts.Message msgs.Data (seqOf 4294967295) 1
+  first_out = handouts.Message msgs.Data (seq_of 4294967295) 1
 
   abbrev second-out : HandOut
-  second-out = handouts.Message msgs.SendFinish (seqOf 0) 0
+  second-out = handouts.Message msgs.SendFinish (seq_of 0) 0
 
   record Handed : Type 0 where
     none-12 : w12.b.out ≡ []
     took-12 : (take_of w12.b.state w12.b.records).answer ≡ first_out
-    shown-12 : showingOf w12.b.state 65536 w12.b.records ≡ first_out
+    shown-12 : showing_of w12.b.state 65536 w12.b.records ≡ first_out
     took-13 : (take_of w13.b.state w13.b.records).answer ≡ second-out
-    shown-13 : showingOf w13.b.state 65536 w13.b.records ≡ second-out
+    shown-13 : showing_of w13.b.state 65536 w13.b.records ≡ second-out
 
   handed : Handed
-  unfolding plus minus signed distance_of near before past ackQueued waiting oldestAck shifted ackTaken markedRow markAckedAs markResentAs tripAfter tripMoved fresh_row emptyRow unconfirmedRow withUnacked nextCell window sound? records? recordsb soundWithb isCellCount queuedOf sum_of bytesIn refilled place lookedAt packetOf withTable is_taken isListed takeAckVerdict soundb freshTx freshRx freshState freshVerdict fresh_of freshRecords slotVerdict timedVerdict requeued row_of slotOk timeOk in_table withPacket lengthOk lowestEmpty addVerdict addOf unconfirmed unconfirmedState unconfirmOf resendVerdict resentState resendOf totalsOk sendVerdict sentTx toldRx sentState sendOf sendStore ackedRow ackedTx ackedState ackVerdict ackOf settledRowAs receivedTx settledTxAs sweepFrom sweepOf sweptTx heldAs held_of isRecord keptRecord held_at isUsed cell_of nearOldest isRepeat canAdvance passedOver endAfter openedRecords put_in turns messageVerdict receiveVerdict effectTx repeatedState effectState receivedState receiveOf receiveStore receiveRecords ackAnswer takenAckState takeAckOf readyOf handOutBy showVerdict showingOf shownOf takeVerdict canSkip passed_by takenIn takenState take_of takeRecords resendAt takeAckAt sendWith receiveWith takeWith w0 w1 w2 w3 w4 w5 w6 w7 w8 w9 w10 w11 w12 w13 w14 w15 w16 w17 w18
+  unfolding plus minus signed distance_of near before past ack_queued waiting oldest_ack shifted ack_taken marked_row mark_acked_as mark_resent_as trip_after trip_moved fresh_row empty_row unconfirmed_row with_unacked next_cell window sound? records? recordsb sound_withb is_cell_count queued_of sum_of bytes_in refilled place looked_at packet_of with_table is_taken is_listed take_ack_verdict soundb fresh_tx fresh_rx fresh_state fresh_verdict fresh_of fresh_records slot_verdict timed_verdict requeued row_of slot_ok time_ok in_table with_packet length_ok lowest_empty add_verdict add_of unconfirmed unconfirmed_state unconfirm_of resend_verdict resent_state resend_of totals_ok send_verdict sent_tx told_rx sent_state send_of send_store acked_row acked_tx acked_state ack_verdict ack_of settled_row_as received_tx settled_tx_as sweep_from sweep_of swept_tx held_as held_of is_record kept_record held_at is_used cell_of near_oldest is_repeat can_advance passed_over end_after opened_records put_in turns message_verdict receive_verdict effect_tx repeated_state effect_state received_state receive_of receive_store receive_records ack_answer taken_ack_state take_ack_of ready_of hand_out_by show_verdict showing_of shown_of take_verdict can_skip passed_by taken_in taken_state take_of take_records resend_at take_ack_at send_with receive_with take_with w0 w1 w2 w3 w4 w5 w6 w7 w8 w9 w10 w11 w12 w13 w14 w15 w16 w17 w18
   handed = record { none-12 = refl; took-12 = refl; shown-12 = refl; took-13 = refl; shown-13 = refl }
 
   out-16 : w16.b.out ≡ record { kind = msgs.Data; bytes = received-cell } ∷ finish ∷ []
-  unfolding takeAckAt takeWith w13 w14 w15 w16
-  out-16 = λ d. outBy (handed.took-13 d) (outBy (handed.took-12 d) (handed.none-12 d) (partAs 64 (handed.shown-12 d) (computed.received-12 d))) (partAs 64 (handed.shown-13 d) (computed.received-13 d))
+  unfolding take_ack_at take_with w13 w14 w15 w16
+  out-16 = λ d. out_by (handed.took-13 d) (out_by (handed.took-12 d) (handed.none-12 d) (part_as 64 (handed.shown-12 d) (computed.received-12 d))) (part_as 64 (handed.shown-13 d) (computed.received-13 d))
 
   -- ---- the run, step by step
 
@@ -456,8 +456,8 @@ module _ (sa ra sb rb : List ℕ) where
       unqueued = c.waits-10;
       queued = c.waits-12;
       quiet = two w18.a.given later.given-16 ∙ sym (two w10.a.given c.given-10);
-      open-0 = record { given = omega (arith, two w10.a.given c.given-10); in-table = omega (arith, two w10.a.given c.given-10, c.table-10); unreceived = sent-unreceived (statusOf w10 0) 1 c.over-10-0 };
-      open-1 = record { given = omega (arith, two w10.a.given c.given-10); in-table = omega (arith, two w10.a.given c.given-10, c.table-10); unreceived = sent-unreceived (statusOf w10 1) 1 c.over-10-1 };
+      open-0 = record { given = omega (arith, two w10.a.given c.given-10); in-table = omega (arith, two w10.a.given c.given-10, c.table-10); unreceived = sent-unreceived (status_of w10 0) 1 c.over-10-0 };
+      open-1 = record { given = omega (arith, two w10.a.given c.given-10); in-table = omega (arith, two w10.a.given c.given-10, c.table-10); unreceived = sent-unreceived (status_of w10 1) 1 c.over-10-1 };
       over-0 = c.over-10-0;
       over-1 = c.over-10-1;
       returned = each;

@@ -5,8 +5,8 @@ use Rattle.std.specs.Int.{◌∣◌}
 use Rattle.std.proofs.Math.Nat.{dvd-mul_right, pow-le-pow_right, one-le-pow}
 
 -- one of these eleven counts: `counted` and `is-counted` say that they are 64 times a power of two, up to 65,536
-unfoldable pub isCellCount : ℕ → Bool
-isCellCount n =
+unfoldable pub is_cell_count : ℕ → Bool
+is_cell_count n =
     (n == 64) || (n == 128 || (n == 256 || (n == 512 || (n == 1024 || (n == 2048 || (n == 4096 || (n == 8192 || (n == 16384 || (n == 32768 || n == 65536)))))))))
 
 -- what the facts of the table ask of the count
@@ -44,8 +44,8 @@ power-of : (n k m : ℕ) → m ≡ 64 * 2 ^ k → k ≤ 10 → (n == m) ≡ true
 power-of n k m e h t = (k, h, eqb-true n m t ∙ e)
 
 -- the test says so ..
-pub counted : (n : ℕ) → isCellCount n ≡ true → (k : ℕ) × (k ≤ 10) × (n ≡ 64 * 2 ^ k)
-unfolding isCellCount
+pub counted : (n : ℕ) → is_cell_count n ≡ true → (k : ℕ) × (k ≤ 10) × (n ≡ 64 * 2 ^ k)
+unfolding is_cell_count
 counted n t =
     either_true (n == 64) _ t (power-of n 0 64 refl (omega arith))
     (λ t. either_true (n == 128) _ t (power-of n 1 128 refl (omega arith))
@@ -59,8 +59,8 @@ counted n t =
     (λ t. either_true (n == 32768) (n == 65536) t (power-of n 9 32768 refl (omega arith)) (power-of n 10 65536 refl (omega arith)))))))))))
 
 -- .. and of every such count
-pub is-counted : (k : ℕ) → k ≤ 10 → isCellCount (64 * 2 ^ k) ≡ true
-unfolding isCellCount
+pub is-counted : (k : ℕ) → k ≤ 10 → is_cell_count (64 * 2 ^ k) ≡ true
+unfolding is_cell_count
 is-counted zero h = refl
 is-counted (suc zero) h = refl
 is-counted (suc (suc zero)) h = refl
@@ -74,5 +74,5 @@ is-counted (suc (suc (suc (suc (suc (suc (suc (suc (suc zero))))))))) h = refl
 is-counted (suc (suc (suc (suc (suc (suc (suc (suc (suc (suc zero)))))))))) h = refl
 is-counted (suc (suc (suc (suc (suc (suc (suc (suc (suc (suc (suc k))))))))))) h = absurd (omega arith)
 
-pub cell-count : (n : ℕ) → isCellCount n ≡ true → CellCount n
+pub cell-count : (n : ℕ) → is_cell_count n ≡ true → CellCount n
 cell-count n t = let p = counted n t in subst CellCount (sym p.2) (power_count p.0 p.1)

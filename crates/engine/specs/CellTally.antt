@@ -10,11 +10,11 @@ use Rattle.seq.specs.Numbers.{plus, minus}
 use Rattle.engine.specs.declared.state.Held.{Held}
 use Rattle.engine.specs.declared.state.Held.TheVariants.{Nothing, Message}
 use Rattle.engine.specs.declared.state.Receiving.{Receiving}
-use Rattle.engine.specs.Records.{isFull, isReadyKind, heldBytes, heldAs, held_of, recordOf, DataRecord, isRecord, record-long}
-use Rattle.engine.specs.Received.{RxTable, recordView, expectedAt, inUse, held_at}
-use Rattle.engine.specs.Tally.{lengthOk}
+use Rattle.engine.specs.Records.{is_full, is_ready_kind, held_bytes, held_as, held_of, record_of, DataRecord, is_record, record-long}
+use Rattle.engine.specs.Received.{RxTable, record_view, expected_at, in_use, held_at}
+use Rattle.engine.specs.Tally.{length_ok}
 use Rattle.engine.specs.Sizes.{DATA_BYTES}
-use Rattle.engine.specs.Ring.{window-step, window-none, window, nextCell}
+use Rattle.engine.specs.Ring.{window-step, window-none, window, next_cell}
 
 -- so many records are lent as there are cells, and there are some
 pub record Lent (rx : Receiving) (records : ℕ) : Type 0 where
@@ -24,7 +24,7 @@ pub record Lent (rx : Receiving) (records : ℕ) : Type 0 where
 -- .. and no more of them are in use
 pub record Judged (rx : Receiving) (records : ℕ) : Type 0 where
   pub lent : Lent rx records
-  pub used : inUse rx ≤ rx.cells
+  pub used : in_use rx ≤ rx.cells
 
 -- what a pass has found: whether all was well, and the data bytes
 pub record CellTally : Type 0 where
@@ -33,48 +33,48 @@ pub record CellTally : Type 0 where
 
 -- a cell k numbers past the oldest, where the next expected is e past it: the oldest is there if it is ready, nothing stands at
 -- the next expected, and what stands before it is ready
-unfoldable pub cellOk : Held → ℕ → ℕ → Bool
-cellOk Nothing k e = cond (k == 0) (e == 0) true
-cellOk (Message msg len) k e = cond (k == e) false (cond (nat_lt k e) (isReadyKind msg && lengthOk msg len) (lengthOk msg len))
+unfoldable pub cell_ok : Held → ℕ → ℕ → Bool
+cell_ok Nothing k e = cond (k == 0) (e == 0) true
+cell_ok (Message msg len) k e = cond (k == e) false (cond (nat_lt k e) (is_ready_kind msg && length_ok msg len) (length_ok msg len))
 
 -- .. and its word
-abbrev pub wordOk : ℕ → ℕ → ℕ → Bool
-wordOk word k e = isRecord word && cellOk (held_of word) k e
+abbrev pub word_ok : ℕ → ℕ → ℕ → Bool
+word_ok word k e = is_record word && cell_ok (held_of word) k e
 
-unfoldable pub recordWeighed : CellTally → ℕ → ℕ → ℕ → CellTally
-unfolding cellOk
-recordWeighed t word k e = record { ok = t.ok && wordOk word k e; size = plus t.size (heldBytes (held_of word)) }
+unfoldable pub record_weighed : CellTally → ℕ → ℕ → ℕ → CellTally
+unfolding cell_ok
+record_weighed t word k e = record { ok = t.ok && word_ok word k e; size = plus t.size (held_bytes (held_of word)) }
 
-unfoldable pub recordTallyFrom : List ℕ → ℕ → ℕ → CellTally → CellTally
-unfolding recordWeighed
-recordTallyFrom [] k e t = t
-recordTallyFrom (w ∷ ws) k e t = recordTallyFrom ws (k + 1) e (recordWeighed t w k e)
+unfoldable pub record_tally_from : List ℕ → ℕ → ℕ → CellTally → CellTally
+unfolding record_weighed
+record_tally_from [] k e t = t
+record_tally_from (w ∷ ws) k e t = record_tally_from ws (k + 1) e (record_weighed t w k e)
 
-unfoldable pub recordTallyOf : ℕ → RxTable → CellTally
-unfolding recordTallyFrom
-recordTallyOf N t = recordTallyFrom (recordView N t) 0 (expectedAt t.rx) (record { ok = true; size = 0 })
+unfoldable pub record_tally_of : ℕ → RxTable → CellTally
+unfolding record_tally_from
+record_tally_of N t = record_tally_from (record_view N t) 0 (expected_at t.rx) (record { ok = true; size = 0 })
 
 -- the last cell in use holds a message, where any is in use from the next expected number on
-unfoldable pub newestOk : ℕ → RxTable → Bool
-newestOk N t = t.rx.rx_end.0 == t.rx.rx_seq.0 || isFull (held_at N t.records (minus t.rx.rx_end.0 1))
+unfoldable pub newest_ok : ℕ → RxTable → Bool
+newest_ok N t = t.rx.rx_end.0 == t.rx.rx_seq.0 || is_full (held_at N t.records (minus t.rx.rx_end.0 1))
 
-unfoldable pub foundRecords : RxTable → Bool
-unfolding recordTallyOf newestOk
-foundRecords t =
-    let found = recordTallyOf t.rx.cells t in
-    found.ok && (found.size == t.rx.rxed_reliable_size && newestOk t.rx.cells t)
+unfoldable pub found_records : RxTable → Bool
+unfolding record_tally_of newest_ok
+found_records t =
+    let found = record_tally_of t.rx.cells t in
+    found.ok && (found.size == t.rx.rxed_reliable_size && newest_ok t.rx.cells t)
 
 -- every record in use is well, and they hold as many bytes as is said
-abbrev pub recordsFine : RxTable → Bool
-recordsFine t =
-    let found = recordTallyOf t.rx.cells t in
+abbrev pub records_fine : RxTable → Bool
+records_fine t =
+    let found = record_tally_of t.rx.cells t in
     found.ok && found.size == t.rx.rxed_reliable_size
 
 -- ---- laws
 
 -- a Data's length
-pub data-long : (len : ℕ) → lengthOk Data len ≡ nat_le len DATA_BYTES
-unfolding lengthOk
+pub data-long : (len : ℕ) → length_ok Data len ≡ nat_le len DATA_BYTES
+unfolding length_ok
 data-long len =
     cases (len == 0)
     (λ z. simp z (sym (le-leb len DATA_BYTES (omega (arith, eqb-true len 0 z)))))
@@ -86,50 +86,50 @@ module _ (word : ℕ) (is : DataRecord word) where
   bytes = word / 256 % 16777216
 
   pub data-held : held_of word ≡ Message Data bytes
-  unfolding held_of heldAs
+  unfolding held_of held_as
   data-held = simp is.kind
 
-  pub data-fits : lengthOk Data bytes ≡ true
+  pub data-fits : length_ok Data bytes ≡ true
   data-fits = data-long bytes ∙ le-leb bytes DATA_BYTES (omega (arith, is.long))
 
-  pub data-well : (k e : ℕ) → (k ≢ e) → wordOk word k e ≡ true
-  unfolding cellOk isRecord
+  pub data-well : (k e : ℕ) → (k ≢ e) → word_ok word k e ≡ true
+  unfolding cell_ok is_record
   data-well k e ne =
       let whole : 7 + 256 * (word / 256 % 16777216) + 0 ≡ word = omega (arith, is.kind, is.long) in
-      join (ap (λ h. nat_eq (recordOf h) word) data-held ∙ eq-eqb (recordOf (Message Data bytes)) word whole)
-      (ap (λ h. cellOk h k e) data-held ∙ simp (ne_eqb k e ne) (cases (nat_lt k e) (λ t. simp t data-fits) (λ t. simp t data-fits)))
+      join (ap (λ h. nat_eq (record_of h) word) data-held ∙ eq-eqb (record_of (Message Data bytes)) word whole)
+      (ap (λ h. cell_ok h k e) data-held ∙ simp (ne_eqb k e ne) (cases (nat_lt k e) (λ t. simp t data-fits) (λ t. simp t data-fits)))
 
 -- a record that is well adds its length
-pub well-weighed : (size word k e : ℕ) → wordOk word k e ≡ true
-    → recordWeighed (record { ok = true; size = size }) word k e ≡ record { ok = true; size = plus size (word / 256 % 16777216) }
-unfolding recordWeighed
+pub well-weighed : (size word k e : ℕ) → word_ok word k e ≡ true
+    → record_weighed (record { ok = true; size = size }) word k e ≡ record { ok = true; size = plus size (word / 256 % 16777216) }
+unfolding record_weighed
 well-weighed size word k e h =
-    let long = record-long word (split (isRecord word) (cellOk (held_of word) k e) h).0 in
+    let long = record-long word (split (is_record word) (cell_ok (held_of word) k e) h).0 in
     λ i. record { ok = h i; size = plus size (long i) }
 
 -- one that is not well spoils the tally, whatever follows
-spoilt-from : (ws : List ℕ) (k e : ℕ) (t : CellTally) → t.ok ≡ false → (recordTallyFrom ws k e t).ok ≡ false
-unfolding recordTallyFrom recordWeighed
+spoilt-from : (ws : List ℕ) (k e : ℕ) (t : CellTally) → t.ok ≡ false → (record_tally_from ws k e t).ok ≡ false
+unfolding record_tally_from record_weighed
 spoilt-from [] k e t h = h
-spoilt-from (w ∷ ws) k e t h = spoilt-from ws (k + 1) e (recordWeighed t w k e) (ap (λ b. b && wordOk w k e) h)
+spoilt-from (w ∷ ws) k e t h = spoilt-from ws (k + 1) e (record_weighed t w k e) (ap (λ b. b && word_ok w k e) h)
 
 -- a number's cell is one of the records
 pub lent-cell : {rx : Receiving} {records : ℕ} (n : ℕ) → Lent rx records → n % rx.cells < records
 lent-cell n lent = omega (arith, mod-lt n lent.some, lent.all)
 
 pub record-tally-step : (N : ℕ) (records : List ℕ) (at left k e : ℕ) (t : CellTally) → 0 < left
-    → recordTallyFrom (window N 0 records at left) k e t ≡ recordTallyFrom (window N 0 records (nextCell N at) (left - 1)) (k + 1) e (recordWeighed t (slice_index records at) k e)
-unfolding recordTallyFrom
-record-tally-step N records at left k e t h = ap (λ ws. recordTallyFrom ws k e t) (window-step N 0 records at left h)
+    → record_tally_from (window N 0 records at left) k e t ≡ record_tally_from (window N 0 records (next_cell N at) (left - 1)) (k + 1) e (record_weighed t (slice_index records at) k e)
+unfolding record_tally_from
+record-tally-step N records at left k e t h = ap (λ ws. record_tally_from ws k e t) (window-step N 0 records at left h)
 
-pub record-tally-none : (N : ℕ) (records : List ℕ) (at left k e : ℕ) (t : CellTally) → left ≤ 0 → recordTallyFrom (window N 0 records at left) k e t ≡ t
-unfolding recordTallyFrom
-record-tally-none N records at left k e t h = ap (λ ws. recordTallyFrom ws k e t) (window-none N 0 records at left h)
+pub record-tally-none : (N : ℕ) (records : List ℕ) (at left k e : ℕ) (t : CellTally) → left ≤ 0 → record_tally_from (window N 0 records at left) k e t ≡ t
+unfolding record_tally_from
+record-tally-none N records at left k e t h = ap (λ ws. record_tally_from ws k e t) (window-none N 0 records at left h)
 
-pub record-tally-spoilt : (N : ℕ) (records : List ℕ) (at left k e : ℕ) (t : CellTally) → 0 < left → wordOk (slice_index records at) k e ≡ false
-    → (recordTallyFrom (window N 0 records at left) k e t).ok ≡ false
-unfolding recordWeighed
+pub record-tally-spoilt : (N : ℕ) (records : List ℕ) (at left k e : ℕ) (t : CellTally) → 0 < left → word_ok (slice_index records at) k e ≡ false
+    → (record_tally_from (window N 0 records at left) k e t).ok ≡ false
+unfolding record_weighed
 record-tally-spoilt N records at left k e t h bad =
     ap (λ (r : CellTally). r.ok) (record-tally-step N records at left k e t h)
-    ∙ spoilt-from (window N 0 records (nextCell N at) (left - 1)) (k + 1) e (recordWeighed t (slice_index records at) k e)
+    ∙ spoilt-from (window N 0 records (next_cell N at) (left - 1)) (k + 1) e (record_weighed t (slice_index records at) k e)
     (ap (λ b. t.ok && b) bad ∙ cases t.ok (λ x. simp x) (λ x. simp x))

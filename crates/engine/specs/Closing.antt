@@ -3,13 +3,13 @@
 use Rattle.std.specs.Prelude.{false}
 use Rattle.engine.specs.declared.state.State.{State}
 use Rattle.engine.specs.declared.answer.Changed.{Changed}
-use Rattle.engine.specs.Answer.{changedBy}
-use Rattle.engine.specs.Gates.{stateVerdict}
-use Rattle.engine.specs.Fields.{withReader}
+use Rattle.engine.specs.Answer.{changed_by}
+use Rattle.engine.specs.Gates.{state_verdict}
+use Rattle.engine.specs.Fields.{with_reader}
 
 -- the state with its reader closed
-abbrev pub closedState : State → State
-closedState s = withReader s false
+abbrev pub closed_state : State → State
+closed_state s = with_reader s false
 
-unfoldable pub closeOf : State → Changed
-closeOf s = changedBy (stateVerdict s) s (closedState s)
+unfoldable pub close_of : State → Changed
+close_of s = changed_by (state_verdict s) s (closed_state s)

@@ -5,8 +5,8 @@ use Rattle.std.proofs.Common.{ap, ap₂, not-suc-le-zero, arith, ltb-true, leb-t
 use Rattle.std.proofs.lemmas.Bool.{not-true}
 use borrow.Table.Steps.{cases}
 use Rattle.seq.specs.declared.Seq.{Seq}
-use Rattle.seq.specs.Numbers.{seqOf, plus}
-use Rattle.link.specs.Sizes.{maxPingWithin, pingWithin, MAX_TIME, ACKS}
+use Rattle.seq.specs.Numbers.{seq_of, plus}
+use Rattle.link.specs.Sizes.{max_ping_within, ping_within, MAX_TIME, ACKS}
 use Rattle.engine.specs.declared.state.Flushed.{Flushed}
 use Rattle.engine.specs.declared.state.Flushed.TheVariants.{Unflushed, FlushedAt}
 use Rattle.engine.specs.declared.state.SentReliableStatus.{SentReliableStatus}
@@ -14,12 +14,12 @@ use Rattle.engine.specs.declared.state.SentReliableStatus.TheVariants.{Sent, Rec
 use Rattle.engine.specs.declared.state.Held.{Held}
 use Rattle.engine.specs.declared.state.Held.TheVariants.{Nothing, Message}
 use Rattle.engine.specs.declared.state.State.{State}
-use Rattle.engine.specs.Packets.{first_of, packets, queue, isReceived, queuedOf, SentOn, Outstanding, Settled, sum_of}
-use Rattle.engine.specs.Records.{isFull, isReadyKind, isRecord}
-use Rattle.engine.specs.Received.{RxTable, table_of, recordView, cellView, expectedAt, inUse, bytesIn}
-use Rattle.engine.specs.Tally.{lengthOk}
-use Rattle.engine.specs.Sound.{rowAt, packetAt, cell_at, SentHere, FlushedBy, SentBy, ReadyKind, LengthWithin, Sound, SoundRecords}
-use Rattle.engine.specs.CellCount.{isCellCount}
+use Rattle.engine.specs.Packets.{first_of, packets, queue, is_received, queued_of, SentOn, Outstanding, Settled, sum_of}
+use Rattle.engine.specs.Records.{is_full, is_ready_kind, is_record}
+use Rattle.engine.specs.Received.{RxTable, table_of, record_view, cell_view, expected_at, in_use, bytes_in}
+use Rattle.engine.specs.Tally.{length_ok}
+use Rattle.engine.specs.Sound.{row_at, packet_at, cell_at, SentHere, FlushedBy, SentBy, ReadyKind, LengthWithin, Sound, SoundRecords}
+use Rattle.engine.specs.CellCount.{is_cell_count}
 use Rattle.engine.specs.Sizes.{SLOTS, PACKETS, DATA_BYTES}
 use Rattle.refusal.specs.Tests.{false-true}
 
@@ -83,7 +83,7 @@ false? b = by-test (not b) (not-true b) (λ e. ap not e)
 
 unfoldable seq? : (a b : Seq) → Dec (a ≡ b)
 unfolding same eq?
-seq? a b = same (eq? a.0 b.0) (ap seqOf) (ap (λ (n : Seq). n.0))
+seq? a b = same (eq? a.0 b.0) (ap seq_of) (ap (λ (n : Seq). n.0))
 
 unfoldable seqs? : (xs ys : List Seq) → Dec (xs ≡ ys)
 unfolding same both seq?
@@ -94,12 +94,12 @@ seqs? (x ∷ xs) (y ∷ ys) = same (both (seq? x y) (seqs? xs ys)) (λ p. ap₂ 
 
 unfoldable nothing? : (h : Held) → Dec (h ≡ Nothing)
 nothing? Nothing = yes refl
-nothing? (Message msg len) = no (λ e. false-true (ap (λ h. not (isFull h)) e))
+nothing? (Message msg len) = no (λ e. false-true (ap (λ h. not (is_full h)) e))
 
 unfoldable here? : (s : State) (st : SentReliableStatus) → Dec (SentHere s st)
 unfolding same both lt? true? eq?
 here? s (Sent flight) =
-    same (both (lt? flight.slot SLOTS) (both (true? (rowAt s flight.slot).live) (eq? (rowAt s flight.slot).link_id flight.link)))
+    same (both (lt? flight.slot SLOTS) (both (true? (row_at s flight.slot).live) (eq? (row_at s flight.slot).link_id flight.link)))
     (λ p. (p.0, p.1.0, p.1.1)) (λ h. (h.0, (h.1, h.2)))
 here? s Received = yes tt
 here? s (ResendQueued link) = yes tt
@@ -118,12 +118,12 @@ by? time (ResendQueued link) = yes tt
 unfoldable ready? : (h : Held) → Dec (ReadyKind h)
 unfolding true?
 ready? Nothing = yes tt
-ready? (Message msg len) = true? (isReadyKind msg)
+ready? (Message msg len) = true? (is_ready_kind msg)
 
 unfoldable within? : (h : Held) → Dec (LengthWithin h)
 unfolding true?
 within? Nothing = yes tt
-within? (Message msg len) = true? (lengthOk msg len)
+within? (Message msg len) = true? (length_ok msg len)
 
 -- ---- Sound
 
@@ -132,38 +132,38 @@ unfoldable packets? : (s : State) {P : ℕ → Type 0} → ((i : ℕ) → Dec (P
 unfolding below
 packets? s d = below s.tx.txed_count d
 
-unfoldable links? : (s : State) {P : ℕ → Type 0} → ((j : ℕ) → Dec (P j)) → Dec ((j : ℕ) → j < SLOTS → (rowAt s j).live ≡ true → P j)
+unfoldable links? : (s : State) {P : ℕ → Type 0} → ((j : ℕ) → Dec (P j)) → Dec ((j : ℕ) → j < SLOTS → (row_at s j).live ≡ true → P j)
 unfolding below given true?
-links? s d = below SLOTS (λ j. given (true? (rowAt s j).live) (d j))
+links? s d = below SLOTS (λ j. given (true? (row_at s j).live) (d j))
 
 -- the same record in the order of a decision
 unfoldable pub sound? : (s : State) → Dec (Sound s)
 unfolding same both given eq? le? lt? true? false? seq? seqs? here? by? below packets? links?
 sound? s =
     same
-    (both (packets? s (λ i. seq? (packetAt s i).seq (seqOf (plus (first_of s.tx) i))))
-    (both (given (lt? 0 s.tx.txed_count) (false? (isReceived (packetAt s 0).status)))
-    (both (packets? s (λ i. here? s (packetAt s i).status))
-    (both (seqs? (queue s.tx) (queuedOf (packets s.tx)))
-    (both (links? s (λ j. eq? (rowAt s j).txed_unacked_data (sum_of (SentOn j) (packets s.tx))))
+    (both (packets? s (λ i. seq? (packet_at s i).seq (seq_of (plus (first_of s.tx) i))))
+    (both (given (lt? 0 s.tx.txed_count) (false? (is_received (packet_at s 0).status)))
+    (both (packets? s (λ i. here? s (packet_at s i).status))
+    (both (seqs? (queue s.tx) (queued_of (packets s.tx)))
+    (both (links? s (λ j. eq? (row_at s j).txed_unacked_data (sum_of (SentOn j) (packets s.tx))))
     (both (eq? s.tx.txed_unacked (sum_of Outstanding (packets s.tx)))
     (both (eq? s.tx.txed_unconsumable (sum_of Settled (packets s.tx)))
     (both (le? s.rx.rxed_reliable_size s.rx.recv_buffer)
-    (both (links? s (λ i. links? s (λ j. given (eq? (rowAt s i).link_id (rowAt s j).link_id) (eq? i j))))
-    (both (le? (expectedAt s.rx) (inUse s.rx))
-    (both (le? (inUse s.rx) s.rx.cells)
-    (both (packets? s (λ i. by? s.time (packetAt s i).status))
-    (both (links? s (λ j. true? (pingWithin (rowAt s j).current_ping_sent s.time)))
+    (both (links? s (λ i. links? s (λ j. given (eq? (row_at s i).link_id (row_at s j).link_id) (eq? i j))))
+    (both (le? (expected_at s.rx) (in_use s.rx))
+    (both (le? (in_use s.rx) s.rx.cells)
+    (both (packets? s (λ i. by? s.time (packet_at s i).status))
+    (both (links? s (λ j. true? (ping_within (row_at s j).current_ping_sent s.time)))
     (both (le? s.tx.txed_count PACKETS)
     (both (le? s.tx.resend_count PACKETS)
-    (both (links? s (λ j. le? (rowAt s j).ack_count ACKS))
-    (both (packets? s (λ i. true? (lengthOk (packetAt s i).msg (packetAt s i).len)))
-    (both (true? (isCellCount s.rx.cells))
+    (both (links? s (λ j. le? (row_at s j).ack_count ACKS))
+    (both (packets? s (λ i. true? (length_ok (packet_at s i).msg (packet_at s i).len)))
+    (both (true? (is_cell_count s.rx.cells))
     (both (le? 1 s.rx.recv_buffer)
     (both (le? s.rx.recv_buffer (s.rx.cells * DATA_BYTES))
     (both (le? s.time MAX_TIME)
-    (both (links? s (λ j. le? (rowAt s j).roundtrip MAX_TIME))
-    (links? s (λ j. true? (maxPingWithin (rowAt s j).max_ping)))))))))))))))))))))))))
+    (both (links? s (λ j. le? (row_at s j).roundtrip MAX_TIME))
+    (links? s (λ j. true? (max_ping_within (row_at s j).max_ping)))))))))))))))))))))))))
     (λ t. record {
       consecutive = t.0;
       first = t.1.0;
@@ -203,13 +203,13 @@ unfolding same both given eq? lt? true? nothing? ready? within? below last?
 records? t =
     same
     (both (eq? (length t.records) t.rx.cells)
-    (both (eq? t.rx.rxed_reliable_size (bytesIn (cellView t.rx.cells t)))
-    (both (below (expectedAt t.rx) (λ k. ready? (cell_at t k)))
-    (both (given (lt? 0 (expectedAt t.rx)) (true? (isFull (cell_at t 0))))
-    (both (nothing? (cell_at t (expectedAt t.rx)))
-    (both (last? (expectedAt t.rx) (inUse t.rx) (λ k. true? (isFull (cell_at t k))))
-    (both (below (inUse t.rx) (λ k. within? (cell_at t k)))
-    (below (inUse t.rx) (λ k. true? (isRecord (slice_index (recordView t.rx.cells t) k)))))))))))
+    (both (eq? t.rx.rxed_reliable_size (bytes_in (cell_view t.rx.cells t)))
+    (both (below (expected_at t.rx) (λ k. ready? (cell_at t k)))
+    (both (given (lt? 0 (expected_at t.rx)) (true? (is_full (cell_at t 0))))
+    (both (nothing? (cell_at t (expected_at t.rx)))
+    (both (last? (expected_at t.rx) (in_use t.rx) (λ k. true? (is_full (cell_at t k))))
+    (both (below (in_use t.rx) (λ k. within? (cell_at t k)))
+    (below (in_use t.rx) (λ k. true? (is_record (slice_index (record_view t.rx.cells t) k)))))))))))
     (λ f. record {
       long = f.0;
       untaken = f.1.0;
@@ -236,8 +236,8 @@ unfolding records?
 recordsb t = yes? (records? t)
 
 -- .. with the records that a call uses
-unfoldable pub soundWithb : State → List ℕ → Bool
-soundWithb s records = soundb s && recordsb (table_of s.rx records)
+unfoldable pub sound_withb : State → List ℕ → Bool
+sound_withb s records = soundb s && recordsb (table_of s.rx records)
 
 -- ---- laws
 

@@ -12,56 +12,56 @@ use Rattle.engine.specs.declared.state.SentReliable.{SentReliable}
 use Rattle.engine.specs.declared.state.State.{State}
 use Rattle.engine.specs.declared.packets.Tally.{Tally}
 use Rattle.engine.specs.Ring.{window-length, window-at}
-use Rattle.engine.specs.Packets.{noPacket, first_of, packets, isReceived, queuedOf, Pick, SentOn, Outstanding, Settled, sum_of}
-use Rattle.engine.specs.Received.{expectedAt, inUse}
-use Rattle.engine.specs.CellCount.{isCellCount}
-use Rattle.engine.specs.Roster.{rosterOf}
-use Rattle.engine.specs.Tally.{noTally, tally_of}
-use Rattle.engine.specs.Found.{firstOk, rows_from, distinctBelow, sendingb, receivingb, linksb, foundSound}
+use Rattle.engine.specs.Packets.{no_packet, first_of, packets, is_received, queued_of, Pick, SentOn, Outstanding, Settled, sum_of}
+use Rattle.engine.specs.Received.{expected_at, in_use}
+use Rattle.engine.specs.CellCount.{is_cell_count}
+use Rattle.engine.specs.Roster.{roster_of}
+use Rattle.engine.specs.Tally.{no_tally, tally_of}
+use Rattle.engine.specs.Found.{first_ok, rows_from, distinct_below, sendingb, receivingb, linksb, found_sound}
 use Rattle.engine.specs.Decide.{soundb, sound, sound-true}
-use Rattle.engine.specs.Sound.{rowAt, packetAt, Sound, Shaped}
+use Rattle.engine.specs.Sound.{row_at, packet_at, Sound, Shaped}
 use Rattle.engine.specs.DecidedTables.{distinct_apart, apart_distinct, rows-each, rows_all, RowFine, row_fine, fine-row, zero-plus}
-use Rattle.engine.specs.DecidedPackets.{Good, eachOk, passOf, each-tally, queued-tally, total, sum-tally, sum-le, each-good, each-queue, good-each}
+use Rattle.engine.specs.DecidedPackets.{Good, each_ok, pass_of, each-tally, queued-tally, total, sum-tally, sum-le, each-good, each-queue, good-each}
 use Rattle.engine.specs.Sizes.{PACKETS, SLOTS, DATA_BYTES}
 use Rattle.refusal.specs.Tests.{split, join, same_test}
 use Rattle.link.specs.Sizes.{MAX_TIME}
 
 -- the state's pass
 abbrev found : State → Tally
-found s = tally_of s.tx (rosterOf s.links) s.time
+found s = tally_of s.tx (roster_of s.links) s.time
 
 -- every packet of the table is as Sound asks
 abbrev AllGood : State → Type 0
-AllGood s = (i : ℕ) → i < s.tx.txed_count → Good s (packetAt s i) (plus (first_of s.tx) i)
+AllGood s = (i : ℕ) → i < s.tx.txed_count → Good s (packet_at s i) (plus (first_of s.tx) i)
 
 -- the packet table has `txed_count` places
 packets-length : (s : State) → length (packets s.tx) ≡ s.tx.txed_count
-packets-length s = window-length PACKETS noPacket s.tx.txed_packets (first_of s.tx % PACKETS) s.tx.txed_count
+packets-length s = window-length PACKETS no_packet s.tx.txed_packets (first_of s.tx % PACKETS) s.tx.txed_count
 
 module _ (s : State) (few : s.tx.txed_count ≤ PACKETS) where
   -- the packets' pass goes through the packet table
-  found-pass : found s ≡ passOf s (packets s.tx) (first_of s.tx) noTally
+  found-pass : found s ≡ pass_of s (packets s.tx) (first_of s.tx) no_tally
   unfolding tally_of
   found-pass = refl
 
   -- it finds whether each is as it asks ..
-  found_ok : (found s).ok ≡ eachOk s (packets s.tx) (first_of s.tx) 0
-  found_ok = ap (λ (t : Tally). t.ok) found-pass ∙ each-tally s (packets s.tx) (first_of s.tx) noTally
+  found_ok : (found s).ok ≡ each_ok s (packets s.tx) (first_of s.tx) 0
+  found_ok = ap (λ (t : Tally). t.ok) found-pass ∙ each-tally s (packets s.tx) (first_of s.tx) no_tally
 
   -- .. how many are queued ..
-  found-queued : (found s).queued ≡ length (queuedOf (packets s.tx))
+  found-queued : (found s).queued ≡ length (queued_of (packets s.tx))
   found-queued =
       ap (λ (t : Tally). t.queued) found-pass
-      ∙ queued-tally s (packets s.tx) (first_of s.tx) noTally (omega (arith, packets-length s))
+      ∙ queued-tally s (packets s.tx) (first_of s.tx) no_tally (omega (arith, packets-length s))
       ∙ omega arith
 
   -- .. and the sums, of which none wraps
-  found-total : (k : Pick) → total k noTally ≡ 0 → AllGood s → total k (found s) ≡ sum_of k (packets s.tx)
+  found-total : (k : Pick) → total k no_tally ≡ 0 → AllGood s → total k (found s) ≡ sum_of k (packets s.tx)
   found-total k z good =
       let ps = packets s.tx in
       let small : sum_of k ps ≤ DATA_BYTES * length ps = sum-le k ps (λ i h. (good i (omega (arith, packets-length s))).fits) in
       ap (total k) found-pass
-      ∙ sum-tally s k ps (first_of s.tx) noTally (λ i h. (good i (omega (arith, packets-length s))).here) refl (omega arith)
+      ∙ sum-tally s k ps (first_of s.tx) no_tally (λ i h. (good i (omega (arith, packets-length s))).here) refl (omega arith)
       ∙ ap (λ x. plus x (sum_of k ps)) z
       ∙ zero-plus (sum_of k ps) (omega (arith, packets-length s))
 
@@ -71,29 +71,29 @@ module _ (s : State) (few : s.tx.txed_count ≤ PACKETS) where
 
   -- the first packet is in the cell of the first number
   first-at : 0 < s.tx.txed_count
-      → packetAt s 0 ≡ slice_index_or s.tx.txed_packets (first_of s.tx % PACKETS) noPacket
+      → packet_at s 0 ≡ slice_index_or s.tx.txed_packets (first_of s.tx % PACKETS) no_packet
   first-at h =
       let at = first_of s.tx % PACKETS in
       let e : (at + 0) % PACKETS ≡ at = omega arith in
-      window-at PACKETS noPacket s.tx.txed_packets at s.tx.txed_count 0 (omega arith) h
-      ∙ ap (λ k. get_or s.tx.txed_packets k noPacket) e
+      window-at PACKETS no_packet s.tx.txed_packets at s.tx.txed_count 0 (omega arith) h
+      ∙ ap (λ k. get_or s.tx.txed_packets k no_packet) e
 
   -- the test of the first packet says that it isn't Received
-  first-sound : firstOk s.tx ≡ true → 0 < s.tx.txed_count → isReceived (packetAt s 0).status ≡ false
-  unfolding firstOk
+  first-sound : first_ok s.tx ≡ true → 0 < s.tx.txed_count → is_received (packet_at s 0).status ≡ false
+  unfolding first_ok
   first-sound e h =
       let n : nat_eq s.tx.txed_count 0 ≡ false = ne_eqb s.tx.txed_count 0 (λ q. omega arith) in
-      ap (λ (p : SentReliable). isReceived p.status) (first-at h)
-      ∙ not-true (isReceived (get_or s.tx.txed_packets (first_of s.tx % PACKETS) noPacket).status) (simp n at e)
+      ap (λ (p : SentReliable). is_received p.status) (first-at h)
+      ∙ not-true (is_received (get_or s.tx.txed_packets (first_of s.tx % PACKETS) no_packet).status) (simp n at e)
 
   -- .. and back
-  sound-first : (0 < s.tx.txed_count → isReceived (packetAt s 0).status ≡ false) → firstOk s.tx ≡ true
-  unfolding firstOk
+  sound-first : (0 < s.tx.txed_count → is_received (packet_at s 0).status ≡ false) → first_ok s.tx ≡ true
+  unfolding first_ok
   sound-first f =
       cases (s.tx.txed_count == 0) (λ t. simp t)
       (λ t.
       let h : 0 < s.tx.txed_count = omega (arith, eqb-false s.tx.txed_count 0 t) in
-      simp t (ap (λ (p : SentReliable). not (isReceived p.status)) (sym (first-at h)) ∙ ap not (f h)))
+      simp t (ap (λ (p : SentReliable). not (is_received p.status)) (sym (first-at h)) ∙ ap not (f h)))
 
 -- ---- the decision
 
@@ -101,23 +101,23 @@ module _ (s : State) (few : s.tx.txed_count ≤ PACKETS) where
 record FoundWhole (s : State) : Type 0 where
   few : s.tx.txed_count ≤ PACKETS
   each : (found s).ok ≡ true
-  first : firstOk s.tx ≡ true
+  first : first_ok s.tx ≡ true
   queued : (found s).queued ≡ s.tx.resend_count
   queue-few : s.tx.resend_count ≤ PACKETS
   unacked : (found s).unacked ≡ s.tx.txed_unacked
   unconsumable : (found s).unconsumable ≡ s.tx.txed_unconsumable
-  cell-count : isCellCount s.rx.cells ≡ true
-  near : expectedAt s.rx ≤ inUse s.rx
-  used : inUse s.rx ≤ s.rx.cells
+  cell-count : is_cell_count s.rx.cells ≡ true
+  near : expected_at s.rx ≤ in_use s.rx
+  used : in_use s.rx ≤ s.rx.cells
   size-within : s.rx.rxed_reliable_size ≤ s.rx.recv_buffer
   buffer-set : 1 ≤ s.rx.recv_buffer
   buffer-within : s.rx.recv_buffer ≤ s.rx.cells * DATA_BYTES
   rows : rows_from s.links (found s).on s.time 0 SLOTS ≡ true
-  distinct : distinctBelow (rosterOf s.links) SLOTS ≡ true
+  distinct : distinct_below (roster_of s.links) SLOTS ≡ true
   time-within : s.time ≤ MAX_TIME
 
-found-whole : (s : State) → foundSound s ≡ true → FoundWhole s
-unfolding foundSound sendingb receivingb linksb
+found-whole : (s : State) → found_sound s ≡ true → FoundWhole s
+unfolding found_sound sendingb receivingb linksb
 found-whole s e =
     let a = split (nat_le s.tx.txed_count PACKETS) (sendingb s && (receivingb s.rx && linksb s)) e in
     let b = split (sendingb s) (receivingb s.rx && linksb s) a.1 in
@@ -154,16 +154,16 @@ found-whole s e =
     }
 
 -- a state that passes the test is sound
-found-sound : (s : State) → Shaped s → foundSound s ≡ true → Sound s
+found-sound : (s : State) → Shaped s → found_sound s ≡ true → Sound s
 found-sound s sh e =
     let t = found-whole s e in
     let ps = packets s.tx in
-    let each : eachOk s ps (first_of s.tx) 0 ≡ true = sym (found_ok s t.few) ∙ t.each in
+    let each : each_ok s ps (first_of s.tx) 0 ≡ true = sym (found_ok s t.few) ∙ t.each in
     let good : AllGood s = λ i h. each-good s ps (first_of s.tx) 0 (minus-lt s.tx.tx_seq.0 s.tx.txed_count) each i (omega (arith, packets-length s)) in
-    let count : s.tx.resend_count ≡ length (queuedOf ps) = sym t.queued ∙ found-queued s t.few in
+    let count : s.tx.resend_count ≡ length (queued_of ps) = sym t.queued ∙ found-queued s t.few in
     let apart = distinct_apart s SLOTS (omega arith) t.distinct in
-    let row : (j : ℕ) → j < SLOTS → (rowAt s j).live ≡ true → RowFine (rowAt s j) (slice_index (found s).on j) s.time =
-    λ j h. row_fine (rowAt s j) (slice_index (found s).on j) s.time (rows-each s.links (found s).on s.time 0 SLOTS t.rows j (omega arith) (omega arith)) in
+    let row : (j : ℕ) → j < SLOTS → (row_at s j).live ≡ true → RowFine (row_at s j) (slice_index (found s).on j) s.time =
+    λ j h. row_fine (row_at s j) (slice_index (found s).on j) s.time (rows-each s.links (found s).on s.time 0 SLOTS t.rows j (omega arith) (omega arith)) in
     record {
       consecutive = λ i h. (good i h).number;
       first = first-sound s t.few t.first;
@@ -196,15 +196,15 @@ found-sound s sh e =
     }
 
 -- a sound state passes the test
-sound-found : (s : State) → Shaped s → Sound s → foundSound s ≡ true
-unfolding foundSound sendingb receivingb linksb
+sound-found : (s : State) → Shaped s → Sound s → found_sound s ≡ true
+unfolding found_sound sendingb receivingb linksb
 sound-found s sh h =
     let few = h.packet-count in
     let ps = packets s.tx in
     let good : AllGood s = λ i l. record { number = h.consecutive i l; fits = h.packet-length i l; here = h.sent i l; timed = h.sent-by i l } in
-    let count : length (queuedOf ps) ≡ s.tx.resend_count =
+    let count : length (queued_of ps) ≡ s.tx.resend_count =
     ap length (sym h.queued) ∙ length-take-le s.tx.resend_count s.tx.resend_queue (omega (arith, h.queue-count, sh.queue-full)) in
-    let each : eachOk s ps (first_of s.tx) 0 ≡ true =
+    let each : each_ok s ps (first_of s.tx) 0 ≡ true =
     good-each s ps (first_of s.tx) 0 (minus-lt s.tx.tx_seq.0 s.tx.txed_count) sh.queue-full (omega (arith, packets-length s, few))
     (λ i l. good i (omega (arith, packets-length s))) (ap (λ n. take n s.tx.resend_queue) count ∙ h.queued) in
     join (le-leb _ _ few)
@@ -221,7 +221,7 @@ sound-found s sh h =
     (rows_all s.links (found s).on s.time 0 SLOTS
     (λ j p q.
     let l : j < SLOTS = omega arith in
-    fine-row (rowAt s j) (slice_index (found s).on j) s.time (λ live. record {
+    fine-row (row_at s j) (slice_index (found s).on j) s.time (λ live. record {
       sums = h.link-unacked j l live ∙ sym (found-on s few j l good);
       trip = h.trip-within j l live;
       limit = h.max-ping-within j l live;
@@ -233,5 +233,5 @@ sound-found s sh h =
     (le-leb _ _ h.time-within)))))
 
 -- the test and the decision are one
-pub found-same : (s : State) → Shaped s → foundSound s ≡ soundb s
-found-same s sh = same_test (foundSound s) (soundb s) (λ e. sound-true s (found-sound s sh e)) (λ e. sound-found s sh (sound s e))
+pub found-same : (s : State) → Shaped s → found_sound s ≡ soundb s
+found-same s sh = same_test (found_sound s) (soundb s) (λ e. sound-true s (found-sound s sh e)) (λ e. sound-found s sh (sound s e))

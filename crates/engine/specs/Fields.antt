@@ -15,25 +15,25 @@ use Rattle.engine.specs.declared.state.Flushed.TheVariants.{Unflushed, FlushedAt
 
 -- ---- a packet
 
-abbrev pub newFlight : (time slot link : ℕ) (resent : Bool) → InFlight
-newFlight t s l again = record { sent = t; flushed = Unflushed; slot = s; link = l; resent = again }
+abbrev pub new_flight : (time slot link : ℕ) (resent : Bool) → InFlight
+new_flight t s l again = record { sent = t; flushed = Unflushed; slot = s; link = l; resent = again }
 
 -- a flush time that is there stays
-abbrev pub flushTime : Flushed → ℕ → Flushed
-flushTime Unflushed time = FlushedAt time
-flushTime (FlushedAt at) time = FlushedAt at
+abbrev pub flush_time : Flushed → ℕ → Flushed
+flush_time Unflushed time = FlushedAt time
+flush_time (FlushedAt at) time = FlushedAt at
 
-abbrev pub withFlushed : InFlight → Flushed → InFlight
-withFlushed flight f = record { sent = flight.sent; flushed = f; slot = flight.slot; link = flight.link; resent = flight.resent }
+abbrev pub with_flushed : InFlight → Flushed → InFlight
+with_flushed flight f = record { sent = flight.sent; flushed = f; slot = flight.slot; link = flight.link; resent = flight.resent }
 
-abbrev pub flushedFlight : InFlight → ℕ → InFlight
-flushedFlight flight time = withFlushed flight (flushTime flight.flushed time)
+abbrev pub flushed_flight : InFlight → ℕ → InFlight
+flushed_flight flight time = with_flushed flight (flush_time flight.flushed time)
 
-abbrev pub newPacket : Seq → ReliableMsg → ℕ → SentReliableStatus → SentReliable
-newPacket seq msg len status = record { seq = seq; msg = msg; len = len; status = status }
+abbrev pub new_packet : Seq → ReliableMsg → ℕ → SentReliableStatus → SentReliable
+new_packet seq msg len status = record { seq = seq; msg = msg; len = len; status = status }
 
-abbrev pub withStatus : SentReliable → SentReliableStatus → SentReliable
-withStatus p status = newPacket p.seq p.msg p.len status
+abbrev pub with_status : SentReliable → SentReliableStatus → SentReliable
+with_status p status = new_packet p.seq p.msg p.len status
 
 -- ---- the sending half
 
@@ -53,12 +53,12 @@ with_next tx next ps n = record {
   write_closed = tx.write_closed;
 }
 
-abbrev pub withPackets : Sending → List SentReliable → Sending
-withPackets tx ps = with_next tx tx.tx_seq ps tx.txed_count
+abbrev pub with_packets : Sending → List SentReliable → Sending
+with_packets tx ps = with_next tx tx.tx_seq ps tx.txed_count
 
 -- the resend queue
-abbrev pub withQueue : Sending → List Seq → ℕ → Sending
-withQueue tx queue n = record {
+abbrev pub with_queue : Sending → List Seq → ℕ → Sending
+with_queue tx queue n = record {
   tx_seq = tx.tx_seq;
   txed_packets = tx.txed_packets;
   txed_count = tx.txed_count;
@@ -73,8 +73,8 @@ withQueue tx queue n = record {
 }
 
 -- the three totals
-abbrev pub withTotals : Sending → (unacked unconsumed unconsumable : ℕ) → Sending
-withTotals tx a b c = record {
+abbrev pub with_totals : Sending → (unacked unconsumed unconsumable : ℕ) → Sending
+with_totals tx a b c = record {
   tx_seq = tx.tx_seq;
   txed_packets = tx.txed_packets;
   txed_count = tx.txed_count;
@@ -89,8 +89,8 @@ withTotals tx a b c = record {
 }
 
 -- the last consumed number, and whether sending has ended and the other end's reader has closed
-abbrev pub withEnds : Sending → Seq → (finished closed : Bool) → Sending
-withEnds tx last f c = record {
+abbrev pub with_ends : Sending → Seq → (finished closed : Bool) → Sending
+with_ends tx last f c = record {
   tx_seq = tx.tx_seq;
   txed_packets = tx.txed_packets;
   txed_count = tx.txed_count;
@@ -107,8 +107,8 @@ withEnds tx last f c = record {
 -- ---- the receiving half
 
 -- the next expected and the oldest number
-abbrev pub withNumbers : Receiving → Seq → Seq → Receiving
-withNumbers rx expected oldest = record {
+abbrev pub with_numbers : Receiving → Seq → Seq → Receiving
+with_numbers rx expected oldest = record {
   rx_seq = expected;
   rx_oldest = oldest;
   rxed_reliable_size = rx.rxed_reliable_size;
@@ -119,8 +119,8 @@ withNumbers rx expected oldest = record {
 }
 
 -- the untaken bytes, and those taken and untold
-abbrev pub withBytes : Receiving → (untaken untold : ℕ) → Receiving
-withBytes rx a b = record {
+abbrev pub with_bytes : Receiving → (untaken untold : ℕ) → Receiving
+with_bytes rx a b = record {
   rx_seq = rx.rx_seq;
   rx_oldest = rx.rx_oldest;
   rxed_reliable_size = a;
@@ -131,8 +131,8 @@ withBytes rx a b = record {
 }
 
 -- the end of the cells in use
-abbrev pub withEnd : Receiving → Seq → Receiving
-withEnd rx end = record {
+abbrev pub with_end : Receiving → Seq → Receiving
+with_end rx end = record {
   rx_seq = rx.rx_seq;
   rx_oldest = rx.rx_oldest;
   rxed_reliable_size = rx.rxed_reliable_size;
@@ -145,21 +145,21 @@ withEnd rx end = record {
 -- ---- the state
 
 -- all of its parts but for the reader, which no call changes together with these
-abbrev pub withParts : State → List LinkRow → Sending → Receiving → ℕ → State
-withParts s links tx rx time = record { links = links; tx = tx; rx = rx; time = time; read_open = s.read_open }
+abbrev pub with_parts : State → List LinkRow → Sending → Receiving → ℕ → State
+with_parts s links tx rx time = record { links = links; tx = tx; rx = rx; time = time; read_open = s.read_open }
 
 abbrev pub with_row : State → ℕ → LinkRow → State
-with_row s slot row = withParts s (slice_set s.links slot row) s.tx s.rx s.time
+with_row s slot row = with_parts s (slice_set s.links slot row) s.tx s.rx s.time
 
-abbrev pub withTx : State → Sending → State
-withTx s tx = withParts s s.links tx s.rx s.time
+abbrev pub with_tx : State → Sending → State
+with_tx s tx = with_parts s s.links tx s.rx s.time
 
-abbrev pub withRx : State → Receiving → State
-withRx s rx = withParts s s.links s.tx rx s.time
+abbrev pub with_rx : State → Receiving → State
+with_rx s rx = with_parts s s.links s.tx rx s.time
 
-abbrev pub withTime : State → ℕ → State
-withTime s time = withParts s s.links s.tx s.rx time
+abbrev pub with_time : State → ℕ → State
+with_time s time = with_parts s s.links s.tx s.rx time
 
 -- whether the reader is open
-abbrev pub withReader : State → Bool → State
-withReader s reads = record { links = s.links; tx = s.tx; rx = s.rx; time = s.time; read_open = reads }
+abbrev pub with_reader : State → Bool → State
+with_reader s reads = record { links = s.links; tx = s.tx; rx = s.rx; time = s.time; read_open = reads }

@@ -6,24 +6,24 @@ use Rattle.engine.specs.declared.state.SentReliableStatus.TheVariants.{Sent, Rec
 use Rattle.engine.specs.declared.state.SentReliable.{SentReliable}
 use Rattle.engine.specs.declared.state.State.{State}
 use Rattle.engine.specs.declared.answer.Changed.{Changed}
-use Rattle.engine.specs.Gates.{timedVerdict}
-use Rattle.engine.specs.Answer.{changedBy}
-use Rattle.engine.specs.Fields.{withTx, withTime, flushedFlight}
+use Rattle.engine.specs.Gates.{timed_verdict}
+use Rattle.engine.specs.Answer.{changed_by}
+use Rattle.engine.specs.Fields.{with_tx, with_time, flushed_flight}
 use Rattle.engine.specs.Packets.{packets, restatused}
-use Rattle.engine.specs.Table.{withTable}
+use Rattle.engine.specs.Table.{with_table}
 
 -- what a flush makes of a status
 unfoldable pub flushed : ℕ → ℕ → SentReliableStatus → SentReliableStatus
-flushed slot time (Sent flight) = cond (flight.slot == slot) (Sent (flushedFlight flight time)) (Sent flight)
+flushed slot time (Sent flight) = cond (flight.slot == slot) (Sent (flushed_flight flight time)) (Sent flight)
 flushed slot time Received = Received
 flushed slot time (ResendQueued link) = ResendQueued link
 
-abbrev pub flushedPacket : ℕ → ℕ → SentReliable → SentReliable
-flushedPacket slot time p = restatused (flushed slot time) p
+abbrev pub flushed_packet : ℕ → ℕ → SentReliable → SentReliable
+flushed_packet slot time p = restatused (flushed slot time) p
 
-unfoldable pub flushedState : State → ℕ → ℕ → State
-flushedState s slot time = withTime (withTx s (withTable s.tx (map (flushedPacket slot time) (packets s.tx)))) time
+unfoldable pub flushed_state : State → ℕ → ℕ → State
+flushed_state s slot time = with_time (with_tx s (with_table s.tx (map (flushed_packet slot time) (packets s.tx)))) time
 
-unfoldable pub flushOf : State → ℕ → ℕ → Changed
-unfolding flushedState
-flushOf s slot time = changedBy (timedVerdict s slot time Pass) s (flushedState s slot time)
+unfoldable pub flush_of : State → ℕ → ℕ → Changed
+unfolding flushed_state
+flush_of s slot time = changed_by (timed_verdict s slot time Pass) s (flushed_state s slot time)

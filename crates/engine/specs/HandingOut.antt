@@ -9,7 +9,7 @@ use Rattle.std.proofs.Math.Decide.{ℕ_discrete}
 use Rattle.seq.specs.declared.Seq.{Seq}
 use Rattle.msg.specs.declared.reliable.ReliableMsg.{ReliableMsg}
 use Rattle.msg.specs.declared.reliable.ReliableMsg.TheVariants.{Data, Consumed, SendFinish, ReceiveClose, ReceiveFinish}
-use Rattle.refusal.specs.Answers.{Told, success, refused, toldBy, flag}
+use Rattle.refusal.specs.Answers.{Told, success, refused, told_by, flag}
 use Rattle.msg.specs.Reliable.{kind_of}
 use Rattle.refusal.specs.declared.verdict.Verdict.{Verdict}
 use Rattle.refusal.specs.declared.verdict.Verdict.TheVariants as verdicts
@@ -17,276 +17,276 @@ use Rattle.engine.specs.declared.state.Held.{Held}
 use Rattle.engine.specs.declared.state.Held.TheVariants as helds
 use Rattle.engine.specs.declared.state.Receiving.{Receiving}
 use Rattle.engine.specs.declared.state.State.{State}
-use Rattle.engine.specs.Records.{isFull, isReadyKind, heldBytes}
-use Rattle.engine.specs.Received.{RxTable, table_of, held_at, expectedAt, inUse, view-held}
+use Rattle.engine.specs.Records.{is_full, is_ready_kind, held_bytes}
+use Rattle.engine.specs.Received.{RxTable, table_of, held_at, expected_at, in_use, view-held}
 use Rattle.engine.specs.CellCount.{cell-count}
 use Rattle.engine.specs.Sound.{Sound, SoundRecords, cell_at, Shaped}
 use Rattle.engine.specs.DecidedTables.{length-le, length_none, plus-zero}
 use Rattle.refusal.specs.Verdicts.{gate, gate-pass}
 use Rattle.refusal.specs.Tests.{false-true, split}
-use Rattle.engine.specs.Receiving.{lengthsOk}
+use Rattle.engine.specs.Receiving.{lengths_ok}
 use Rattle.engine.specs.declared.handing_out.HandOut.{HandOut}
 use Rattle.engine.specs.declared.handing_out.HandOut.TheVariants.{Message, No}
 use Rattle.std.proofs.lemmas.Bool.{eqb-false}
-use Rattle.engine.specs.Decide.{soundb, sound, recordsb, records-sound, soundWithb}
-use Rattle.engine.specs.Stores.{cellStart}
+use Rattle.engine.specs.Decide.{soundb, sound, recordsb, records-sound, sound_withb}
+use Rattle.engine.specs.Stores.{cell_start}
 use borrow.Table.Steps.{cases}
-use Rattle.seq.specs.Numbers.{seqOf, plus}
+use Rattle.seq.specs.Numbers.{seq_of, plus}
 use Rattle.seq.specs.Laws.{plus-difference}
 use Rattle.seq.specs.Distance.{past, past_near}
-use Rattle.engine.specs.Rows.{row_of, slotOk}
-use Rattle.engine.specs.Gates.{AtSlot, slot_ok, stateVerdict}
+use Rattle.engine.specs.Rows.{row_of, slot_ok}
+use Rattle.engine.specs.Gates.{AtSlot, slot-ok, state_verdict}
 use Rattle.engine.specs.declared.handing_out.TakeResult.{TakeResult}
 use Rattle.link.specs.declared.acks.OldestAck.{OldestAck}
 use Rattle.link.specs.declared.acks.OldestAck.TheVariants as oldest
-use Rattle.link.specs.Acks.{oldestAck, ackTaken}
+use Rattle.link.specs.Acks.{oldest_ack, ack_taken}
 use Rattle.engine.specs.declared.handing_out.TakeAck.{TakeAck}
 use Rattle.engine.specs.declared.handing_out.TakeAck.TheVariants as tellings
 use Rattle.engine.specs.declared.handing_out.TakeAckResult.{TakeAckResult}
 use Rattle.engine.specs.declared.handing_out.Due.{Due}
 use Rattle.engine.specs.Turns.{turns}
 use Rattle.engine.specs.Sizes.{DATA_BYTES}
-use Rattle.engine.specs.Packets.{isData}
-use Rattle.engine.specs.Fields.{withNumbers, withBytes, with_row, withRx}
+use Rattle.engine.specs.Packets.{is_data}
+use Rattle.engine.specs.Fields.{with_numbers, with_bytes, with_row, with_rx}
 use Rattle.engine.specs.Totals.{fits, MAX_TOTAL, total-fits}
-use Rattle.engine.specs.Tally.{lengthOk}
+use Rattle.engine.specs.Tally.{length_ok}
 use Rattle.engine.specs.declared.handing_out.Due.TheVariants as dues
 
 -- ---- the oldest ready message
 
 -- the oldest ready message: with the oldest number at the next expected one, none is ready
-unfoldable pub readyOf : RxTable → Held
+unfoldable pub ready_of : RxTable → Held
 unfolding held_at
-readyOf t = cond (t.rx.rx_oldest.0 == t.rx.rx_seq.0) helds.Nothing (held_at t.rx.cells t.records t.rx.rx_oldest.0)
+ready_of t = cond (t.rx.rx_oldest.0 == t.rx.rx_seq.0) helds.Nothing (held_at t.rx.cells t.records t.rx.rx_oldest.0)
 
 -- not "nothing to take" (19)
-abbrev pub isReady : RxTable → Bool
-isReady t = isFull (readyOf t)
+abbrev pub is_ready : RxTable → Bool
+is_ready t = is_full (ready_of t)
 
 -- the message that a cell holds; that of an empty one is never asked
-abbrev pub msgIn : Held → ReliableMsg
-msgIn helds.Nothing = Data
-msgIn (helds.Message msg len) = msg
+abbrev pub msg_in : Held → ReliableMsg
+msg_in helds.Nothing = Data
+msg_in (helds.Message msg len) = msg
 
 -- "answering kind, number and length"
-abbrev pub handOutTold : HandOut → Told
-handOutTold (Message msg seq len) = success (kind_of msg ∷ seq.0 ∷ len ∷ [])
-handOutTold (No e) = refused e
+abbrev pub hand_out_told : HandOut → Told
+hand_out_told (Message msg seq len) = success (kind_of msg ∷ seq.0 ∷ len ∷ [])
+hand_out_told (No e) = refused e
 
 -- the kind, number and length of the oldest ready message
-abbrev pub readyValues : RxTable → List ℕ
-readyValues t = kind_of (msgIn (readyOf t)) ∷ t.rx.rx_oldest.0 ∷ heldBytes (readyOf t) ∷ []
+abbrev pub ready_values : RxTable → List ℕ
+ready_values t = kind_of (msg_in (ready_of t)) ∷ t.rx.rx_oldest.0 ∷ held_bytes (ready_of t) ∷ []
 
-unfoldable pub handOutBy : Verdict → RxTable → HandOut
-unfolding readyOf
-handOutBy verdicts.Pass t = Message (msgIn (readyOf t)) t.rx.rx_oldest (heldBytes (readyOf t))
-handOutBy (verdicts.No e) t = No e
+unfoldable pub hand_out_by : Verdict → RxTable → HandOut
+unfolding ready_of
+hand_out_by verdicts.Pass t = Message (msg_in (ready_of t)) t.rx.rx_oldest (held_bytes (ready_of t))
+hand_out_by (verdicts.No e) t = No e
 
 -- the data bytes of a message
-abbrev pub dataLength : ReliableMsg → ℕ → ℕ
-dataLength msg len = cond (isData msg) len 0
+abbrev pub data_length : ReliableMsg → ℕ → ℕ
+data_length msg len = cond (is_data msg) len 0
 
-abbrev pub readyBytes : Held → ℕ
-readyBytes helds.Nothing = 0
-readyBytes (helds.Message msg len) = dataLength msg len
+abbrev pub ready_bytes : Held → ℕ
+ready_bytes helds.Nothing = 0
+ready_bytes (helds.Message msg len) = data_length msg len
 
 -- ---- showing: a part carries no number, so a second call tells which it is
 
 -- in the order of their numbers, but that 2 "is checked before 1" ([8])
-unfoldable pub showVerdict : State → ℕ → List ℕ → Verdict
-showVerdict s store records =
-    gate (lengthsOk s.rx store (length records)) 2
-    (gate (soundWithb s records) 1
-    (gate (isReady (table_of s.rx records)) 19
+unfoldable pub show_verdict : State → ℕ → List ℕ → Verdict
+show_verdict s store records =
+    gate (lengths_ok s.rx store (length records)) 2
+    (gate (sound_withb s records) 1
+    (gate (is_ready (table_of s.rx records)) 19
     verdicts.Pass))
 
 -- what is shown: the answer that taking would give, but for 9
-unfoldable pub showingOf : State → ℕ → List ℕ → HandOut
-unfolding showVerdict handOutBy
-showingOf s store records = handOutBy (showVerdict s store records) (table_of s.rx records)
+unfoldable pub showing_of : State → ℕ → List ℕ → HandOut
+unfolding show_verdict hand_out_by
+showing_of s store records = hand_out_by (show_verdict s store records) (table_of s.rx records)
 
 -- "from the cell's start for the data length", of N cells; only Data has any
-abbrev pub partAs : ℕ → HandOut → List ℕ → List ℕ
-partAs N (Message msg seq len) store = take (dataLength msg len) (drop (cellStart N seq.0) store)
-partAs N (No e) store = []
+abbrev pub part_as : ℕ → HandOut → List ℕ → List ℕ
+part_as N (Message msg seq len) store = take (data_length msg len) (drop (cell_start N seq.0) store)
+part_as N (No e) store = []
 
 -- where the part lies, by block and place, of a store that lies somewhere: "from the cell's start"; an empty one at the store's
-abbrev pub placeAs : ℕ → HandOut → ℕ × ℕ → ℕ × ℕ
-placeAs N (Message msg seq len) at = (at.0, cellStart N seq.0 + at.1)
-placeAs N (No e) at = at
+abbrev pub place_as : ℕ → HandOut → ℕ × ℕ → ℕ × ℕ
+place_as N (Message msg seq len) at = (at.0, cell_start N seq.0 + at.1)
+place_as N (No e) at = at
 
-unfoldable pub shownAt : State → ℕ → List ℕ → ℕ × ℕ → ℕ × ℕ
-unfolding showingOf
-shownAt s store records at = placeAs s.rx.cells (showingOf s store records) at
+unfoldable pub shown_at : State → ℕ → List ℕ → ℕ × ℕ → ℕ × ℕ
+unfolding showing_of
+shown_at s store records at = place_as s.rx.cells (showing_of s store records) at
 
-unfoldable pub shownOf : State → List ℕ → List ℕ → List ℕ
-unfolding showingOf
-shownOf s store records = partAs s.rx.cells (showingOf s (length store) records) store
+unfoldable pub shown_of : State → List ℕ → List ℕ → List ℕ
+unfolding showing_of
+shown_of s store records = part_as s.rx.cells (showing_of s (length store) records) store
 
 -- ---- taking
 
 -- "refusal 2, now given in taking a message too" ([8]); 9: "a total would pass 2^32 − 1", the taken-and-untold count
-unfoldable pub takeVerdict : State → List ℕ → Verdict
-takeVerdict s records =
+unfoldable pub take_verdict : State → List ℕ → Verdict
+take_verdict s records =
     gate (length records == s.rx.cells) 2
-    (gate (soundWithb s records) 1
-    (gate (fits s.rx.rxed_reliable_consumed (readyBytes (readyOf (table_of s.rx records))) MAX_TOTAL) 9
-    (gate (isReady (table_of s.rx records)) 19
+    (gate (sound_withb s records) 1
+    (gate (fits s.rx.rxed_reliable_consumed (ready_bytes (ready_of (table_of s.rx records))) MAX_TOTAL) 9
+    (gate (is_ready (table_of s.rx records)) 19
     verdicts.Pass)))
 
 -- the oldest number stands for nothing that is ready, and is before the next expected
-unfoldable pub canSkip : ℕ → List ℕ → Receiving → Bool
+unfoldable pub can_skip : ℕ → List ℕ → Receiving → Bool
 unfolding held_at
-canSkip N records rx = not (rx.rx_oldest.0 == rx.rx_seq.0) && not (isFull (held_at N records rx.rx_oldest.0))
+can_skip N records rx = not (rx.rx_oldest.0 == rx.rx_seq.0) && not (is_full (held_at N records rx.rx_oldest.0))
 
 unfoldable pub passed_by : Receiving → Receiving
-passed_by rx = withNumbers rx rx.rx_seq (seqOf (plus rx.rx_oldest.0 1))
+passed_by rx = with_numbers rx rx.rx_seq (seq_of (plus rx.rx_oldest.0 1))
 
 -- to the next ready message or the next expected number, over at most k numbers
 abbrev pub skipped : ℕ → ℕ → List ℕ → Receiving → Receiving
-skipped N k records rx = turns (canSkip N records) passed_by k rx
+skipped N k records rx = turns (can_skip N records) passed_by k rx
 
 -- the table without its oldest ready message, of so many data bytes
-unfoldable pub takenIn : ℕ → RxTable → ℕ → RxTable
+unfoldable pub taken_in : ℕ → RxTable → ℕ → RxTable
 unfolding passed_by
-takenIn N t bytes =
+taken_in N t bytes =
     let emptied = slice_set t.records (t.rx.rx_oldest.0 % N) 0 in
     record {
-      rx = skipped N N emptied (withBytes (passed_by t.rx) (t.rx.rxed_reliable_size - bytes) (t.rx.rxed_reliable_consumed + bytes));
+      rx = skipped N N emptied (with_bytes (passed_by t.rx) (t.rx.rxed_reliable_size - bytes) (t.rx.rxed_reliable_consumed + bytes));
       records = emptied;
     }
 
-abbrev pub takenTable : State → List ℕ → ℕ → RxTable
-takenTable s records bytes = takenIn s.rx.cells (table_of s.rx records) bytes
+abbrev pub taken_table : State → List ℕ → ℕ → RxTable
+taken_table s records bytes = taken_in s.rx.cells (table_of s.rx records) bytes
 
-unfoldable pub takenState : State → List ℕ → ℕ → State
-unfolding takenIn
-takenState s records bytes = withRx s (takenTable s records bytes).rx
+unfoldable pub taken_state : State → List ℕ → ℕ → State
+unfolding taken_in
+taken_state s records bytes = with_rx s (taken_table s records bytes).rx
 
-abbrev pub takenBy : HandOut → State → List ℕ → State
-takenBy (Message msg seq len) s records = takenState s records (dataLength msg len)
-takenBy (No e) s records = s
+abbrev pub taken_by : HandOut → State → List ℕ → State
+taken_by (Message msg seq len) s records = taken_state s records (data_length msg len)
+taken_by (No e) s records = s
 
 unfoldable pub take_of : State → List ℕ → TakeResult
-unfolding takeVerdict takenState
+unfolding take_verdict taken_state
 take_of s records =
-    let answer = handOutBy (takeVerdict s records) (table_of s.rx records) in
-    record { answer = answer; state = takenBy answer s records }
+    let answer = hand_out_by (take_verdict s records) (table_of s.rx records) in
+    record { answer = answer; state = taken_by answer s records }
 
 -- its record is empty then, and no other word changes
-abbrev pub recordsBy : HandOut → State → List ℕ → List ℕ
-recordsBy (Message msg seq len) s records = (takenTable s records (dataLength msg len)).records
-recordsBy (No e) s records = records
+abbrev pub records_by : HandOut → State → List ℕ → List ℕ
+records_by (Message msg seq len) s records = (taken_table s records (data_length msg len)).records
+records_by (No e) s records = records
 
-unfoldable pub takeRecords : State → List ℕ → List ℕ
-unfolding takeVerdict
-takeRecords s records = recordsBy (handOutBy (takeVerdict s records) (table_of s.rx records)) s records
+unfoldable pub take_records : State → List ℕ → List ℕ
+unfolding take_verdict
+take_records s records = records_by (hand_out_by (take_verdict s records) (table_of s.rx records)) s records
 
 -- ---- taking an ack
 
 -- not "nothing to take" (19)
-abbrev pub isWaiting : OldestAck → Bool
-isWaiting oldest.Nothing = false
-isWaiting (oldest.Number seq) = true
+abbrev pub is_waiting : OldestAck → Bool
+is_waiting oldest.Nothing = false
+is_waiting (oldest.Number seq) = true
 
-unfoldable pub takeAckVerdict : State → ℕ → Verdict
-takeAckVerdict s slot = gate (soundb s) 1 (gate (slotOk s slot) 4 (gate (isWaiting (oldestAck (row_of s slot))) 19 verdicts.Pass))
+unfoldable pub take_ack_verdict : State → ℕ → Verdict
+take_ack_verdict s slot = gate (soundb s) 1 (gate (slot_ok s slot) 4 (gate (is_waiting (oldest_ack (row_of s slot))) 19 verdicts.Pass))
 
 -- the number that is acked; where none waits it is never asked
-abbrev pub ackIn : OldestAck → Seq
-ackIn oldest.Nothing = seqOf 0
-ackIn (oldest.Number seq) = seq
+abbrev pub ack_in : OldestAck → Seq
+ack_in oldest.Nothing = seq_of 0
+ack_in (oldest.Number seq) = seq
 
 -- the link's oldest
-abbrev pub takeAckTold : TakeAck → Told
-takeAckTold (tellings.Number seq) = success (seq.0 ∷ [])
-takeAckTold (tellings.No e) = refused e
+abbrev pub take_ack_told : TakeAck → Told
+take_ack_told (tellings.Number seq) = success (seq.0 ∷ [])
+take_ack_told (tellings.No e) = refused e
 
-abbrev pub ackAs : Verdict → OldestAck → TakeAck
-ackAs verdicts.Pass ack = tellings.Number (ackIn ack)
-ackAs (verdicts.No e) ack = tellings.No e
+abbrev pub ack_as : Verdict → OldestAck → TakeAck
+ack_as verdicts.Pass ack = tellings.Number (ack_in ack)
+ack_as (verdicts.No e) ack = tellings.No e
 
-unfoldable pub ackAnswer : State → ℕ → TakeAck
-unfolding takeAckVerdict
-ackAnswer s slot = ackAs (takeAckVerdict s slot) (oldestAck (row_of s slot))
+unfoldable pub ack_answer : State → ℕ → TakeAck
+unfolding take_ack_verdict
+ack_answer s slot = ack_as (take_ack_verdict s slot) (oldest_ack (row_of s slot))
 
-unfoldable pub takenAckState : State → ℕ → State
-takenAckState s slot = with_row s slot (ackTaken (row_of s slot))
+unfoldable pub taken_ack_state : State → ℕ → State
+taken_ack_state s slot = with_row s slot (ack_taken (row_of s slot))
 
-abbrev pub takenAckBy : TakeAck → State → ℕ → State
-takenAckBy (tellings.Number seq) s slot = takenAckState s slot
-takenAckBy (tellings.No e) s slot = s
+abbrev pub taken_ack_by : TakeAck → State → ℕ → State
+taken_ack_by (tellings.Number seq) s slot = taken_ack_state s slot
+taken_ack_by (tellings.No e) s slot = s
 
-unfoldable pub takeAckOf : State → ℕ → TakeAckResult
-unfolding ackAnswer takenAckState
-takeAckOf s slot = record { answer = ackAnswer s slot; state = takenAckBy (ackAnswer s slot) s slot }
+unfoldable pub take_ack_of : State → ℕ → TakeAckResult
+unfolding ack_answer taken_ack_state
+take_ack_of s slot = record { answer = ack_answer s slot; state = taken_ack_by (ack_answer s slot) s slot }
 
 -- ---- whether a Consumed is due
 
-abbrev pub dueTold : Due → Told
-dueTold (dues.Is due) = success (flag due ∷ [])
-dueTold (dues.No e) = refused e
+abbrev pub due_told : Due → Told
+due_told (dues.Is due) = success (flag due ∷ [])
+due_told (dues.No e) = refused e
 
 -- "`recv_buffer` / 10, rounded down", and once the reader has closed "0: one taken byte is enough, zero is not" ([4])
-abbrev pub dueAbove : State → ℕ
-dueAbove s = cond s.read_open (s.rx.recv_buffer / 10) 0
+abbrev pub due_above : State → ℕ
+due_above s = cond s.read_open (s.rx.recv_buffer / 10) 0
 
-abbrev pub isDue : State → Bool
-isDue s = nat_lt (dueAbove s) s.rx.rxed_reliable_consumed
+abbrev pub is_due : State → Bool
+is_due s = nat_lt (due_above s) s.rx.rxed_reliable_consumed
 
-abbrev pub dueBy : Verdict → State → Due
-dueBy verdicts.Pass s = dues.Is (isDue s)
-dueBy (verdicts.No e) s = dues.No e
+abbrev pub due_by : Verdict → State → Due
+due_by verdicts.Pass s = dues.Is (is_due s)
+due_by (verdicts.No e) s = dues.No e
 
-unfoldable pub dueOf : State → Due
-dueOf s = dueBy (stateVerdict s) s
+unfoldable pub due_of : State → Due
+due_of s = due_by (state_verdict s) s
 
 -- ---- laws
 
 -- what each answer tells
 
-handed-told : (v : Verdict) (t : RxTable) → handOutTold (handOutBy v t) ≡ toldBy v (readyValues t)
-unfolding handOutBy
+handed-told : (v : Verdict) (t : RxTable) → hand_out_told (hand_out_by v t) ≡ told_by v (ready_values t)
+unfolding hand_out_by
 handed-told verdicts.Pass t = refl
 handed-told (verdicts.No e) t = refl
 
-pub hand-told : {r : HandOut} (v w : Verdict) (t : RxTable) → r ≡ handOutBy v t → v ≡ w → handOutTold r ≡ toldBy w (readyValues t)
-hand-told v w t e same = ap handOutTold e ∙ handed-told v t ∙ ap (λ x. toldBy x (readyValues t)) same
+pub hand-told : {r : HandOut} (v w : Verdict) (t : RxTable) → r ≡ hand_out_by v t → v ≡ w → hand_out_told r ≡ told_by w (ready_values t)
+hand-told v w t e same = ap hand_out_told e ∙ handed-told v t ∙ ap (λ x. told_by x (ready_values t)) same
 
-ack-told : (v : Verdict) (ack : OldestAck) → takeAckTold (ackAs v ack) ≡ toldBy v ((ackIn ack).0 ∷ [])
+ack-told : (v : Verdict) (ack : OldestAck) → take_ack_told (ack_as v ack) ≡ told_by v ((ack_in ack).0 ∷ [])
 ack-told verdicts.Pass ack = refl
 ack-told (verdicts.No e) ack = refl
 
-pub answer-told : (s : State) (slot : ℕ) → takeAckTold (ackAnswer s slot) ≡ toldBy (takeAckVerdict s slot) ((ackIn (oldestAck (row_of s slot))).0 ∷ [])
-unfolding ackAnswer
-answer-told s slot = ack-told (takeAckVerdict s slot) (oldestAck (row_of s slot))
+pub answer-told : (s : State) (slot : ℕ) → take_ack_told (ack_answer s slot) ≡ told_by (take_ack_verdict s slot) ((ack_in (oldest_ack (row_of s slot))).0 ∷ [])
+unfolding ack_answer
+answer-told s slot = ack-told (take_ack_verdict s slot) (oldest_ack (row_of s slot))
 
 -- what an answer that is no refusal says
 pub record Handed (v : Verdict) (t : RxTable) (msg : ReliableMsg) (n : Seq) (len : ℕ) : Type 0 where
   pub passed : v ≡ verdicts.Pass
-  pub ready : isReady t ≡ true → readyOf t ≡ helds.Message msg len
+  pub ready : is_ready t ≡ true → ready_of t ≡ helds.Message msg len
   pub number : t.rx.rx_oldest ≡ n
 
-ready-is : (held : Held) (msg : ReliableMsg) (len : ℕ) → msgIn held ≡ msg → heldBytes held ≡ len → isFull held ≡ true → held ≡ helds.Message msg len
+ready-is : (held : Held) (msg : ReliableMsg) (len : ℕ) → msg_in held ≡ msg → held_bytes held ≡ len → is_full held ≡ true → held ≡ helds.Message msg len
 ready-is helds.Nothing msg len m l e = false-true e
 ready-is (helds.Message msg₁ len₁) msg len m l e = ap₂ (λ (a : ReliableMsg) (b : ℕ). helds.Message a b) m l
 
-pub handed : (v : Verdict) (t : RxTable) (msg : ReliableMsg) (n : Seq) (len : ℕ) → handOutBy v t ≡ Message msg n len → Handed v t msg n len
-unfolding handOutBy
+pub handed : (v : Verdict) (t : RxTable) (msg : ReliableMsg) (n : Seq) (len : ℕ) → hand_out_by v t ≡ Message msg n len → Handed v t msg n len
+unfolding hand_out_by
 handed verdicts.Pass t msg n len e =
-    let m : msgIn (readyOf t) ≡ msg = cc in
-    let l : heldBytes (readyOf t) ≡ len = cc in
+    let m : msg_in (ready_of t) ≡ msg = cc in
+    let l : held_bytes (ready_of t) ≡ len = cc in
     let o : t.rx.rx_oldest ≡ n = cc in
-    record { passed = refl; ready = ready-is (readyOf t) msg len m l; number = o }
+    record { passed = refl; ready = ready-is (ready_of t) msg len m l; number = o }
 handed (verdicts.No e₁) t msg n len e = let z : ◌≡◌ {A = ℕ} 0 1 = cc in absurd (omega arith)
 
-data-length-le : (msg : ReliableMsg) (len : ℕ) → dataLength msg len ≤ len
-data-length-le msg len = cases (isData msg) (λ t. simp t (omega arith)) (λ t. simp t (omega arith))
+data-length-le : (msg : ReliableMsg) (len : ℕ) → data_length msg len ≤ len
+data-length-le msg len = cases (is_data msg) (λ t. simp t (omega arith)) (λ t. simp t (omega arith))
 
 -- a ready message is what the oldest number's record says, before the next expected number
-pub ready_held : (t : RxTable) (msg : ReliableMsg) (len : ℕ) → readyOf t ≡ helds.Message msg len
+pub ready_held : (t : RxTable) (msg : ReliableMsg) (len : ℕ) → ready_of t ≡ helds.Message msg len
     → (held_at t.rx.cells t.records t.rx.rx_oldest.0 ≡ helds.Message msg len) × ((t.rx.rx_oldest.0 == t.rx.rx_seq.0) ≡ false)
-unfolding readyOf
+unfolding ready_of
 ready_held t msg len e =
     cases (t.rx.rx_oldest.0 == t.rx.rx_seq.0)
     (λ b. let z : ◌≡◌ {A = Held} helds.Nothing (helds.Message msg len) = simp b at e in let z' : ◌≡◌ {A = ℕ} 0 1 = cc in absurd (omega arith))
@@ -303,29 +303,29 @@ expected-past n o hn ho close ne =
 
 -- its bytes fit its cell of the store
 pub ready-short : (s : State) (records : List ℕ) (msg : ReliableMsg) (len : ℕ) → Shaped s → Sound s → SoundRecords (table_of s.rx records)
-    → readyOf (table_of s.rx records) ≡ helds.Message msg len → dataLength msg len ≤ DATA_BYTES
+    → ready_of (table_of s.rx records) ≡ helds.Message msg len → data_length msg len ≤ DATA_BYTES
 ready-short s records msg len shape fine recorded e =
     let t = table_of s.rx records in
     let o = s.rx.rx_oldest.0 in
     let count = cell-count s.rx.cells fine.cell-count in
     let here = ready_held t msg len e in
-    let some : 0 < expectedAt s.rx = expected-past s.rx.rx_seq.0 o shape.expected-u32 shape.oldest-u32 (omega (arith, fine.near, fine.used, count.few)) here.1 in
-    let used : 0 < inUse s.rx = omega (arith, fine.near) in
+    let some : 0 < expected_at s.rx = expected-past s.rx.rx_seq.0 o shape.expected-u32 shape.oldest-u32 (omega (arith, fine.near, fine.used, count.few)) here.1 in
+    let used : 0 < in_use s.rx = omega (arith, fine.near) in
     let is : cell_at t 0 ≡ helds.Message msg len =
     view-held s.rx.cells count t 0 used ∙ ap (held_at s.rx.cells records) (plus-zero o shape.oldest-u32) ∙ here.0 in
-    let long : lengthOk msg len ≡ true = rw is at (recorded.cell-length 0 used) in
+    let long : length_ok msg len ≡ true = rw is at (recorded.cell-length 0 used) in
     omega (arith, data-length-le msg len, length-le msg len long)
 
 -- what is shown lies within the store
-pub shown-within : (s : State) (store : ℕ) (records : List ℕ) (msg : ReliableMsg) (seq : Seq) (len : ℕ) → Shaped s → showingOf s store records ≡ Message msg seq len
-    → (0 < s.rx.cells) × (cellStart s.rx.cells seq.0 + dataLength msg len ≤ store)
-unfolding showingOf showVerdict handOutBy soundWithb
+pub shown-within : (s : State) (store : ℕ) (records : List ℕ) (msg : ReliableMsg) (seq : Seq) (len : ℕ) → Shaped s → showing_of s store records ≡ Message msg seq len
+    → (0 < s.rx.cells) × (cell_start s.rx.cells seq.0 + data_length msg len ≤ store)
+unfolding showing_of show_verdict hand_out_by sound_withb
 shown-within s store records msg seq len shape e =
     let t = table_of s.rx records in
-    let h = handed (showVerdict s store records) t msg seq len e in
-    let e2 = gate-pass (lengthsOk s.rx store (length records)) _ _ h.passed in
-    let e1 = gate-pass (soundWithb s records) _ _ e2.1 in
-    let e19 = gate-pass (isReady t) _ _ e1.1 in
+    let h = handed (show_verdict s store records) t msg seq len e in
+    let e2 = gate-pass (lengths_ok s.rx store (length records)) _ _ h.passed in
+    let e1 = gate-pass (sound_withb s records) _ _ e2.1 in
+    let e19 = gate-pass (is_ready t) _ _ e1.1 in
     let both = split (soundb s) (recordsb t) e1.0 in
     let stored = eqb-true store (s.rx.cells * DATA_BYTES) (split (store == s.rx.cells * DATA_BYTES) (length records == s.rx.cells) e2.0).0 in
     let some = (cell-count s.rx.cells (sound s both.0).cell-count).some in
@@ -343,44 +343,44 @@ part_same start len store =
 pub record Taking (s : State) (records : List ℕ) (msg : ReliableMsg) (seq : Seq) (len : ℕ) : Type 0 where
   pub fine : Sound s
   pub recorded : SoundRecords (table_of s.rx records)
-  pub ready : readyOf (table_of s.rx records) ≡ helds.Message msg len
+  pub ready : ready_of (table_of s.rx records) ≡ helds.Message msg len
   pub number : s.rx.rx_oldest ≡ seq
-  pub total : s.rx.rxed_reliable_consumed + dataLength msg len < 2 ^ 32
+  pub total : s.rx.rxed_reliable_consumed + data_length msg len < 2 ^ 32
 
-pub taking : (s : State) (records : List ℕ) (msg : ReliableMsg) (seq : Seq) (len : ℕ) → handOutBy (takeVerdict s records) (table_of s.rx records) ≡ Message msg seq len
+pub taking : (s : State) (records : List ℕ) (msg : ReliableMsg) (seq : Seq) (len : ℕ) → hand_out_by (take_verdict s records) (table_of s.rx records) ≡ Message msg seq len
     → Taking s records msg seq len
-unfolding takeVerdict soundWithb
+unfolding take_verdict sound_withb
 taking s records msg seq len e =
     let t = table_of s.rx records in
-    let h = handed (takeVerdict s records) t msg seq len e in
+    let h = handed (take_verdict s records) t msg seq len e in
     let e2 = gate-pass (length records == s.rx.cells) _ _ h.passed in
-    let e1 = gate-pass (soundWithb s records) _ _ e2.1 in
-    let e9 = gate-pass (fits s.rx.rxed_reliable_consumed (readyBytes (readyOf t)) MAX_TOTAL) _ _ e1.1 in
-    let e19 = gate-pass (isReady t) _ _ e9.1 in
+    let e1 = gate-pass (sound_withb s records) _ _ e2.1 in
+    let e9 = gate-pass (fits s.rx.rxed_reliable_consumed (ready_bytes (ready_of t)) MAX_TOTAL) _ _ e1.1 in
+    let e19 = gate-pass (is_ready t) _ _ e9.1 in
     let both = split (soundb s) (recordsb t) e1.0 in
     record {
       fine = sound s both.0;
       recorded = records-sound t both.1;
       ready = h.ready e19.0;
       number = h.number;
-      total = rw (ap readyBytes (h.ready e19.0)) at (total-fits s.rx.rxed_reliable_consumed (readyBytes (readyOf t)) e9.0);
+      total = rw (ap ready_bytes (h.ready e19.0)) at (total-fits s.rx.rxed_reliable_consumed (ready_bytes (ready_of t)) e9.0);
     }
 
 -- an ack that is taken was waiting, on a live link
 pub record TakeAckPassed (s : State) (slot : ℕ) : Type 0 where
   pub at : AtSlot s slot
-  pub waits : isWaiting (oldestAck (row_of s slot)) ≡ true
+  pub waits : is_waiting (oldest_ack (row_of s slot)) ≡ true
 
-pub take-ack-passed : (s : State) (slot : ℕ) → takeAckVerdict s slot ≡ verdicts.Pass → TakeAckPassed s slot
-unfolding takeAckVerdict
+pub take-ack-passed : (s : State) (slot : ℕ) → take_ack_verdict s slot ≡ verdicts.Pass → TakeAckPassed s slot
+unfolding take_ack_verdict
 take-ack-passed s slot e =
     let e1 = gate-pass (soundb s) _ _ e in
-    let e4 = gate-pass (slotOk s slot) _ _ e1.1 in
-    let e19 = gate-pass (isWaiting (oldestAck (row_of s slot))) _ _ e4.1 in
-    record { at = slot_ok s slot e1.0 e4.0; waits = e19.0 }
+    let e4 = gate-pass (slot_ok s slot) _ _ e1.1 in
+    let e19 = gate-pass (is_waiting (oldest_ack (row_of s slot))) _ _ e4.1 in
+    record { at = slot-ok s slot e1.0 e4.0; waits = e19.0 }
 
 -- a ready message's data bytes are all that its cell counts
-pub data-all : (msg : ReliableMsg) (len : ℕ) → isReadyKind msg ≡ true → lengthOk msg len ≡ true → dataLength msg len ≡ len
+pub data-all : (msg : ReliableMsg) (len : ℕ) → is_ready_kind msg ≡ true → length_ok msg len ≡ true → data_length msg len ≡ len
 data-all Data len r w = refl
 data-all (Consumed n) len r w = false-true r
 data-all SendFinish len r w = sym (length_none SendFinish len refl w)

@@ -5,15 +5,15 @@ use Rattle.std.proofs.Math.Path.{ap}
 use Rattle.std.specs.Int.{◌∣◌}
 use Rattle.std.proofs.Math.Nat.{dvd-mul_right, mod-add-mod, mod-mod_of_dvd}
 use Rattle.seq.specs.declared.Seq.{Seq}
-use Rattle.seq.specs.Numbers.{seqOf, plus, minus}
+use Rattle.seq.specs.Numbers.{seq_of, plus, minus}
 use Rattle.seq.specs.Distance.{past, past_near, past-ahead}
 use Rattle.engine.specs.declared.state.SentReliable.{SentReliable}
 use Rattle.engine.specs.declared.state.Sending.{Sending}
 use Rattle.engine.specs.declared.state.State.{State}
 use Rattle.engine.specs.Ring.{window, refilled, refill-window, window-at, window-length}
-use Rattle.engine.specs.Packets.{noPacket, first_of, packets, Pick, SentOn, sum_of}
-use Rattle.engine.specs.Table.{in_table, place, lookedAt, packetOf, withTable}
-use Rattle.engine.specs.Sound.{Sound, Shaped, packetAt, rowAt}
+use Rattle.engine.specs.Packets.{no_packet, first_of, packets, Pick, SentOn, sum_of}
+use Rattle.engine.specs.Table.{in_table, place, looked_at, packet_of, with_table}
+use Rattle.engine.specs.Sound.{Sound, Shaped, packet_at, row_at}
 use Rattle.engine.specs.DecidedTables.{length-le}
 use Rattle.engine.specs.DecidedPackets.{sum-le}
 use Rattle.engine.specs.Sizes.{PACKETS, SLOTS, DATA_BYTES, SENT_BYTES}
@@ -57,11 +57,11 @@ pub record Placed (tx : Sending) (n : ℕ) : Type 0 where
   pub back_low : 1 ≤ past tx.tx_seq.0 n
   pub back-high : past tx.tx_seq.0 n ≤ tx.txed_count
   pub number : n ≡ plus (first_of tx) (place tx n)
-  pub here : packetOf tx n ≡ lookedAt tx n
+  pub here : packet_of tx n ≡ looked_at tx n
 
 -- the number is `place` past the first, and the packet at count − back is the one in the number's cell
 pub placed : (tx : Sending) (n : ℕ) → tx.tx_seq.0 < 2 ^ 32 → n < 2 ^ 32 → tx.txed_count ≤ PACKETS → in_table tx n ≡ true → Placed tx n
-unfolding in_table packetOf lookedAt place
+unfolding in_table packet_of looked_at place
 placed tx n ht hn c e =
     let t = tx.tx_seq.0 in
     let back = past t n in
@@ -81,52 +81,52 @@ placed tx n ht hn c e =
       back-high = high;
       number = number ∙ number_past t tx.txed_count back c high;
       here =
-          ap (λ k. slice_index_or tx.txed_packets k noPacket) cell
-          ∙ sym (window-at PACKETS noPacket tx.txed_packets (first_of tx % PACKETS) tx.txed_count (tx.txed_count - back) at (omega arith));
+          ap (λ k. slice_index_or tx.txed_packets k no_packet) cell
+          ∙ sym (window-at PACKETS no_packet tx.txed_packets (first_of tx % PACKETS) tx.txed_count (tx.txed_count - back) at (omega arith));
     }
 
 -- other packets in the places of the table's own are the table's packets
 pub table-packets : (tx : Sending) (ps : List SentReliable) → length ps ≡ tx.txed_count → tx.txed_count ≤ PACKETS → length tx.txed_packets ≡ PACKETS
-    → packets (withTable tx ps) ≡ ps
-unfolding withTable
+    → packets (with_table tx ps) ≡ ps
+unfolding with_table
 table-packets tx ps long few full =
     let cells = refilled PACKETS tx.txed_packets (first_of tx % PACKETS) ps in
-    ap (window PACKETS noPacket cells (first_of tx % PACKETS)) (sym long)
-    ∙ refill-window PACKETS noPacket tx.txed_packets (first_of tx % PACKETS) ps (omega arith) full (omega arith)
+    ap (window PACKETS no_packet cells (first_of tx % PACKETS)) (sym long)
+    ∙ refill-window PACKETS no_packet tx.txed_packets (first_of tx % PACKETS) ps (omega arith) full (omega arith)
 
 -- ---- what a sound state says
 
 module _ (s : State) (shaped : Shaped s) (sound : Sound s) where
   -- a packet's number is as many before the next one as there are packets from its place on
-  pub packet-back : (i : ℕ) → i < s.tx.txed_count → past s.tx.tx_seq.0 (packetAt s i).seq.0 ≡ s.tx.txed_count - i
+  pub packet-back : (i : ℕ) → i < s.tx.txed_count → past s.tx.tx_seq.0 (packet_at s i).seq.0 ≡ s.tx.txed_count - i
   packet-back i h =
       ap (λ (q : Seq). past s.tx.tx_seq.0 q.0) (sound.consecutive i h)
       ∙ number-back s.tx.tx_seq.0 s.tx.txed_count i shaped.next-u32 sound.packet-count h
 
   -- a packet of the table has at most 1,024 bytes
-  pub packet-short : (n : ℕ) → n < 2 ^ 32 → in_table s.tx n ≡ true → (lookedAt s.tx n).len ≤ DATA_BYTES
-  unfolding place lookedAt
+  pub packet-short : (n : ℕ) → n < 2 ^ 32 → in_table s.tx n ≡ true → (looked_at s.tx n).len ≤ DATA_BYTES
+  unfolding place looked_at
   packet-short n h e =
       let p = placed s.tx n shaped.next-u32 h sound.packet-count e in
       let i = place s.tx n in
-      length-le (packetAt s i).msg (packetAt s i).len (sound.packet-length i (omega (arith, p.back_low, p.back-high)))
+      length-le (packet_at s i).msg (packet_at s i).len (sound.packet-length i (omega (arith, p.back_low, p.back-high)))
 
   -- the packet looked at is in the number's cell ..
-  pub looked-cell : (n : ℕ) → n < 2 ^ 32 → in_table s.tx n ≡ true → packetOf s.tx n ≡ lookedAt s.tx n
+  pub looked-cell : (n : ℕ) → n < 2 ^ 32 → in_table s.tx n ≡ true → packet_of s.tx n ≡ looked_at s.tx n
   looked-cell n h e = (placed s.tx n shaped.next-u32 h sound.packet-count e).here
 
   -- .. and holds the number
-  pub looked-number : (n : ℕ) → n < 2 ^ 32 → in_table s.tx n ≡ true → (lookedAt s.tx n).seq ≡ seqOf n
-  unfolding place lookedAt
+  pub looked-number : (n : ℕ) → n < 2 ^ 32 → in_table s.tx n ≡ true → (looked_at s.tx n).seq ≡ seq_of n
+  unfolding place looked_at
   looked-number n h e =
       let p = placed s.tx n shaped.next-u32 h sound.packet-count e in
-      sound.consecutive (place s.tx n) (omega (arith, p.back_low, p.back-high)) ∙ ap seqOf (sym p.number)
+      sound.consecutive (place s.tx n) (omega (arith, p.back_low, p.back-high)) ∙ ap seq_of (sym p.number)
 
   -- sums over the table are small
   pub sum-small : (k : Pick) → sum_of k (packets s.tx) ≤ SENT_BYTES
   sum-small k =
-      let n = window-length PACKETS noPacket s.tx.txed_packets (first_of s.tx % PACKETS) s.tx.txed_count in
+      let n = window-length PACKETS no_packet s.tx.txed_packets (first_of s.tx % PACKETS) s.tx.txed_count in
       omega (arith, sum-le k (packets s.tx) (λ i h. sound.packet-length i (omega arith)), n, sound.packet-count)
 
-  pub row_small : (j : ℕ) → j < SLOTS → (rowAt s j).live ≡ true → (rowAt s j).txed_unacked_data ≤ SENT_BYTES
+  pub row_small : (j : ℕ) → j < SLOTS → (row_at s j).live ≡ true → (row_at s j).txed_unacked_data ≤ SENT_BYTES
   row_small j h l = omega (arith, sound.link-unacked j h l, sum-small (SentOn j))

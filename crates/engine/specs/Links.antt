@@ -12,8 +12,8 @@ use Rattle.refusal.specs.declared.verdict.Verdict.{Verdict}
 use Rattle.refusal.specs.declared.verdict.Verdict.TheVariants as verdicts
 use Rattle.refusal.specs.Verdicts.{gate, gate-pass}
 use Rattle.link.specs.declared.row.MaxPing.{MaxPing}
-use Rattle.link.specs.Row.{no_row, fresh_row, confirmed, blockedRow}
-use Rattle.link.specs.Sizes.{maxPingWithin, MAX_TIME}
+use Rattle.link.specs.Row.{no_row, fresh_row, confirmed, blocked_row}
+use Rattle.link.specs.Sizes.{max_ping_within, MAX_TIME}
 use Rattle.engine.specs.declared.state.State.{State}
 use Rattle.link.specs.declared.row.LinkRow.{LinkRow}
 use Rattle.engine.specs.Decide.{soundb, sound}
@@ -24,23 +24,23 @@ use Rattle.engine.specs.declared.links.AddAnswer.TheVariants.{Slot, No}
 use Rattle.engine.specs.declared.links.Added.{Added}
 use Rattle.seq.specs.declared.Seq.{Seq}
 use Rattle.link.specs.declared.row.Limit.TheVariants.{At}
-use Rattle.link.specs.Limit.{markedRow}
+use Rattle.link.specs.Limit.{marked_row}
 use Rattle.link.specs.Roundtrip.{pinged, ponged}
 use Rattle.engine.specs.declared.answer.Changed.{Changed}
-use Rattle.engine.specs.Gates.{slotVerdict, timedVerdict}
-use Rattle.engine.specs.Answer.{changedBy}
+use Rattle.engine.specs.Gates.{slot_verdict, timed_verdict}
+use Rattle.engine.specs.Answer.{changed_by}
 use Rattle.engine.specs.Sizes.{SLOTS}
-use Rattle.engine.specs.Fields.{with_row, withTime}
+use Rattle.engine.specs.Fields.{with_row, with_time}
 
 -- ---- adding
 
 -- "the lowest empty slot", where the first of the rows has this one; past them all, where every slot has a link
-unfoldable pub lowestEmpty : List LinkRow → ℕ → ℕ
-lowestEmpty [] slot = slot
-lowestEmpty (row ∷ rows) slot = cond row.live (lowestEmpty rows (suc slot)) slot
+unfoldable pub lowest_empty : List LinkRow → ℕ → ℕ
+lowest_empty [] slot = slot
+lowest_empty (row ∷ rows) slot = cond row.live (lowest_empty rows (suc slot)) slot
 
-abbrev pub lowestIn : State → ℕ
-lowestIn s = lowestEmpty s.links 0
+abbrev pub lowest_in : State → ℕ
+lowest_in s = lowest_empty s.links 0
 
 -- "the identity belongs to a live link"
 unfoldable pub is_taken : List LinkRow → ℕ → Bool
@@ -49,47 +49,47 @@ is_taken (row ∷ rows) id = (row.live && row.link_id == id) || is_taken rows id
 
 -- "1", "3, .. adding among them" (a round trip or `max_ping` above 2^56; a link is added at no time of its own), "no empty link
 -- slot" (5), "the identity belongs to a live link" (6)
-unfoldable pub addVerdict : State → ℕ → ℕ → MaxPing → Verdict
-addVerdict s id roundtrip max =
+unfoldable pub add_verdict : State → ℕ → ℕ → MaxPing → Verdict
+add_verdict s id roundtrip max =
     gate (soundb s) 1
-    (gate (nat_le roundtrip MAX_TIME && maxPingWithin max) 3
-    (gate (nat_lt (lowestIn s) SLOTS) 5
+    (gate (nat_le roundtrip MAX_TIME && max_ping_within max) 3
+    (gate (nat_lt (lowest_in s) SLOTS) 5
     (gate (not (is_taken s.links id)) 6
     verdicts.Pass)))
 
 -- the answer is the slot
-abbrev pub addTold : AddAnswer → Told
-addTold (Slot slot) = success (slot ∷ [])
-addTold (No e) = refused e
+abbrev pub add_told : AddAnswer → Told
+add_told (Slot slot) = success (slot ∷ [])
+add_told (No e) = refused e
 
-abbrev pub addedBy : Verdict → ℕ → State → State → Added
-addedBy verdicts.Pass slot s next = record { answer = Slot slot; state = next }
-addedBy (verdicts.No e) slot s next = record { answer = No e; state = s }
+abbrev pub added_by : Verdict → ℕ → State → State → Added
+added_by verdicts.Pass slot s next = record { answer = Slot slot; state = next }
+added_by (verdicts.No e) slot s next = record { answer = No e; state = s }
 
-unfoldable pub addOf : State → ℕ → ℕ → MaxPing → Bool → Bool → Added
-unfolding addVerdict
-addOf s id roundtrip max blocked unconfirmed =
-    addedBy (addVerdict s id roundtrip max) (lowestIn s) s
-    (with_row s (lowestIn s) (fresh_row id roundtrip max blocked unconfirmed))
+unfoldable pub add_of : State → ℕ → ℕ → MaxPing → Bool → Bool → Added
+unfolding add_verdict
+add_of s id roundtrip max blocked unconfirmed =
+    added_by (add_verdict s id roundtrip max) (lowest_in s) s
+    (with_row s (lowest_in s) (fresh_row id roundtrip max blocked unconfirmed))
 
 -- ---- plain changes of a row
 
-unfoldable pub confirmOf : State → ℕ → Changed
-confirmOf s slot = changedBy (slotVerdict s slot) s (with_row s slot (confirmed (row_of s slot)))
+unfoldable pub confirm_of : State → ℕ → Changed
+confirm_of s slot = changed_by (slot_verdict s slot) s (with_row s slot (confirmed (row_of s slot)))
 
 unfoldable pub block_of : State → ℕ → Bool → Changed
-block_of s slot blocked = changedBy (slotVerdict s slot) s (with_row s slot (blockedRow (row_of s slot) blocked))
+block_of s slot blocked = changed_by (slot_verdict s slot) s (with_row s slot (blocked_row (row_of s slot) blocked))
 
 unfoldable pub mark_of : State → ℕ → Seq → Changed
-mark_of s slot seq = changedBy (slotVerdict s slot) s (with_row s slot (markedRow (row_of s slot) (At seq)))
+mark_of s slot seq = changed_by (slot_verdict s slot) s (with_row s slot (marked_row (row_of s slot) (At seq)))
 
 -- the last accepted time moves in every accepted call that is given one
-unfoldable pub pingOf : State → ℕ → ℕ → Changed
-pingOf s slot time = changedBy (timedVerdict s slot time verdicts.Pass) s (withTime (with_row s slot (pinged (row_of s slot) time)) time)
+unfoldable pub ping_of : State → ℕ → ℕ → Changed
+ping_of s slot time = changed_by (timed_verdict s slot time verdicts.Pass) s (with_time (with_row s slot (pinged (row_of s slot) time)) time)
 
 -- "With none, it is accepted and only the last accepted time moves."
-unfoldable pub pongOf : State → ℕ → ℕ → Changed
-pongOf s slot time = changedBy (timedVerdict s slot time verdicts.Pass) s (withTime (with_row s slot (ponged (row_of s slot) time)) time)
+unfoldable pub pong_of : State → ℕ → ℕ → Changed
+pong_of s slot time = changed_by (timed_verdict s slot time verdicts.Pass) s (with_time (with_row s slot (ponged (row_of s slot) time)) time)
 
 -- ---- laws
 
@@ -97,36 +97,36 @@ pongOf s slot time = changedBy (timedVerdict s slot time verdicts.Pass) s (withT
 pub record AddPassed (s : State) (id roundtrip : ℕ) (max : MaxPing) : Type 0 where
   pub fine : Sound s
   pub trip : roundtrip ≤ MAX_TIME
-  pub limit : maxPingWithin max ≡ true
-  pub small : lowestIn s < SLOTS
+  pub limit : max_ping_within max ≡ true
+  pub small : lowest_in s < SLOTS
   pub nowhere : is_taken s.links id ≡ false
 
-pub add-passed : (s : State) (id roundtrip : ℕ) (max : MaxPing) → addVerdict s id roundtrip max ≡ verdicts.Pass → AddPassed s id roundtrip max
-unfolding addVerdict
+pub add-passed : (s : State) (id roundtrip : ℕ) (max : MaxPing) → add_verdict s id roundtrip max ≡ verdicts.Pass → AddPassed s id roundtrip max
+unfolding add_verdict
 add-passed s id roundtrip max e =
     let e1 = gate-pass (soundb s) _ _ e in
-    let e3 = gate-pass (nat_le roundtrip MAX_TIME && maxPingWithin max) _ _ e1.1 in
-    let e5 = gate-pass (nat_lt (lowestIn s) SLOTS) _ _ e3.1 in
+    let e3 = gate-pass (nat_le roundtrip MAX_TIME && max_ping_within max) _ _ e1.1 in
+    let e5 = gate-pass (nat_lt (lowest_in s) SLOTS) _ _ e3.1 in
     let e6 = gate-pass (not (is_taken s.links id)) _ _ e5.1 in
-    let sizes = split (nat_le roundtrip MAX_TIME) (maxPingWithin max) e3.0 in
+    let sizes = split (nat_le roundtrip MAX_TIME) (max_ping_within max) e3.0 in
     record {
       fine = sound s e1.0;
       trip = leb-true roundtrip MAX_TIME sizes.0;
       limit = sizes.1;
-      small = ltb-true (lowestIn s) SLOTS e5.0;
+      small = ltb-true (lowest_in s) SLOTS e5.0;
       nowhere = not-true (is_taken s.links id) e6.0;
     }
 
 -- the rows from j on are row j and those after it
 module _ (rows : List LinkRow) (j : ℕ) where
-  pub lowest_step : (slot : ℕ) → j < length rows → lowestEmpty (drop j rows) slot ≡ cond (slice_index_or rows j no_row).live (lowestEmpty (drop (j + 1) rows) (slot + 1)) slot
-  unfolding lowestEmpty
+  pub lowest_step : (slot : ℕ) → j < length rows → lowest_empty (drop j rows) slot ≡ cond (slice_index_or rows j no_row).live (lowest_empty (drop (j + 1) rows) (slot + 1)) slot
+  unfolding lowest_empty
   lowest_step slot h =
-      ap (λ l. lowestEmpty l slot) (drop-cons rows j no_row h)
-      ∙ ap₂ (λ i k. cond (slice_index_or rows j no_row).live (lowestEmpty (drop i rows) k) slot) (sym (add-one j)) (sym (add-one slot))
+      ap (λ l. lowest_empty l slot) (drop-cons rows j no_row h)
+      ∙ ap₂ (λ i k. cond (slice_index_or rows j no_row).live (lowest_empty (drop i rows) k) slot) (sym (add-one j)) (sym (add-one slot))
 
-  pub lowest-none : (slot : ℕ) → length rows ≤ j → lowestEmpty (drop j rows) slot ≡ slot
-  unfolding lowestEmpty
+  pub lowest-none : (slot : ℕ) → length rows ≤ j → lowest_empty (drop j rows) slot ≡ slot
+  unfolding lowest_empty
   lowest-none slot h = rw (drop_of_length-le rows h)
 
   pub taken_step : (id : ℕ) → j < length rows
@@ -139,19 +139,19 @@ module _ (rows : List LinkRow) (j : ℕ) where
   taken_none id h = rw (drop_of_length-le rows h)
 
 -- the slot that is found is that of an empty row
-pub lowest-empty : (rows : List LinkRow) (slot : ℕ) → lowestEmpty rows slot < slot + length rows → (slice_index_or rows (lowestEmpty rows slot - slot) no_row).live ≡ false
-unfolding lowestEmpty
+pub lowest-empty : (rows : List LinkRow) (slot : ℕ) → lowest_empty rows slot < slot + length rows → (slice_index_or rows (lowest_empty rows slot - slot) no_row).live ≡ false
+unfolding lowest_empty
 lowest-empty [] slot h = absurd (omega arith)
 lowest-empty (row ∷ rows) slot h =
     cases row.live
     (λ t.
     let rest = lowest-empty rows (suc slot) (omega (arith, simp t at h)) in
-    let low : suc slot ≤ lowestEmpty rows (suc slot) = lowest-from rows (suc slot) in
-    let k : lowestEmpty rows (suc slot) - slot ≡ suc (lowestEmpty rows (suc slot) - suc slot) = omega arith in
+    let low : suc slot ≤ lowest_empty rows (suc slot) = lowest-from rows (suc slot) in
+    let k : lowest_empty rows (suc slot) - slot ≡ suc (lowest_empty rows (suc slot) - suc slot) = omega arith in
     simp (t, k) rest)
     (λ t. let z : slot - slot ≡ 0 = omega arith in simp (t, z))
   where
-    lowest-from : (rows : List LinkRow) (slot : ℕ) → slot ≤ lowestEmpty rows slot
+    lowest-from : (rows : List LinkRow) (slot : ℕ) → slot ≤ lowest_empty rows slot
     lowest-from [] slot = omega arith
     lowest-from (row ∷ rows) slot = cases row.live (λ t. simp t (omega (arith, lowest-from rows (suc slot)))) (λ t. simp t (omega arith))
 

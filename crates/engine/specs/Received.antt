@@ -15,7 +15,7 @@ use Rattle.engine.specs.declared.state.Held.TheVariants.{Nothing}
 use Rattle.engine.specs.declared.state.Receiving.{Receiving}
 use Rattle.engine.specs.CellCount.{CellCount}
 use Rattle.engine.specs.Ring.{window, window-at, window-length}
-use Rattle.engine.specs.Records.{heldBytes, held_of, held_none}
+use Rattle.engine.specs.Records.{held_bytes, held_of, held_none}
 
 -- the receiving half of a state, and the records that are lent with it
 pub record RxTable : Type 0 where
@@ -26,36 +26,36 @@ abbrev pub table_of : Receiving → List ℕ → RxTable
 table_of rx records = record { rx = rx; records = records }
 
 -- how far the next expected number is past the oldest, and how many cells are in use
-abbrev pub expectedAt : Receiving → ℕ
-expectedAt rx = past rx.rx_seq.0 rx.rx_oldest.0
+abbrev pub expected_at : Receiving → ℕ
+expected_at rx = past rx.rx_seq.0 rx.rx_oldest.0
 
-abbrev pub inUse : Receiving → ℕ
-inUse rx = past rx.rx_end.0 rx.rx_oldest.0
+abbrev pub in_use : Receiving → ℕ
+in_use rx = past rx.rx_end.0 rx.rx_oldest.0
 
 -- what the record of a number says: "A number's cell is its remainder by the cell count" ([8])
 unfoldable pub held_at : ℕ → List ℕ → ℕ → Held
 held_at N records n = held_of (slice_index records (n % N))
 
 -- the number's cell is in use
-unfoldable pub isUsed : Receiving → ℕ → Bool
-isUsed rx n = nat_lt (past n rx.rx_oldest.0) (inUse rx)
+unfoldable pub is_used : Receiving → ℕ → Bool
+is_used rx n = nat_lt (past n rx.rx_oldest.0) (in_use rx)
 
 -- what the number's cell holds: one that isn't in use holds nothing, whatever its record says
 unfoldable pub cell_of : ℕ → RxTable → ℕ → Held
-unfolding isUsed held_at
-cell_of N t n = cond (isUsed t.rx n) (held_at N t.records n) Nothing
+unfolding is_used held_at
+cell_of N t n = cond (is_used t.rx n) (held_at N t.records n) Nothing
 
 -- the records in use, from the oldest number on, and what they say
-abbrev pub recordView : ℕ → RxTable → List ℕ
-recordView N t = window N 0 t.records (t.rx.rx_oldest.0 % N) (inUse t.rx)
+abbrev pub record_view : ℕ → RxTable → List ℕ
+record_view N t = window N 0 t.records (t.rx.rx_oldest.0 % N) (in_use t.rx)
 
-abbrev pub cellView : ℕ → RxTable → List Held
-cellView N t = map held_of (recordView N t)
+abbrev pub cell_view : ℕ → RxTable → List Held
+cell_view N t = map held_of (record_view N t)
 
 -- the data bytes of a list of cells
-unfoldable pub bytesIn : List Held → ℕ
-bytesIn [] = 0
-bytesIn (h ∷ hs) = heldBytes h + bytesIn hs
+unfoldable pub bytes_in : List Held → ℕ
+bytes_in [] = 0
+bytes_in (h ∷ hs) = held_bytes h + bytes_in hs
 
 -- ---- laws
 
@@ -75,25 +75,25 @@ module _ (N : ℕ) (count : CellCount N) (t : RxTable) where
   o = t.rx.rx_oldest.0
 
   -- the record k numbers past the oldest is that number's
-  pub view-record : (k : ℕ) → k < inUse t.rx → slice_index (recordView N t) k ≡ slice_index t.records (plus o k % N)
+  pub view-record : (k : ℕ) → k < in_use t.rx → slice_index (record_view N t) k ≡ slice_index t.records (plus o k % N)
   view-record k h =
-      window-at N 0 t.records (o % N) (inUse t.rx) k (mod-lt o count.some) h
+      window-at N 0 t.records (o % N) (in_use t.rx) k (mod-lt o count.some) h
       ∙ ap (λ m. slice_index t.records m) (mod-add-mod o N k ∙ sym (cell-counted N o k count.round))
 
-  pub view-held : (k : ℕ) → k < inUse t.rx → slice_index_or (cellView N t) k Nothing ≡ held_at N t.records (plus o k)
+  pub view-held : (k : ℕ) → k < in_use t.rx → slice_index_or (cell_view N t) k Nothing ≡ held_at N t.records (plus o k)
   unfolding held_at
-  view-held k h = held-map (recordView N t) k ∙ ap held_of (view-record k h)
+  view-held k h = held-map (record_view N t) k ∙ ap held_of (view-record k h)
 
-  pub view-none : (k : ℕ) → inUse t.rx ≤ k → slice_index_or (cellView N t) k Nothing ≡ Nothing
+  pub view-none : (k : ℕ) → in_use t.rx ≤ k → slice_index_or (cell_view N t) k Nothing ≡ Nothing
   view-none k h =
-      let long = window-length N 0 t.records (o % N) (inUse t.rx) in
-      held-map (recordView N t) k ∙ ap held_of (past_end (recordView N t) k (omega (arith, long))) ∙ held_none
+      let long = window-length N 0 t.records (o % N) (in_use t.rx) in
+      held-map (record_view N t) k ∙ ap held_of (past_end (record_view N t) k (omega (arith, long))) ∙ held_none
 
   -- it is what that number's cell holds
-  pub view-cell : o < 2 ^ 32 → (k : ℕ) → k < 2 ^ 30 → slice_index_or (cellView N t) k Nothing ≡ cell_of N t (plus o k)
-  unfolding cell_of isUsed
+  pub view-cell : o < 2 ^ 32 → (k : ℕ) → k < 2 ^ 30 → slice_index_or (cell_view N t) k Nothing ≡ cell_of N t (plus o k)
+  unfolding cell_of is_used
   view-cell ho k h =
       let at : past (plus o k) o ≡ k = past-plus o k ho h in
-      cases (nat_lt k (inUse t.rx))
-      (λ b. simp (at, b) (view-held k (ltb-true k (inUse t.rx) b)))
-      (λ b. simp (at, b) (view-none k (omega (arith, ltb-false k (inUse t.rx) b))))
+      cases (nat_lt k (in_use t.rx))
+      (λ b. simp (at, b) (view-held k (ltb-true k (in_use t.rx) b)))
+      (λ b. simp (at, b) (view-none k (omega (arith, ltb-false k (in_use t.rx) b))))

@@ -6,40 +6,40 @@ use borrow.Table.Steps.{cases}
 use Rattle.refusal.specs.Tests.{false-true}
 use Rattle.msg.specs.declared.reliable.ReliableMsg.{ReliableMsg}
 use Rattle.msg.specs.declared.reliable.ReliableMsg.TheVariants.{Data, Consumed, SendFinish, ReceiveClose, ReceiveFinish}
-use Rattle.msg.specs.Reliable.{isKind, kind_of, count_of, MSG_DATA, MSG_CONSUMED, MSG_SEND_FINISH, MSG_RECEIVE_CLOSE, MSG_RECEIVE_FINISH}
+use Rattle.msg.specs.Reliable.{is_kind, kind_of, count_of, MSG_DATA, MSG_CONSUMED, MSG_SEND_FINISH, MSG_RECEIVE_CLOSE, MSG_RECEIVE_FINISH}
 use Rattle.engine.specs.Sizes.{DATA_BYTES}
 use Rattle.engine.specs.declared.state.Held.{Held}
 use Rattle.engine.specs.declared.state.Held.TheVariants.{Nothing, Message}
 
 -- ---- what a cell holds
 
-abbrev pub isFull : Held → Bool
-isFull Nothing = false
-isFull (Message msg len) = true
+abbrev pub is_full : Held → Bool
+is_full Nothing = false
+is_full (Message msg len) = true
 
 -- the data bytes
-abbrev pub heldBytes : Held → ℕ
-heldBytes Nothing = 0
-heldBytes (Message msg len) = len
+abbrev pub held_bytes : Held → ℕ
+held_bytes Nothing = 0
+held_bytes (Message msg len) = len
 
 -- "Data and SendFinish among them become ready"
-abbrev pub isReadyKind : ReliableMsg → Bool
-isReadyKind msg = isKind MSG_DATA msg || isKind MSG_SEND_FINISH msg
+abbrev pub is_ready_kind : ReliableMsg → Bool
+is_ready_kind msg = is_kind MSG_DATA msg || is_kind MSG_SEND_FINISH msg
 
 -- .. and any other leaves its cell
-abbrev pub keptOf : Held → Held
-keptOf Nothing = Nothing
-keptOf (Message msg len) = cond (isReadyKind msg) (Message msg len) Nothing
+abbrev pub kept_of : Held → Held
+kept_of Nothing = Nothing
+kept_of (Message msg len) = cond (is_ready_kind msg) (Message msg len) Nothing
 
 -- ---- its record
 
-abbrev pub recordOf : Held → ℕ
-recordOf Nothing = 0
-recordOf (Message msg len) = kind_of msg + 256 * len + 4294967296 * count_of msg
+abbrev pub record_of : Held → ℕ
+record_of Nothing = 0
+record_of (Message msg len) = kind_of msg + 256 * len + 4294967296 * count_of msg
 
 -- a kind that no cell holds says nothing
-unfoldable pub heldAs : (kind len count : ℕ) → Held
-heldAs kind len count =
+unfoldable pub held_as : (kind len count : ℕ) → Held
+held_as kind len count =
     cond (kind == MSG_DATA) (Message Data len)
     (cond (kind == MSG_CONSUMED) (Message (Consumed count) len)
     (cond (kind == MSG_SEND_FINISH) (Message SendFinish len)
@@ -48,13 +48,13 @@ heldAs kind len count =
     Nothing))))
 
 unfoldable pub held_of : ℕ → Held
-unfolding heldAs
-held_of word = heldAs (word % 256) (word / 256 % 16777216) (word / 4294967296)
+unfolding held_as
+held_of word = held_as (word % 256) (word / 256 % 16777216) (word / 4294967296)
 
 -- a word that is the record of what it says: no other kind, and a count with a Consumed alone
-unfoldable pub isRecord : ℕ → Bool
+unfoldable pub is_record : ℕ → Bool
 unfolding held_of
-isRecord word = recordOf (held_of word) == word
+is_record word = record_of (held_of word) == word
 
 -- the word of a Data of at most DATA_BYTES bytes, by its parts
 pub record DataRecord (word : ℕ) : Type 0 where
@@ -62,9 +62,9 @@ pub record DataRecord (word : ℕ) : Type 0 where
   pub long : word ≤ 7 + 256 * DATA_BYTES
 
 -- the record that a passed message leaves
-unfoldable pub keptRecord : ℕ → ℕ
+unfoldable pub kept_record : ℕ → ℕ
 unfolding held_of
-keptRecord word = cond (isFull (keptOf (held_of word))) word 0
+kept_record word = cond (is_full (kept_of (held_of word))) word 0
 
 -- ---- laws
 
@@ -74,12 +74,12 @@ RecordFits Nothing = Unit
 RecordFits (Message msg len) = len < 2 ^ 24
 
 pub held_none : held_of 0 ≡ Nothing
-unfolding held_of heldAs
+unfolding held_of held_as
 held_none = refl
 
 -- what is written is read
-held-as : (msg : ReliableMsg) (len : ℕ) → heldAs (kind_of msg) len (count_of msg) ≡ Message msg len
-unfolding heldAs
+held-as : (msg : ReliableMsg) (len : ℕ) → held_as (kind_of msg) len (count_of msg) ≡ Message msg len
+unfolding held_as
 held-as Data len = refl
 held-as (Consumed n) len = refl
 held-as SendFinish len = refl
@@ -101,34 +101,34 @@ parts k len n small short =
     let middle : (len + 16777216 * n) % 16777216 ≡ len = omega arith in
     (omega arith, ap (λ x. x % 16777216) above ∙ middle, omega arith)
 
-pub held-record : (msg : ReliableMsg) (len : ℕ) → len < 2 ^ 24 → held_of (recordOf (Message msg len)) ≡ Message msg len
+pub held-record : (msg : ReliableMsg) (len : ℕ) → len < 2 ^ 24 → held_of (record_of (Message msg len)) ≡ Message msg len
 unfolding held_of
 held-record msg len short =
     let p = parts (kind_of msg) len (count_of msg) (kind-lt msg) short in
     simp (p.0, p.1, p.2) (held-as msg len)
 
-pub record_is : (msg : ReliableMsg) (len : ℕ) → len < 2 ^ 24 → isRecord (recordOf (Message msg len)) ≡ true
-unfolding isRecord
-record_is msg len short = eq-eqb _ _ (ap recordOf (held-record msg len short))
+pub record_is : (msg : ReliableMsg) (len : ℕ) → len < 2 ^ 24 → is_record (record_of (Message msg len)) ≡ true
+unfolding is_record
+record_is msg len short = eq-eqb _ _ (ap record_of (held-record msg len short))
 
-none : (h : Held) → isFull h ≡ false → h ≡ Nothing
+none : (h : Held) → is_full h ≡ false → h ≡ Nothing
 none Nothing e = refl
 none (Message msg len) e = false-true (sym e)
 
-kept_same : (h : Held) → isFull (keptOf h) ≡ true → keptOf h ≡ h
+kept_same : (h : Held) → is_full (kept_of h) ≡ true → kept_of h ≡ h
 kept_same Nothing e = false-true e
-kept_same (Message msg len) e = cases (isReadyKind msg) (λ t. simp t) (λ t. false-true (simp t at e))
+kept_same (Message msg len) e = cases (is_ready_kind msg) (λ t. simp t) (λ t. false-true (simp t at e))
 
-pub held_kept : (word : ℕ) → held_of (keptRecord word) ≡ keptOf (held_of word)
-unfolding keptRecord
+pub held_kept : (word : ℕ) → held_of (kept_record word) ≡ kept_of (held_of word)
+unfolding kept_record
 held_kept word =
-    cases (isFull (keptOf (held_of word)))
+    cases (is_full (kept_of (held_of word)))
     (λ t. simp t (sym (kept_same (held_of word) t)))
-    (λ t. simp t (held_none ∙ sym (none (keptOf (held_of word)) t)))
+    (λ t. simp t (held_none ∙ sym (none (kept_of (held_of word)) t)))
 
 -- what a word says fits a record
 pub held_fits : (word : ℕ) → RecordFits (held_of word)
-unfolding held_of heldAs
+unfolding held_of held_as
 held_fits word =
     let k = word % 256 in
     let short : word / 256 % 16777216 < 2 ^ 24 = omega arith in
@@ -139,8 +139,8 @@ held_fits word =
     (λ w. cases (k == MSG_RECEIVE_FINISH) (λ x. simp (t, u, v, w, x) short) (λ x. simp (t, u, v, w, x) tt)))))
 
 -- the length of a message's word
-as_long : (kind len count : ℕ) → isFull (heldAs kind len count) ≡ true → heldBytes (heldAs kind len count) ≡ len
-unfolding heldAs
+as_long : (kind len count : ℕ) → is_full (held_as kind len count) ≡ true → held_bytes (held_as kind len count) ≡ len
+unfolding held_as
 as_long kind len count e =
     cases (kind == MSG_DATA) (λ t. simp t)
     (λ t. cases (kind == MSG_CONSUMED) (λ u. simp (t, u))
@@ -149,16 +149,16 @@ as_long kind len count e =
     (λ w. cases (kind == MSG_RECEIVE_FINISH) (λ x. simp (t, u, v, w, x))
     (λ x. false-true (simp (t, u, v, w, x) at e))))))
 
-pub full-long : (word : ℕ) → isFull (held_of word) ≡ true → heldBytes (held_of word) ≡ word / 256 % 16777216
+pub full-long : (word : ℕ) → is_full (held_of word) ≡ true → held_bytes (held_of word) ≡ word / 256 % 16777216
 unfolding held_of
 full-long word e = as_long (word % 256) (word / 256 % 16777216) (word / 4294967296) e
 
 -- .. and of any record: an empty one's is 0
-pub record-long : (word : ℕ) → isRecord word ≡ true → heldBytes (held_of word) ≡ word / 256 % 16777216
-unfolding isRecord
+pub record-long : (word : ℕ) → is_record word ≡ true → held_bytes (held_of word) ≡ word / 256 % 16777216
+unfolding is_record
 record-long word e =
-    cases (isFull (held_of word)) (λ t. full-long word t)
+    cases (is_full (held_of word)) (λ t. full-long word t)
     (λ t.
     let empty : held_of word ≡ Nothing = none (held_of word) t in
-    let zero : 0 ≡ word = sym (ap recordOf empty) ∙ eqb-true (recordOf (held_of word)) word e in
-    ap heldBytes empty ∙ omega arith)
+    let zero : 0 ≡ word = sym (ap record_of empty) ∙ eqb-true (record_of (held_of word)) word e in
+    ap held_bytes empty ∙ omega arith)

@@ -11,20 +11,20 @@ use Rattle.std.proofs.Math.ListN.{length-set}
 use Rattle.std.proofs.Math.Seq.{get_or-set_same, get_or-set_other}
 
 -- the cell after another, going round
-unfoldable pub nextCell : ℕ → ℕ → ℕ
-nextCell N at = cond (nat_lt (at + 1) N) (at + 1) 0
+unfoldable pub next_cell : ℕ → ℕ → ℕ
+next_cell N at = cond (nat_lt (at + 1) N) (at + 1) 0
 
 -- the contents of n of N cells from the cell `at` on, going round (d is what an index past the table would read)
 unfoldable pub window : {A : Type 0} → ℕ → A → List A → ℕ → ℕ → List A
-unfolding nextCell
+unfolding next_cell
 window N d cells at zero = []
-window N d cells at (suc n) = slice_index_or cells at d ∷ window N d cells (nextCell N at) n
+window N d cells at (suc n) = slice_index_or cells at d ∷ window N d cells (next_cell N at) n
 
 -- the cells from `at` on, going round, with the elements of a list in them; every other cell as it was
 unfoldable pub refilled : {A : Type 0} → ℕ → List A → ℕ → List A → List A
-unfolding nextCell
+unfolding next_cell
 refilled N cells at [] = cells
-refilled N cells at (x ∷ xs) = refilled N (slice_set cells at x) (nextCell N at) xs
+refilled N cells at (x ∷ xs) = refilled N (slice_set cells at x) (next_cell N at) xs
 
 -- ---- laws: going round
 
@@ -51,12 +51,12 @@ module _ (N : ℕ) where
       let some : 0 < N = omega arith in
       folded-apart N (o % N) j k (mod-lt o some) hj hk (mod-add-mod o N j ∙ e ∙ sym (mod-add-mod o N k))
 
-  pub next-cell-lt : (at : ℕ) → 0 < N → nextCell N at < N
-  unfolding nextCell
+  pub next-cell-lt : (at : ℕ) → 0 < N → next_cell N at < N
+  unfolding next_cell
   next-cell-lt at h = cases (nat_lt (at + 1) N) (λ t. simp t (ltb-true (at + 1) N t)) (λ t. simp t h)
 
-  pub next-mod : (at : ℕ) → at < N → nextCell N at ≡ (at + 1) % N
-  unfolding nextCell
+  pub next-mod : (at : ℕ) → at < N → next_cell N at ≡ (at + 1) % N
+  unfolding next_cell
   next-mod at h =
       cases (nat_lt (at + 1) N) (λ t. simp t (sym (mod-eq_of_lt (ltb-true (at + 1) N t))))
       (λ t.
@@ -64,7 +64,7 @@ module _ (N : ℕ) where
       simp t (sym (ap (λ m. m % N) e ∙ mod_self N)))
 
   -- k cells past the next is k + 1 past this
-  pub past_next : (at k : ℕ) → at < N → (nextCell N at + k) % N ≡ (at + suc k) % N
+  pub past_next : (at k : ℕ) → at < N → (next_cell N at + k) % N ≡ (at + suc k) % N
   past_next at k h =
       let e : at + 1 + k ≡ at + suc k = omega arith in
       ap (λ m. (m + k) % N) (next-mod at h) ∙ mod-add-mod (at + 1) N k ∙ ap (λ m. m % N) e
@@ -82,7 +82,7 @@ module _ (N : ℕ) where
       omega arith
 
   -- the last cell is the one before this, where the next is the first
-  pub last-cell : (at : ℕ) → at < N → (nextCell N at + (N - 1)) % N ≡ at
+  pub last-cell : (at : ℕ) → at < N → (next_cell N at + (N - 1)) % N ≡ at
   last-cell at h =
       let e : at + suc (N - 1) ≡ at + N = omega arith in
       past_next at (N - 1) h ∙ ap (λ m. m % N) e ∙ add-mod_right at N ∙ mod-eq_of_lt h
@@ -91,12 +91,12 @@ module _ (N : ℕ) where
 
 module _ {A : Type 0} (N : ℕ) (d : A) (cells : List A) where
   -- one cell more: what a loop over the window takes in a turn
-  pub window-step : (at n : ℕ) → 0 < n → window N d cells at n ≡ slice_index_or cells at d ∷ window N d cells (nextCell N at) (n - 1)
+  pub window-step : (at n : ℕ) → 0 < n → window N d cells at n ≡ slice_index_or cells at d ∷ window N d cells (next_cell N at) (n - 1)
   unfolding window
   window-step at zero h = absurd (not-suc-le-zero h)
   window-step at (suc n) h =
       let e : n ≡ suc n - 1 = omega arith in
-      ap (λ m. slice_index_or cells at d ∷ window N d cells (nextCell N at) m) e
+      ap (λ m. slice_index_or cells at d ∷ window N d cells (next_cell N at) m) e
 
   pub window-none : (at n : ℕ) → n ≤ 0 → window N d cells at n ≡ []
   unfolding window
@@ -106,14 +106,14 @@ module _ {A : Type 0} (N : ℕ) (d : A) (cells : List A) where
   pub window-length : (at n : ℕ) → length (window N d cells at n) ≡ n
   unfolding window
   window-length at zero = refl
-  window-length at (suc n) = ap suc (window-length (nextCell N at) n)
+  window-length at (suc n) = ap suc (window-length (next_cell N at) n)
 
   -- the place i of the window is the cell i past its start
   pub window-at : (at n i : ℕ) → at < N → i < n → slice_index_or (window N d cells at n) i d ≡ slice_index_or cells ((at + i) % N) d
   unfolding window
   window-at at zero i h g = absurd (omega arith)
   window-at at (suc n) zero h g = ap (λ k. get_or cells k d) (sym (here N at h))
-  window-at at (suc n) (suc i) h g = window-at (nextCell N at) n i (next-cell-lt N at (omega arith)) (omega arith) ∙ ap (λ k. get_or cells k d) (past_next N at i h)
+  window-at at (suc n) (suc i) h g = window-at (next_cell N at) n i (next-cell-lt N at (omega arith)) (omega arith) ∙ ap (λ k. get_or cells k d) (past_next N at i h)
 
   -- a cell outside the window is changed
   pub window-set-out : (at n m : ℕ) (x : A) → at < N → n ≤ m → m < N → window N d (slice_set cells ((at + m) % N) x) at n ≡ window N d cells at n
@@ -122,9 +122,9 @@ module _ {A : Type 0} (N : ℕ) (d : A) (cells : List A) where
   window-set-out at (suc n) zero x h g l = absurd (omega arith)
   window-set-out at (suc n) (suc m) x h g l =
       let head : get_or (slice_set cells ((at + suc m) % N) x) at d ≡ get_or cells at d = get_or-set_other cells ((at + suc m) % N) at x d (elsewhere N at m h l) in
-      let tail : window N d (slice_set cells ((at + suc m) % N) x) (nextCell N at) n ≡ window N d cells (nextCell N at) n =
-      ap (λ k. window N d (slice_set cells k x) (nextCell N at) n) (sym (past_next N at m h))
-      ∙ window-set-out (nextCell N at) n m x (next-cell-lt N at (omega arith)) (omega arith) (omega arith) in
+      let tail : window N d (slice_set cells ((at + suc m) % N) x) (next_cell N at) n ≡ window N d cells (next_cell N at) n =
+      ap (λ k. window N d (slice_set cells k x) (next_cell N at) n) (sym (past_next N at m h))
+      ∙ window-set-out (next_cell N at) n m x (next-cell-lt N at (omega arith)) (omega arith) (omega arith) in
       simp (head, tail)
 
   -- a cell inside it is changed
@@ -134,15 +134,15 @@ module _ {A : Type 0} (N : ℕ) (d : A) (cells : List A) where
   window-set-in at zero m x h c g l = absurd (omega arith)
   window-set-in at (suc n) zero x h c g l =
       let head : get_or (slice_set cells at x) at d ≡ x = get_or-set_same cells at x d (omega arith) in
-      let tail : window N d (slice_set cells at x) (nextCell N at) n ≡ window N d cells (nextCell N at) n =
-      ap (λ k. window N d (slice_set cells k x) (nextCell N at) n) (sym (last-cell N at h))
-      ∙ window-set-out (nextCell N at) n (N - 1) x (next-cell-lt N at (omega arith)) (omega arith) (omega arith) in
+      let tail : window N d (slice_set cells at x) (next_cell N at) n ≡ window N d cells (next_cell N at) n =
+      ap (λ k. window N d (slice_set cells k x) (next_cell N at) n) (sym (last-cell N at h))
+      ∙ window-set-out (next_cell N at) n (N - 1) x (next-cell-lt N at (omega arith)) (omega arith) (omega arith) in
       simp (here N at h, head, tail)
   window-set-in at (suc n) (suc m) x h c g l =
       let head : get_or (slice_set cells ((at + suc m) % N) x) at d ≡ get_or cells at d = get_or-set_other cells ((at + suc m) % N) at x d (elsewhere N at m h (omega arith)) in
-      let tail : window N d (slice_set cells ((at + suc m) % N) x) (nextCell N at) n ≡ set (window N d cells (nextCell N at) n) m x =
-      ap (λ k. window N d (slice_set cells k x) (nextCell N at) n) (sym (past_next N at m h))
-      ∙ window-set-in (nextCell N at) n m x (next-cell-lt N at (omega arith)) c (omega arith) (omega arith) in
+      let tail : window N d (slice_set cells ((at + suc m) % N) x) (next_cell N at) n ≡ set (window N d cells (next_cell N at) n) m x =
+      ap (λ k. window N d (slice_set cells k x) (next_cell N at) n) (sym (past_next N at m h))
+      ∙ window-set-in (next_cell N at) n m x (next-cell-lt N at (omega arith)) c (omega arith) (omega arith) in
       simp (head, tail)
 
   -- one cell more at the end
@@ -152,10 +152,10 @@ module _ {A : Type 0} (N : ℕ) (d : A) (cells : List A) where
   window-snoc at zero x h c l = simp (here N at h, get_or-set_same cells at x d (omega arith))
   window-snoc at (suc n) x h c l =
       let head : get_or (slice_set cells ((at + suc n) % N) x) at d ≡ get_or cells at d = get_or-set_other cells ((at + suc n) % N) at x d (elsewhere N at n h l) in
-      let tail : window N d (slice_set cells ((at + suc n) % N) x) (nextCell N at) (suc n) ≡ window N d cells (nextCell N at) n ++ (x ∷ []) =
-      ap (λ k. window N d (slice_set cells k x) (nextCell N at) (suc n)) (sym (past_next N at n h))
-      ∙ window-snoc (nextCell N at) n x (next-cell-lt N at (omega arith)) c (omega arith) in
-      ap (λ (y : A). y ∷ window N d (slice_set cells ((at + suc n) % N) x) (nextCell N at) (suc n)) head
+      let tail : window N d (slice_set cells ((at + suc n) % N) x) (next_cell N at) (suc n) ≡ window N d cells (next_cell N at) n ++ (x ∷ []) =
+      ap (λ k. window N d (slice_set cells k x) (next_cell N at) (suc n)) (sym (past_next N at n h))
+      ∙ window-snoc (next_cell N at) n x (next-cell-lt N at (omega arith)) c (omega arith) in
+      ap (λ (y : A). y ∷ window N d (slice_set cells ((at + suc n) % N) x) (next_cell N at) (suc n)) head
       ∙ ap (λ (l : List A). slice_index_or cells at d ∷ l) tail
 
   -- the first k are dropped
@@ -167,7 +167,7 @@ module _ {A : Type 0} (N : ℕ) (d : A) (cells : List A) where
   window-drop at zero (suc k) h g = absurd (omega arith)
   window-drop at (suc n) (suc k) h g =
       let f : n - k ≡ suc n - suc k = omega arith in
-      window-drop (nextCell N at) n k (next-cell-lt N at (omega arith)) (omega arith)
+      window-drop (next_cell N at) n k (next-cell-lt N at (omega arith)) (omega arith)
       ∙ ap (λ a. window N d cells a (n - k)) (past_next N at k h)
       ∙ ap (window N d cells ((at + suc k) % N)) f
 
@@ -177,16 +177,16 @@ module _ {A : Type 0} (N : ℕ) (d : A) where
   pub refill-length : (cells : List A) (at : ℕ) (xs : List A) → length (refilled N cells at xs) ≡ length cells
   unfolding refilled
   refill-length cells at [] = refl
-  refill-length cells at (x ∷ xs) = refill-length (slice_set cells at x) (nextCell N at) xs ∙ length-set cells at x
+  refill-length cells at (x ∷ xs) = refill-length (slice_set cells at x) (next_cell N at) xs ∙ length-set cells at x
 
   -- so many cells with one content, one cell less: what a loop over them does in a turn
   pub refill-step : (cells : List A) (at n : ℕ) (x : A) → 0 < n
-      → refilled N cells at (replicate n x) ≡ refilled N (slice_set cells at x) (nextCell N at) (replicate (n - 1) x)
+      → refilled N cells at (replicate n x) ≡ refilled N (slice_set cells at x) (next_cell N at) (replicate (n - 1) x)
   unfolding refilled
   refill-step cells at zero x h = absurd (not-suc-le-zero h)
   refill-step cells at (suc n) x h =
       let e : n ≡ suc n - 1 = omega arith in
-      ap (λ m. refilled N (slice_set cells at x) (nextCell N at) (replicate m x)) e
+      ap (λ m. refilled N (slice_set cells at x) (next_cell N at) (replicate m x)) e
 
   pub refill-none : (cells : List A) (at n : ℕ) (x : A) → n ≤ 0 → refilled N cells at (replicate n x) ≡ cells
   unfolding refilled
@@ -200,8 +200,8 @@ module _ {A : Type 0} (N : ℕ) (d : A) where
   refill-out cells at m [] h g l = refl
   refill-out cells at zero (x ∷ xs) h g l = absurd (omega arith)
   refill-out cells at (suc m) (x ∷ xs) h g l =
-      ap (λ k. get_or (refilled N (slice_set cells at x) (nextCell N at) xs) k d) (sym (past_next N at m h))
-      ∙ refill-out (slice_set cells at x) (nextCell N at) m xs (next-cell-lt N at (omega arith)) (omega arith) (omega arith)
+      ap (λ k. get_or (refilled N (slice_set cells at x) (next_cell N at) xs) k d) (sym (past_next N at m h))
+      ∙ refill-out (slice_set cells at x) (next_cell N at) m xs (next-cell-lt N at (omega arith)) (omega arith) (omega arith)
       ∙ ap (λ k. get_or (slice_set cells at x) k d) (past_next N at m h)
       ∙ get_or-set_other cells at ((at + suc m) % N) x d (λ e. elsewhere N at m h l (sym e))
 
@@ -211,29 +211,29 @@ module _ {A : Type 0} (N : ℕ) (d : A) where
   unfolding refilled window
   refill-window cells at [] h c l = refl
   refill-window cells at (x ∷ xs) h c l =
-      let after = refilled N (slice_set cells at x) (nextCell N at) xs in
+      let after = refilled N (slice_set cells at x) (next_cell N at) xs in
       let head : get_or after at d ≡ x =
       ap (λ k. get_or after k d) (sym (last-cell N at h))
-      ∙ refill-out (slice_set cells at x) (nextCell N at) (N - 1) xs (next-cell-lt N at (omega arith)) (omega arith) (omega arith)
+      ∙ refill-out (slice_set cells at x) (next_cell N at) (N - 1) xs (next-cell-lt N at (omega arith)) (omega arith) (omega arith)
       ∙ ap (λ k. get_or (slice_set cells at x) k d) (last-cell N at h)
       ∙ get_or-set_same cells at x d (omega arith) in
-      let tail : window N d after (nextCell N at) (length xs) ≡ xs =
-      refill-window (slice_set cells at x) (nextCell N at) xs (next-cell-lt N at (omega arith)) (length-set cells at x ∙ c) (omega arith) in
+      let tail : window N d after (next_cell N at) (length xs) ≡ xs =
+      refill-window (slice_set cells at x) (next_cell N at) xs (next-cell-lt N at (omega arith)) (length-set cells at x ∙ c) (omega arith) in
       simp (head, tail)
 
 -- each of n cells from `at` on is changed in its place: what a loop over them does in a turn
 module _ {A : Type 0} (N : ℕ) (d : A) (f : A → A) where
   pub change-step : (cells : List A) (at n : ℕ) → at < N → 0 < n → n ≤ N
       → refilled N cells at (map f (window N d cells at n))
-      ≡ refilled N (slice_set cells at (f (slice_index_or cells at d))) (nextCell N at) (map f (window N d (slice_set cells at (f (slice_index_or cells at d))) (nextCell N at) (n - 1)))
+      ≡ refilled N (slice_set cells at (f (slice_index_or cells at d))) (next_cell N at) (map f (window N d (slice_set cells at (f (slice_index_or cells at d))) (next_cell N at) (n - 1)))
   unfolding refilled
   change-step cells at n h g l =
       let new = set cells at (f (slice_index_or cells at d)) in
-      let rest : window N d cells (nextCell N at) (n - 1) ≡ window N d new (nextCell N at) (n - 1) =
-      sym (ap (λ k. window N d (slice_set cells k (f (slice_index_or cells at d))) (nextCell N at) (n - 1)) (sym (last-cell N at h))
-      ∙ window-set-out N d cells (nextCell N at) (n - 1) (N - 1) (f (slice_index_or cells at d)) (next-cell-lt N at (omega arith)) (omega arith) (omega arith)) in
+      let rest : window N d cells (next_cell N at) (n - 1) ≡ window N d new (next_cell N at) (n - 1) =
+      sym (ap (λ k. window N d (slice_set cells k (f (slice_index_or cells at d))) (next_cell N at) (n - 1)) (sym (last-cell N at h))
+      ∙ window-set-out N d cells (next_cell N at) (n - 1) (N - 1) (f (slice_index_or cells at d)) (next-cell-lt N at (omega arith)) (omega arith) (omega arith)) in
       ap (λ ps. refilled N cells at (map f ps)) (window-step N d cells at n g)
-      ∙ ap (λ ps. refilled N new (nextCell N at) (map f ps)) rest
+      ∙ ap (λ ps. refilled N new (next_cell N at) (map f ps)) rest
 
   pub change-none : (cells : List A) (at n : ℕ) → n ≤ 0 → refilled N cells at (map f (window N d cells at n)) ≡ cells
   unfolding refilled

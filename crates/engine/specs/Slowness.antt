@@ -5,12 +5,12 @@ use Rattle.std.specs.Prelude.{◌≡◌, ℕ, suc, ◌+◌, ◌-◌, ◌<◌, �
 use Rattle.std.proofs.Common.{sym, ap, ap₂, ◌∙◌, append_assoc, append-nil, add-one, arith, length-append, length-take, drop_of_length-le, take-suc, take_all, drop-cons}
 use Rattle.std.proofs.Math.Seq.{set-append_seam, take-append_seam}
 use Rattle.link.specs.declared.row.LinkRow.{LinkRow}
-use Rattle.link.specs.Slow.{confirmedLink, aboveMaxPing, slowRow}
+use Rattle.link.specs.Slow.{confirmed_link, above_max_ping, slow_row}
 use Rattle.link.specs.Row.{no_row}
 use Rattle.engine.specs.declared.slowness.SlowLinks.{SlowLinks}
 use borrow.Table.Steps.{cases}
 use Rattle.refusal.specs.Refusals.{refuse}
-use Rattle.refusal.specs.Answers.{Told, success, refused, toldBy}
+use Rattle.refusal.specs.Answers.{Told, success, refused, told_by}
 use Rattle.refusal.specs.Verdicts.{gate}
 use Rattle.refusal.specs.declared.verdict.Verdict.{Verdict}
 use Rattle.refusal.specs.declared.verdict.Verdict.TheVariants.{Pass}
@@ -19,99 +19,99 @@ use Rattle.engine.specs.declared.slowness.SlowAnswer.TheVariants.{Listed, No}
 use Rattle.engine.specs.Sizes.{SLOTS}
 
 -- "live and confirmed with round trip above `max_ping`"
-abbrev pub overLink : LinkRow → Bool
-overLink row = confirmedLink row && aboveMaxPing row
+abbrev pub over_link : LinkRow → Bool
+over_link row = confirmed_link row && above_max_ping row
 
 -- "every confirmed link is slow"
-abbrev pub slowIfConfirmed : LinkRow → Bool
-slowIfConfirmed row = cond (confirmedLink row) (slowRow row) true
+abbrev pub slow_if_confirmed : LinkRow → Bool
+slow_if_confirmed row = cond (confirmed_link row) (slow_row row) true
 
-unfoldable pub allSlow : List LinkRow → Bool
-allSlow [] = true
-allSlow (row ∷ rows) = slowIfConfirmed row && allSlow rows
+unfoldable pub all_slow : List LinkRow → Bool
+all_slow [] = true
+all_slow (row ∷ rows) = slow_if_confirmed row && all_slow rows
 
 -- the slots "listed, lowest slot first", where the first row has this slot
-unfoldable pub overSlots : ℕ → List LinkRow → List ℕ
-overSlots slot [] = []
-overSlots slot (row ∷ rows) = cond (overLink row) (slot ∷ overSlots (suc slot) rows) (overSlots (suc slot) rows)
+unfoldable pub over_slots : ℕ → List LinkRow → List ℕ
+over_slots slot [] = []
+over_slots slot (row ∷ rows) = cond (over_link row) (slot ∷ over_slots (suc slot) rows) (over_slots (suc slot) rows)
 
 -- "are listed, .. unless every confirmed link is slow"
-unfoldable pub slowSlots : List LinkRow → List ℕ
-unfolding allSlow overSlots
-slowSlots rows = cond (allSlow rows) [] (overSlots 0 rows)
+unfoldable pub slow_slots : List LinkRow → List ℕ
+unfolding all_slow over_slots
+slow_slots rows = cond (all_slow rows) [] (over_slots 0 rows)
 
 abbrev found : List ℕ → ℕ → SlowLinks
 found slots count = record { slots = slots; count = count }
 
 -- slots as an answer has them: in eight places, with 0 past them
-abbrev pub listedIn : List ℕ → SlowLinks
-listedIn slots = found (slots ++ replicate (SLOTS - length slots) 0) (length slots)
+abbrev pub listed_in : List ℕ → SlowLinks
+listed_in slots = found (slots ++ replicate (SLOTS - length slots) 0) (length slots)
 
-unfoldable pub slowOf : List LinkRow → SlowLinks
-unfolding slowSlots
-slowOf rows = listedIn (slowSlots rows)
+unfoldable pub slow_of : List LinkRow → SlowLinks
+unfolding slow_slots
+slow_of rows = listed_in (slow_slots rows)
 
 -- one slot more, where its link is over
-unfoldable pub noteIn : SlowLinks → ℕ → LinkRow → SlowLinks
-noteIn old slot row = cond (overLink row) (found (slice_set old.slots old.count slot) (old.count + 1)) old
+unfoldable pub note_in : SlowLinks → ℕ → LinkRow → SlowLinks
+note_in old slot row = cond (over_link row) (found (slice_set old.slots old.count slot) (old.count + 1)) old
 
 -- "another length gives 4, the only refusal here"
-abbrev pub slowVerdict : List LinkRow → Verdict
-slowVerdict rows = gate (length rows == SLOTS) 4 Pass
+abbrev pub slow_verdict : List LinkRow → Verdict
+slow_verdict rows = gate (length rows == SLOTS) 4 Pass
 
 -- the slots listed
-abbrev pub slowTold : SlowAnswer → Told
-slowTold (Listed found) = success (take found.count found.slots)
-slowTold (No e) = refused e
+abbrev pub slow_told : SlowAnswer → Told
+slow_told (Listed found) = success (take found.count found.slots)
+slow_told (No e) = refused e
 
-unfoldable pub slowLinksOf : List LinkRow → SlowAnswer
-unfolding slowOf
-slowLinksOf rows = cond (length rows == SLOTS) (Listed (slowOf rows)) (No (refuse 4 tt))
+unfoldable pub slow_links_of : List LinkRow → SlowAnswer
+unfolding slow_of
+slow_links_of rows = cond (length rows == SLOTS) (Listed (slow_of rows)) (No (refuse 4 tt))
 
 -- ---- laws
 
-pub slow-told : (rows : List LinkRow) → slowTold (slowLinksOf rows) ≡ toldBy (slowVerdict rows) (slowSlots rows)
-unfolding slowLinksOf slowOf
+pub slow-told : (rows : List LinkRow) → slow_told (slow_links_of rows) ≡ told_by (slow_verdict rows) (slow_slots rows)
+unfolding slow_links_of slow_of
 slow-told rows =
     cases (length rows == SLOTS)
-    (λ t. simp t (ap success (take-append_seam (slowSlots rows) (replicate (SLOTS - length (slowSlots rows)) 0))))
+    (λ t. simp t (ap success (take-append_seam (slow_slots rows) (replicate (SLOTS - length (slow_slots rows)) 0))))
     (λ t. simp t)
 
 -- the rows from i on are row i and those after it
 pub all-slow-step : (rows : List LinkRow) (i : ℕ) → i < length rows
-    → allSlow (drop i rows) ≡ (slowIfConfirmed (slice_index_or rows i no_row) && allSlow (drop (i + 1) rows))
-unfolding allSlow
+    → all_slow (drop i rows) ≡ (slow_if_confirmed (slice_index_or rows i no_row) && all_slow (drop (i + 1) rows))
+unfolding all_slow
 all-slow-step rows i h = rw (add-one, drop-cons rows i no_row)
 
-pub all-slow-end : (rows : List LinkRow) (i : ℕ) → length rows ≤ i → allSlow (drop i rows) ≡ true
-unfolding allSlow
+pub all-slow-end : (rows : List LinkRow) (i : ℕ) → length rows ≤ i → all_slow (drop i rows) ≡ true
+unfolding all_slow
 all-slow-end rows i h = rw (drop_of_length-le rows h)
 
-over-length : (slot : ℕ) (rows : List LinkRow) → length (overSlots slot rows) ≤ length rows
-unfolding overSlots
+over-length : (slot : ℕ) (rows : List LinkRow) → length (over_slots slot rows) ≤ length rows
+unfolding over_slots
 over-length slot [] = omega arith
 over-length slot (row ∷ rows) =
     let rest = over-length (suc slot) rows in
-    cases (overLink row) (λ t. simp t (omega arith)) (λ f. simp f (omega arith))
+    cases (over_link row) (λ t. simp t (omega arith)) (λ f. simp f (omega arith))
 
 -- one row more, behind the others
 over-snoc : (slot : ℕ) (rows : List LinkRow) (row : LinkRow)
-    → overSlots slot (rows ++ (row ∷ [])) ≡ overSlots slot rows ++ cond (overLink row) ((slot + length rows) ∷ []) []
-unfolding overSlots
-over-snoc slot [] row = ap (λ n. cond (overLink row) (n ∷ []) []) (let e : slot ≡ slot + 0 = omega arith in e)
+    → over_slots slot (rows ++ (row ∷ [])) ≡ over_slots slot rows ++ cond (over_link row) ((slot + length rows) ∷ []) []
+unfolding over_slots
+over-snoc slot [] row = ap (λ n. cond (over_link row) (n ∷ []) []) (let e : slot ≡ slot + 0 = omega arith in e)
 over-snoc slot (r ∷ rows) row =
     let e : suc slot + length rows ≡ slot + suc (length rows) = omega arith in
-    let rest = over-snoc (suc slot) rows row ∙ ap (λ n. overSlots (suc slot) rows ++ cond (overLink row) (n ∷ []) []) e in
-    cases (overLink r) (λ t. simp t (ap (λ (l : List ℕ). slot ∷ l) rest)) (λ f. simp f rest)
+    let rest = over-snoc (suc slot) rows row ∙ ap (λ n. over_slots (suc slot) rows ++ cond (over_link row) (n ∷ []) []) e in
+    cases (over_link r) (λ t. simp t (ap (λ (l : List ℕ). slot ∷ l) rest)) (λ f. simp f rest)
 
 -- a slot noted behind others
-note-over : (slots : List ℕ) (slot : ℕ) (row : LinkRow) → length slots < SLOTS → noteIn (listedIn slots) slot row ≡ listedIn (slots ++ cond (overLink row) (slot ∷ []) [])
-unfolding noteIn
+note-over : (slots : List ℕ) (slot : ℕ) (row : LinkRow) → length slots < SLOTS → note_in (listed_in slots) slot row ≡ listed_in (slots ++ cond (over_link row) (slot ∷ []) [])
+unfolding note_in
 note-over slots slot row h =
     let more : length (slots ++ (slot ∷ [])) ≡ length slots + 1 = length-append slots (slot ∷ []) in
     let left = SLOTS - (length slots + 1) in
     let one_less : SLOTS - length slots ≡ suc left = omega arith in
-    cases (overLink row)
+    cases (over_link row)
     (λ t.
     simp t
     (ap₂ (λ (s : List ℕ) (n : ℕ). found s n)
@@ -120,26 +120,26 @@ note-over slots slot row h =
     ∙ sym (append_assoc slots (slot ∷ []) (replicate left 0))
     ∙ ap (λ k. (slots ++ (slot ∷ [])) ++ replicate (SLOTS - k) 0) (sym more))
     (sym more)))
-    (λ f. simp f (ap listedIn (sym (append-nil slots))))
+    (λ f. simp f (ap listed_in (sym (append-nil slots))))
 
 module _ (rows : List LinkRow) (i : ℕ) where
   -- there is room for one slot more
-  pub note-room : i < SLOTS → length (overSlots 0 (take i rows)) < SLOTS
+  pub note-room : i < SLOTS → length (over_slots 0 (take i rows)) < SLOTS
   note-room h = omega (arith, over-length 0 (take i rows), length-take i rows)
 
   -- one row more is looked at
-  pub note_step : i < SLOTS → i < length rows → noteIn (listedIn (overSlots 0 (take i rows))) i (slice_index_or rows i no_row) ≡ listedIn (overSlots 0 (take (i + 1) rows))
+  pub note_step : i < SLOTS → i < length rows → note_in (listed_in (over_slots 0 (take i rows))) i (slice_index_or rows i no_row) ≡ listed_in (over_slots 0 (take (i + 1) rows))
   note_step h g =
       let row = get_or rows i no_row in
       let here : i ≡ 0 + length (take i rows) = omega (arith, length-take i rows) in
-      note-over (overSlots 0 (take i rows)) i row (note-room h)
-      ∙ ap listedIn
-      (ap (λ n. overSlots 0 (take i rows) ++ cond (overLink row) (n ∷ []) []) here
+      note-over (over_slots 0 (take i rows)) i row (note-room h)
+      ∙ ap listed_in
+      (ap (λ n. over_slots 0 (take i rows) ++ cond (over_link row) (n ∷ []) []) here
       ∙ sym (over-snoc 0 (take i rows) row)
-      ∙ ap (overSlots 0) (sym (take-suc rows i no_row g) ∙ ap (λ n. take n rows) (sym (add-one i))))
+      ∙ ap (over_slots 0) (sym (take-suc rows i no_row g) ∙ ap (λ n. take n rows) (sym (add-one i))))
 
-  pub note-end : length rows ≤ i → overSlots 0 (take i rows) ≡ overSlots 0 rows
-  note-end h = ap (overSlots 0) (take_all i rows h)
+  pub note-end : length rows ≤ i → over_slots 0 (take i rows) ≡ over_slots 0 rows
+  note-end h = ap (over_slots 0) (take_all i rows h)
 
 -- from row i on there is that row, and what comes after it
 row-then : (rows : List LinkRow) (i : ℕ) {rest : List LinkRow} → i < length rows → drop (suc i) rows ≡ rest → drop i rows ≡ slice_index_or rows i no_row ∷ rest
@@ -165,7 +165,7 @@ chosen test (n ∷ ns) = cond (test n) (n ∷ chosen test ns) (chosen test ns)
 
 -- the answer's slots are those of 0 to 7 whose links are over, or none where every confirmed link is slow
 pub slow-listed : (rows : List LinkRow) → length rows ≡ SLOTS
-    → take (slowOf rows).count (slowOf rows).slots
-    ≡ cond (allSlow rows) [] (chosen (λ slot. overLink (slice_index_or rows slot no_row)) (0 ∷ 1 ∷ 2 ∷ 3 ∷ 4 ∷ 5 ∷ 6 ∷ 7 ∷ []))
-unfolding slowOf slowSlots overSlots chosen
-slow-listed rows h = take-append_seam (slowSlots rows) (replicate (SLOTS - length (slowSlots rows)) 0) ∙ ap (cond (allSlow rows) []) (ap (overSlots 0) (eight rows h))
+    → take (slow_of rows).count (slow_of rows).slots
+    ≡ cond (all_slow rows) [] (chosen (λ slot. over_link (slice_index_or rows slot no_row)) (0 ∷ 1 ∷ 2 ∷ 3 ∷ 4 ∷ 5 ∷ 6 ∷ 7 ∷ []))
+unfolding slow_of slow_slots over_slots chosen
+slow-listed rows h = take-append_seam (slow_slots rows) (replicate (SLOTS - length (slow_slots rows)) 0) ∙ ap (cond (all_slow rows) []) (ap (over_slots 0) (eight rows h))

@@ -8,17 +8,17 @@ use Rattle.engine.specs.Sizes.{DATA_BYTES}
 use Rattle.refusal.specs.declared.verdict.Verdict.TheVariants as verdicts
 
 -- "number n uses cell n mod 64", of 1,024 bytes: where the cell starts, of N cells
-abbrev pub cellStart : ℕ → ℕ → ℕ
-cellStart N n = n % N * DATA_BYTES
+abbrev pub cell_start : ℕ → ℕ → ℕ
+cell_start N n = n % N * DATA_BYTES
 
 -- a store with bytes from a place on, and every other byte as it was
 abbrev pub copied : List ℕ → ℕ → List ℕ → List ℕ
 copied store at bytes = take at store ++ (bytes ++ drop (at + length bytes) store)
 
 -- a refusal leaves every byte as it came
-abbrev pub storeBy : Verdict → List ℕ → List ℕ → List ℕ
-storeBy verdicts.Pass old new = new
-storeBy (verdicts.No e) old new = old
+abbrev pub store_by : Verdict → List ℕ → List ℕ → List ℕ
+store_by verdicts.Pass old new = new
+store_by (verdicts.No e) old new = old
 
 -- ---- laws
 

@@ -1,9 +1,9 @@
 // An ack of a number arrives over a link: what it does to the link's row and the acked packet, and the sweep of the table's front.
 ghost use Rattle.std.specs.Prelude.{◌≡◌, ◌+◌, ◌^◌, ◌<◌, ◌≤◌, []};
-ghost use Rattle.refusal.specs.Answers.{toldBy};
-ghost use Rattle.engine.specs.Answer.{outcomeTold};
+ghost use Rattle.refusal.specs.Answers.{told_by};
+ghost use Rattle.engine.specs.Answer.{outcome_told};
 ghost use Rattle.engine.specs.Sound.{Sound};
-ghost use Rattle.engine.specs.Acking.{settledRow, receivedTx, settledTx, sweepOf, sweptTx, ackedRow, ackedTx, ackVerdict, ackOf};
+ghost use Rattle.engine.specs.Acking.{settled_row, received_tx, settled_tx, sweep_of, swept_tx, acked_row, acked_tx, ack_verdict, ack_of};
 ghost use Rattle.engine.specs.Sizes.{PACKETS};
 
 use crate::answer::{Changed, Outcome};
@@ -22,7 +22,7 @@ use seq::Seq;
 
 // The row, where the packet was Sent over its slot.
 pub fn settle_row(row: LinkRow, p: SentReliable, slot: u8, time: u64) -> LinkRow
-    ensures { result ≡ settledRow row p slot time }
+    ensures { result ≡ settled_row row p slot time }
 {
     let status = p.status;
     match status {
@@ -41,7 +41,7 @@ pub fn settle_row(row: LinkRow, p: SentReliable, slot: u8, time: u64) -> LinkRow
 // The packet becomes Received, and its size moves from one total to the other.
 fn received_tx(tx: Sending, seq: Seq, p: SentReliable) -> Sending
     requires { tx.txed_unconsumable + p.len < 2 ^ 32 }
-    ensures { result ≡ receivedTx tx seq.0 p }
+    ensures { result ≡ received_tx tx seq.0 p }
 {
     let len = p.len;
     let mut out = with_packet(tx, seq, p.with_status(SentReliableStatus::Received));
@@ -53,7 +53,7 @@ fn received_tx(tx: Sending, seq: Seq, p: SentReliable) -> Sending
 // The sending half, by the packet's status.
 fn settle_tx(tx: Sending, slot: u8, seq: Seq, p: SentReliable) -> Sending
     requires { (tx.txed_unconsumable + p.len < 2 ^ 32) × (tx.txed_count ≤ PACKETS) }
-    ensures { result ≡ settledTx tx slot seq.0 p }
+    ensures { result ≡ settled_tx tx slot seq.0 p }
 {
     let status = p.status;
     match status {
@@ -69,7 +69,7 @@ fn settle_tx(tx: Sending, slot: u8, seq: Seq, p: SentReliable) -> Sending
 }
 
 // What a sweep leaves: how many packets, the last number looked at, and the bytes that still wait.
-#[derive(Drop)]
+#[derive(Clone, Copy)]
 struct Front {
     left: usize,
     last: Seq,
@@ -78,7 +78,7 @@ struct Front {
 
 fn swept(tx: Sending) -> Front
     requires { tx.txed_count ≤ PACKETS }
-    ensures { result ≡ sweepOf tx }
+    ensures { result ≡ sweep_of tx }
 {
     let mut left = tx.txed_count;
     let mut last = tx.txed_last_consumed;
@@ -101,7 +101,7 @@ fn swept(tx: Sending) -> Front
 // Drops the Received packets at the front.
 fn sweep(tx: Sending) -> Sending
     requires { tx.txed_count ≤ PACKETS }
-    ensures { result ≡ sweptTx tx }
+    ensures { result ≡ swept_tx tx }
 {
     let w = swept(tx);
     let last = w.last;
@@ -115,7 +115,7 @@ fn sweep(tx: Sending) -> Sending
 // The link's row: the mark's step comes first, and a flag that it sets counts in this ack.
 fn acked_row(s: State, slot: u8, time: u64, seq: Seq) -> LinkRow
     requires { Sound s }
-    ensures { result ≡ ackedRow s slot time seq.0 }
+    ensures { result ≡ acked_row s slot time seq.0 }
 {
     let row = row_of(s, slot).mark_acked(seq);
     let tx = s.tx;
@@ -128,7 +128,7 @@ fn acked_row(s: State, slot: u8, time: u64, seq: Seq) -> LinkRow
 
 fn acked_tx(s: State, slot: u8, seq: Seq) -> Sending
     requires { Sound s }
-    ensures { result ≡ ackedTx s slot seq.0 }
+    ensures { result ≡ acked_tx s slot seq.0 }
 {
     let tx = s.tx;
     if !in_table(tx, seq) {
@@ -140,7 +140,7 @@ fn acked_tx(s: State, slot: u8, seq: Seq) -> Sending
 
 // Its own gate judges the number against the next to send.
 fn ack_verdict(s: State, slot: u8, time: u64, seq: Seq) -> Verdict
-    ensures { result ≡ ackVerdict s slot time seq.0 }
+    ensures { result ≡ ack_verdict s slot time seq.0 }
 {
     let tx = s.tx;
     let v22 = gate(seq.is_near(tx.tx_seq), Refusal::Far, Verdict::Pass);
@@ -148,8 +148,8 @@ fn ack_verdict(s: State, slot: u8, time: u64, seq: Seq) -> Verdict
 }
 
 pub fn ack(s: State, slot: u8, time: u64, seq: Seq) -> Changed
-    ensures value { result ≡ ackOf s slot time seq.0 }
-    ensures outcome_value { outcomeTold result.outcome ≡ toldBy (ackVerdict s slot time seq.0) [] }
+    ensures value { result ≡ ack_of s slot time seq.0 }
+    ensures outcome_value { outcome_told result.outcome ≡ told_by (ack_verdict s slot time seq.0) [] }
 {
     let verdict = ack_verdict(s, slot, time, seq);
     match verdict {

@@ -1,17 +1,17 @@
 // What a call answers that gives nothing but a state.
 ghost use Rattle.std.specs.Prelude.{◌≡◌};
-ghost use Rattle.engine.specs.Answer.{changedBy};
+ghost use Rattle.engine.specs.Answer.{changed_by};
 
 use crate::state::State;
 use refusal::{Refusal, Verdict};
 
-#[derive(Drop)]
+#[derive(Clone, Copy)]
 pub enum Outcome {
     Done,
     No(Refusal),
 }
 
-#[derive(Drop)]
+#[derive(Clone, Copy)]
 pub struct Changed {
     pub outcome: Outcome,
     pub state: State,
@@ -19,7 +19,7 @@ pub struct Changed {
 
 // The next state where the verdict lets the call pass, else the state as it came.
 pub(crate) fn change(verdict: Verdict, s: State, next: State) -> Changed
-    ensures { result ≡ changedBy verdict s next }
+    ensures { result ≡ changed_by verdict s next }
 {
     match verdict {
         Verdict::Pass => Changed {

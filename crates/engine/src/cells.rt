@@ -2,9 +2,9 @@
 ghost use Rattle.std.specs.Prelude.{◌≡◌, ◌%◌, ◌<◌, ◌≤◌, false, length, replicate};
 ghost use Rattle.seq.specs.Distance.{past};
 ghost use Rattle.engine.specs.Ring.{refilled};
-ghost use Rattle.engine.specs.Received.{table_of, held_at, isUsed, cell_of};
+ghost use Rattle.engine.specs.Received.{table_of, held_at, is_used, cell_of};
 ghost use Rattle.engine.specs.CellTally.{Lent};
-ghost use Rattle.engine.specs.Cells.{nearOldest, isRepeat, canAdvance, oldestAfter, passedOver, advanced, endAfter, openedRecords};
+ghost use Rattle.engine.specs.Cells.{near_oldest, is_repeat, can_advance, oldest_after, passed_over, advanced, end_after, opened_records};
 
 use crate::records::{held_of, is_full, kept_record};
 use crate::ring::{cell_at, next_cell};
@@ -22,7 +22,7 @@ pub fn held_at(rx: Receiving, records: &[u64], seq: Seq) -> Held
 
 // Whether the number's cell is in use.
 fn is_used(rx: Receiving, seq: Seq) -> bool
-    ensures { result ≡ isUsed rx seq.0 }
+    ensures { result ≡ is_used rx seq.0 }
 {
     seq.past(rx.rx_oldest) < rx.rx_end.past(rx.rx_oldest)
 }
@@ -40,7 +40,7 @@ fn cell_of(rx: Receiving, records: &[u64], seq: Seq) -> Held
 
 // Whether the number is less than the cell count past the one that refusal 12 counts from.
 pub fn near_oldest(rx: Receiving, seq: Seq) -> bool
-    ensures { result ≡ nearOldest rx.cells rx seq.0 }
+    ensures { result ≡ near_oldest rx.cells rx seq.0 }
 {
     seq.past(rx.rx_oldest) < rx.cells
 }
@@ -48,7 +48,7 @@ pub fn near_oldest(rx: Receiving, seq: Seq) -> bool
 // Whether the number was received already: it is before the next expected, or held.
 pub fn is_repeat(rx: Receiving, records: &[u64], seq: Seq) -> bool
     requires { Lent rx (length records.now) }
-    ensures { result ≡ isRepeat rx.cells (table_of rx records.now) seq.0 }
+    ensures { result ≡ is_repeat rx.cells (table_of rx records.now) seq.0 }
 {
     if seq.is_before(rx.rx_seq) {
         return true;
@@ -60,7 +60,7 @@ pub fn is_repeat(rx: Receiving, records: &[u64], seq: Seq) -> bool
 // Whether the next expected message is there.
 fn can_advance(rx: Receiving, records: &[u64]) -> bool
     requires { Lent rx (length records.now) }
-    ensures { result ≡ canAdvance rx.cells (table_of rx records.now) }
+    ensures { result ≡ can_advance rx.cells (table_of rx records.now) }
 {
     let seq = rx.rx_seq;
     if seq.eq(rx.rx_end) {
@@ -72,7 +72,7 @@ fn can_advance(rx: Receiving, records: &[u64]) -> bool
 
 // The oldest number once seq is passed: it moves along only while nothing is ready.
 fn oldest_after(oldest: Seq, seq: Seq, next: Seq, ready: bool) -> Seq
-    ensures { result ≡ oldestAfter oldest seq next ready }
+    ensures { result ≡ oldest_after oldest seq next ready }
 {
     if ready {
         return oldest;
@@ -83,8 +83,8 @@ fn oldest_after(oldest: Seq, seq: Seq, next: Seq, ready: bool) -> Seq
 // The next expected message is passed.
 fn pass(rx: Receiving, records: &mut [u64]) -> Receiving
     requires { Lent rx (length records.old) }
-    ensures value { result ≡ (passedOver rx.cells (table_of rx records.old)).rx }
-    ensures records_after { records.new ≡ (passedOver rx.cells (table_of rx records.old)).records }
+    ensures value { result ≡ (passed_over rx.cells (table_of rx records.old)).rx }
+    ensures records_after { records.new ≡ (passed_over rx.cells (table_of rx records.old)).records }
 {
     let seq = rx.rx_seq;
     let oldest = rx.rx_oldest;
@@ -133,9 +133,9 @@ fn empty_cells(cells: u32, records: &mut [u64], from: Seq, count: u32)
 
 // A number at or past the end comes into use, and those before it from the end on, whose cells are emptied: the end after that.
 pub fn open_cells(rx: Receiving, records: &mut [u64], seq: Seq) -> Seq
-    requires { Lent rx (length records.old) × (isUsed rx seq.0 ≡ false → past seq.0 rx.rx_end.0 ≤ rx.cells) }
-    ensures value { result ≡ endAfter rx seq.0 }
-    ensures records_after { records.new ≡ openedRecords rx.cells (table_of rx records.old) seq.0 }
+    requires { Lent rx (length records.old) × (is_used rx seq.0 ≡ false → past seq.0 rx.rx_end.0 ≤ rx.cells) }
+    ensures value { result ≡ end_after rx seq.0 }
+    ensures records_after { records.new ≡ opened_records rx.cells (table_of rx records.old) seq.0 }
 {
     let end = rx.rx_end;
     if is_used(rx, seq) {

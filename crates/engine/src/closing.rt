@@ -1,9 +1,9 @@
 // The reader closes.
 ghost use Rattle.std.specs.Prelude.{◌≡◌, []};
-ghost use Rattle.refusal.specs.Answers.{toldBy};
-ghost use Rattle.engine.specs.Answer.{outcomeTold};
-ghost use Rattle.engine.specs.Gates.{stateVerdict};
-ghost use Rattle.engine.specs.Closing.{closeOf};
+ghost use Rattle.refusal.specs.Answers.{told_by};
+ghost use Rattle.engine.specs.Answer.{outcome_told};
+ghost use Rattle.engine.specs.Gates.{state_verdict};
+ghost use Rattle.engine.specs.Closing.{close_of};
 
 use crate::answer::{Changed, change};
 use crate::sound::is_sound;
@@ -12,8 +12,8 @@ use refusal::{Refusal, Verdict, gate};
 
 // Closes the reader for good; one that has closed stays so.
 pub fn close_reader(s: State) -> Changed
-    ensures value { result ≡ closeOf s }
-    ensures outcome_value { outcomeTold result.outcome ≡ toldBy (stateVerdict s) [] }
+    ensures value { result ≡ close_of s }
+    ensures outcome_value { outcome_told result.outcome ≡ told_by (state_verdict s) [] }
 {
     let verdict = gate(is_sound(s), Refusal::Unsound, Verdict::Pass);
     let mut closed = s;

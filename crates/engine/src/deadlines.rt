@@ -1,11 +1,11 @@
 // Confirmation deadlines (request [1] of document 02): when to give up on a link that is silent about its packets.
 ghost use Rattle.std.specs.Prelude.{◌≡◌, ◌≤◌, true};
-ghost use Rattle.refusal.specs.Answers.{toldBy};
+ghost use Rattle.refusal.specs.Answers.{told_by};
 ghost use Rattle.link.specs.Sizes.{MAX_TIME};
-ghost use Rattle.link.specs.Timeout.{timeoutWithin};
+ghost use Rattle.link.specs.Timeout.{timeout_within};
 ghost use Rattle.engine.specs.Packets.{packets};
 ghost use Rattle.engine.specs.Sizes.{PACKETS};
-ghost use Rattle.engine.specs.Deadlines.{inFlight, firstSent, wasFlushed, definitelySent, deadlineOf, named_by, namedValues, confirmTimeoutVerdict, confirmTimeoutTold, earliestConfirmTimeoutOf};
+ghost use Rattle.engine.specs.Deadlines.{in_flight, first_sent, was_flushed, definitely_sent, deadline_of, named_by, named_values, confirm_timeout_verdict, confirm_timeout_told, earliest_confirm_timeout_of};
 
 use crate::packets::is_sent;
 use crate::ring::next_cell;
@@ -18,13 +18,13 @@ use link::AckTimeout;
 use refusal::{Refusal, Verdict, gate};
 
 // The first packet in table order that is Sent. Public so that `laws` can name it.
-#[derive(Drop)]
+#[derive(Clone, Copy)]
 pub enum FirstSent {
     Nothing,
     Is(InFlight),
 }
 
-#[derive(Drop)]
+#[derive(Clone, Copy)]
 pub enum ConfirmTimeout {
     // the slot that the packet was sent over, whether it was flushed, and the deadline
     Packet(u8, bool, u64),
@@ -34,7 +34,7 @@ pub enum ConfirmTimeout {
 }
 
 pub fn in_flight(status: SentReliableStatus) -> FirstSent
-    ensures { result ≡ inFlight status }
+    ensures { result ≡ in_flight status }
 {
     match status {
         SentReliableStatus::Sent(flight) => FirstSent::Is(flight),
@@ -45,7 +45,7 @@ pub fn in_flight(status: SentReliableStatus) -> FirstSent
 
 fn first_sent(tx: Sending) -> FirstSent
     requires { tx.txed_count ≤ PACKETS }
-    ensures { result ≡ firstSent (packets tx) }
+    ensures { result ≡ first_sent (packets tx) }
 {
     let mut left = tx.txed_count;
     let mut at = first_cell(tx);
@@ -62,7 +62,7 @@ fn first_sent(tx: Sending) -> FirstSent
 }
 
 pub fn was_flushed(flushed: Flushed) -> bool
-    ensures { result ≡ wasFlushed flushed }
+    ensures { result ≡ was_flushed flushed }
 {
     match flushed {
         Flushed::Unflushed => false,
@@ -72,7 +72,7 @@ pub fn was_flushed(flushed: Flushed) -> bool
 
 // The flush time, or else the send time.
 pub fn definitely_sent(flight: InFlight) -> u64
-    ensures { result ≡ definitelySent flight }
+    ensures { result ≡ definitely_sent flight }
 {
     let flushed = flight.flushed;
     match flushed {
@@ -82,8 +82,8 @@ pub fn definitely_sent(flight: InFlight) -> u64
 }
 
 fn deadline(s: State, flight: InFlight, timeout: AckTimeout, unreliable: bool) -> u64
-    requires { (definitelySent flight ≤ MAX_TIME) × (timeoutWithin timeout ≡ true) }
-    ensures { result ≡ deadlineOf s flight timeout unreliable }
+    requires { (definitely_sent flight ≤ MAX_TIME) × (timeout_within timeout ≡ true) }
+    ensures { result ≡ deadline_of s flight timeout unreliable }
 {
     let roundtrip = row_of(s, flight.slot).roundtrip;
     let wait = timeout.duration(roundtrip, flight.resent, unreliable);
@@ -91,7 +91,7 @@ fn deadline(s: State, flight: InFlight, timeout: AckTimeout, unreliable: bool) -
 }
 
 fn confirm_timeout_verdict(s: State, timeout: AckTimeout) -> Verdict
-    ensures { result ≡ confirmTimeoutVerdict s timeout }
+    ensures { result ≡ confirm_timeout_verdict s timeout }
 {
     let sound = is_sound(s);
     let within = timeout.is_within();
@@ -104,8 +104,8 @@ fn confirm_timeout_verdict(s: State, timeout: AckTimeout) -> Verdict
 
 // What is named in a state that passes.
 fn named(s: State, timeout: AckTimeout, unreliable: bool) -> ConfirmTimeout
-    requires { confirmTimeoutVerdict s timeout ≡ Verdict.Pass }
-    ensures { result ≡ named_by (firstSent (packets s.tx)) s timeout unreliable }
+    requires { confirm_timeout_verdict s timeout ≡ Verdict.Pass }
+    ensures { result ≡ named_by (first_sent (packets s.tx)) s timeout unreliable }
 {
     let tx = s.tx;
     let first = first_sent(tx);
@@ -122,8 +122,8 @@ fn named(s: State, timeout: AckTimeout, unreliable: bool) -> ConfirmTimeout
 // The oldest packet that is Sent, and until when its acknowledgement is waited for. The host says whether the round trip of
 // the packet's link is unreliable.
 pub fn earliest_confirm_timeout(s: State, timeout: AckTimeout, unreliable: bool) -> ConfirmTimeout
-    ensures value { result ≡ earliestConfirmTimeoutOf s timeout unreliable }
-    ensures result_value { confirmTimeoutTold result ≡ toldBy (confirmTimeoutVerdict s timeout) (namedValues (firstSent (packets s.tx)) s timeout unreliable) }
+    ensures value { result ≡ earliest_confirm_timeout_of s timeout unreliable }
+    ensures result_value { confirm_timeout_told result ≡ told_by (confirm_timeout_verdict s timeout) (named_values (first_sent (packets s.tx)) s timeout unreliable) }
 {
     let verdict = confirm_timeout_verdict(s, timeout);
     match verdict {

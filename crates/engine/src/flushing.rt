@@ -1,11 +1,11 @@
 // Flushing a link.
 ghost use Rattle.std.specs.Prelude.{◌≡◌, ◌<◌, ◌≤◌, [], map};
-ghost use Rattle.refusal.specs.Answers.{toldBy};
-ghost use Rattle.engine.specs.Answer.{outcomeTold};
-ghost use Rattle.engine.specs.Gates.{timedVerdict};
+ghost use Rattle.refusal.specs.Answers.{told_by};
+ghost use Rattle.engine.specs.Answer.{outcome_told};
+ghost use Rattle.engine.specs.Gates.{timed_verdict};
 ghost use Rattle.engine.specs.Ring.{window, refilled};
-ghost use Rattle.engine.specs.Packets.{noPacket};
-ghost use Rattle.engine.specs.Flushing.{flushedPacket, flushedState, flushOf};
+ghost use Rattle.engine.specs.Packets.{no_packet};
+ghost use Rattle.engine.specs.Flushing.{flushed_packet, flushed_state, flush_of};
 ghost use Rattle.engine.specs.Sizes.{PACKETS};
 
 use crate::answer::{Changed, Outcome};
@@ -18,7 +18,7 @@ use refusal::Verdict;
 
 // A Sent packet of the slot without a flush time gets the present one.
 pub fn flush_packet(p: SentReliable, slot: u8, time: u64) -> SentReliable
-    ensures { result ≡ flushedPacket slot time p }
+    ensures { result ≡ flushed_packet slot time p }
 {
     let status = p.status;
     match status {
@@ -42,7 +42,7 @@ fn flush_packets(
     time: u64,
 ) -> [SentReliable; PACKETS]
     requires { (first < PACKETS) × (count ≤ PACKETS) }
-    ensures { result ≡ refilled PACKETS packets first (map (flushedPacket slot time) (window PACKETS noPacket packets first count)) }
+    ensures { result ≡ refilled PACKETS packets first (map (flushed_packet slot time) (window PACKETS no_packet packets first count)) }
 {
     let mut out = packets;
     let mut at = first;
@@ -59,7 +59,7 @@ fn flush_packets(
 
 fn flushed_state(s: State, slot: u8, time: u64) -> State
     requires { s.tx.txed_count ≤ PACKETS }
-    ensures { result ≡ flushedState s slot time }
+    ensures { result ≡ flushed_state s slot time }
 {
     let mut tx = s.tx;
     let first = first_cell(tx);
@@ -73,8 +73,8 @@ fn flushed_state(s: State, slot: u8, time: u64) -> State
 }
 
 pub fn flush(s: State, slot: u8, time: u64) -> Changed
-    ensures value { result ≡ flushOf s slot time }
-    ensures outcome_value { outcomeTold result.outcome ≡ toldBy (timedVerdict s slot time Verdict.Pass) [] }
+    ensures value { result ≡ flush_of s slot time }
+    ensures outcome_value { outcome_told result.outcome ≡ told_by (timed_verdict s slot time Verdict.Pass) [] }
 {
     let verdict = timed_verdict(s, slot, time, Verdict::Pass);
     match verdict {

@@ -1,6 +1,6 @@
 // The refusals that many calls share.
 ghost use Rattle.std.specs.Prelude.{◌≡◌};
-ghost use Rattle.engine.specs.Gates.{slotVerdict, timedVerdict};
+ghost use Rattle.engine.specs.Gates.{slot_verdict, timed_verdict};
 
 use crate::rows::{slot_ok, time_ok};
 use crate::sound::is_sound;
@@ -9,7 +9,7 @@ use refusal::{Refusal, Verdict, gate};
 
 // The refusals of a call that is given a state and a slot.
 pub(crate) fn slot_verdict(s: State, slot: u8) -> Verdict
-    ensures { result ≡ slotVerdict s slot }
+    ensures { result ≡ slot_verdict s slot }
 {
     let sound = is_sound(s);
     let slotted = slot_ok(s, slot);
@@ -22,7 +22,7 @@ pub(crate) fn slot_verdict(s: State, slot: u8) -> Verdict
 
 // The refusals of a call that is given a state, a slot and a time, before those of its own.
 pub(crate) fn timed_verdict(s: State, slot: u8, time: u64, rest: Verdict) -> Verdict
-    ensures { result ≡ timedVerdict s slot time rest }
+    ensures { result ≡ timed_verdict s slot time rest }
 {
     let sound = is_sound(s);
     let timed = time_ok(s, time);

@@ -1,11 +1,11 @@
 // Handing out: showing the oldest ready message and taking it, taking an ack, and whether a Consumed is due.
 ghost use Rattle.std.specs.Prelude.{◌≡◌, ◌+◌, ◌^◌, ◌<◌, [], ◌∷◌, length};
-ghost use Rattle.engine.specs.Gates.{stateVerdict};
-ghost use Rattle.engine.specs.HandingOut.{readyOf, msgIn, readyValues, handOutTold, handOutBy, dataLength, readyBytes, showVerdict, showingOf, shownAt, shownOf, takeVerdict, canSkip, passed_by, skipped, takenIn, take_of, takeRecords, isWaiting, ackIn, takeAckVerdict, takeAckTold, ackAnswer, takenAckState, takeAckOf, dueAbove, isDue, dueTold, dueOf};
-ghost use Rattle.refusal.specs.Answers.{toldBy, flag};
-ghost use Rattle.link.specs.Acks.{oldestAck};
+ghost use Rattle.engine.specs.Gates.{state_verdict};
+ghost use Rattle.engine.specs.HandingOut.{ready_of, msg_in, ready_values, hand_out_told, hand_out_by, data_length, ready_bytes, show_verdict, showing_of, shown_at, shown_of, take_verdict, can_skip, passed_by, skipped, taken_in, take_of, take_records, is_waiting, ack_in, take_ack_verdict, take_ack_told, ack_answer, taken_ack_state, take_ack_of, due_above, is_due, due_told, due_of};
+ghost use Rattle.refusal.specs.Answers.{told_by, flag};
+ghost use Rattle.link.specs.Acks.{oldest_ack};
 ghost use Rattle.engine.specs.Rows.{row_of};
-ghost use Rattle.engine.specs.Fields.{withRx};
+ghost use Rattle.engine.specs.Fields.{with_rx};
 ghost use Rattle.engine.specs.Received.{table_of};
 ghost use Rattle.engine.specs.CellTally.{Lent};
 
@@ -25,7 +25,7 @@ use msg::ReliableMsg;
 use refusal::{Refusal, Verdict, gate};
 use seq::Seq;
 
-#[derive(Drop)]
+#[derive(Clone, Copy)]
 pub enum HandOut {
     // the message, its number and the length of its data
     Message(ReliableMsg, Seq, u32),
@@ -35,7 +35,7 @@ pub enum HandOut {
 // The oldest ready message, where there is one.
 pub fn oldest_ready(rx: Receiving, records: &[u64]) -> Held
     requires { Lent rx (length records.now) }
-    ensures { result ≡ readyOf (table_of rx records.now) }
+    ensures { result ≡ ready_of (table_of rx records.now) }
 {
     if rx.rx_oldest.eq(rx.rx_seq) {
         return Held::Nothing;
@@ -45,7 +45,7 @@ pub fn oldest_ready(rx: Receiving, records: &[u64]) -> Held
 
 // The message that a cell holds; that of an empty one is never asked.
 pub fn msg_in(held: Held) -> ReliableMsg
-    ensures { result ≡ msgIn held }
+    ensures { result ≡ msg_in held }
 {
     match held {
         Held::Nothing => ReliableMsg::Data,
@@ -56,7 +56,7 @@ pub fn msg_in(held: Held) -> ReliableMsg
 // The answer about the oldest ready message.
 fn hand_out(verdict: Verdict, rx: Receiving, records: &[u64]) -> HandOut
     requires { verdict ≡ Verdict.Pass → Lent rx (length records.now) }
-    ensures { result ≡ handOutBy verdict (table_of rx records.now) }
+    ensures { result ≡ hand_out_by verdict (table_of rx records.now) }
 {
     match verdict {
         Verdict::No(e) => HandOut::No(e),
@@ -71,14 +71,14 @@ fn hand_out(verdict: Verdict, rx: Receiving, records: &[u64]) -> HandOut
 
 // The data bytes of a message: only Data has any.
 pub fn data_length(msg: ReliableMsg, len: u32) -> u32
-    ensures { result ≡ dataLength msg len }
+    ensures { result ≡ data_length msg len }
 {
     if is_data(msg) { len } else { 0 }
 }
 
 // The data bytes that taking would take.
 pub fn ready_bytes(held: Held) -> u32
-    ensures { result ≡ readyBytes held }
+    ensures { result ≡ ready_bytes held }
 {
     match held {
         Held::Nothing => 0,
@@ -87,7 +87,7 @@ pub fn ready_bytes(held: Held) -> u32
 }
 
 fn show_verdict(s: State, store: usize, records: &[u64]) -> Verdict
-    ensures { result ≡ showVerdict s store records.now }
+    ensures { result ≡ show_verdict s store records.now }
 {
     let rx = s.rx;
     if !lengths_ok(rx, store, records.len()) {
@@ -102,8 +102,8 @@ fn show_verdict(s: State, store: usize, records: &[u64]) -> Verdict
 
 // What `show` shows: the message, its number and the length of its data, or why there is nothing to show.
 pub fn showing(s: State, store: &[u8], records: &[u64]) -> HandOut
-    ensures value { result ≡ showingOf s (length store.now) records.now }
-    ensures result_value { handOutTold result ≡ toldBy (showVerdict s (length store.now) records.now) (readyValues (table_of s.rx records.now)) }
+    ensures value { result ≡ showing_of s (length store.now) records.now }
+    ensures result_value { hand_out_told result ≡ told_by (show_verdict s (length store.now) records.now) (ready_values (table_of s.rx records.now)) }
 {
     let rx = s.rx;
     hand_out(show_verdict(s, store.len(), records), rx, records)
@@ -111,8 +111,8 @@ pub fn showing(s: State, store: &[u8], records: &[u64]) -> HandOut
 
 // The part of the received store that holds the bytes of the oldest ready message.
 pub fn show<'a, 'b>(s: State, store: &'a [u8], records: &'b [u64]) -> &'a [u8]
-    ensures result_value { result.now ≡ shownOf s store.now records.now }
-    ensures ref_ptr_value { result.ref_ptr ≡ shownAt s (length store.now) records.now store.entry.ref_ptr }
+    ensures result_value { result.now ≡ shown_of s store.now records.now }
+    ensures ref_ptr_value { result.ref_ptr ≡ shown_at s (length store.now) records.now store.entry.ref_ptr }
 {
     let answer = showing(s, store, records);
     match answer {
@@ -125,14 +125,14 @@ pub fn show<'a, 'b>(s: State, store: &'a [u8], records: &'b [u64]) -> &'a [u8]
     }
 }
 
-#[derive(Drop)]
+#[derive(Clone, Copy)]
 pub struct TakeResult {
     pub answer: HandOut,
     pub state: State,
 }
 
 fn take_verdict(s: State, records: &[u64]) -> Verdict
-    ensures { result ≡ takeVerdict s records.now }
+    ensures { result ≡ take_verdict s records.now }
 {
     let rx = s.rx;
     if records.len() != rx.cells as usize {
@@ -151,7 +151,7 @@ fn take_verdict(s: State, records: &[u64]) -> Verdict
 // Whether the oldest number stands for nothing ready and lies before the next expected.
 fn can_skip(rx: Receiving, records: &[u64]) -> bool
     requires { Lent rx (length records.now) }
-    ensures { result ≡ canSkip rx.cells records.now rx }
+    ensures { result ≡ can_skip rx.cells records.now rx }
 {
     if rx.rx_oldest.eq(rx.rx_seq) {
         return false;
@@ -189,8 +189,8 @@ fn skip(rx: Receiving, records: &[u64]) -> Receiving
 // The receive table without its oldest ready message, of so many data bytes.
 pub fn take_message(rx: Receiving, records: &mut [u64], bytes: u32) -> Receiving
     requires { Lent rx (length records.old) × (rx.rxed_reliable_consumed + bytes < 2 ^ 32) }
-    ensures value { result ≡ (takenIn rx.cells (table_of rx records.old) bytes).rx }
-    ensures records_after { records.new ≡ (takenIn rx.cells (table_of rx records.old) bytes).records }
+    ensures value { result ≡ (taken_in rx.cells (table_of rx records.old) bytes).rx }
+    ensures records_after { records.new ≡ (taken_in rx.cells (table_of rx records.old) bytes).records }
 {
     let at = cell_at(rx.cells, rx.rx_oldest);
     records[at] = 0;
@@ -202,7 +202,7 @@ pub fn take_message(rx: Receiving, records: &mut [u64], bytes: u32) -> Receiving
 
 // The state with the receiving half that is left.
 fn with_rx(s: State, rx: Receiving) -> State
-    ensures { result ≡ withRx s rx }
+    ensures { result ≡ with_rx s rx }
 {
     let mut out = s;
     out.rx = rx;
@@ -212,8 +212,8 @@ fn with_rx(s: State, rx: Receiving) -> State
 // Takes the oldest ready message, and empties its record.
 pub fn take(s: State, records: &mut [u64]) -> TakeResult
     ensures value { result ≡ take_of s records.old }
-    ensures answer_value { handOutTold result.answer ≡ toldBy (takeVerdict s records.old) (readyValues (table_of s.rx records.old)) }
-    ensures records_after { records.new ≡ takeRecords s records.old }
+    ensures answer_value { hand_out_told result.answer ≡ told_by (take_verdict s records.old) (ready_values (table_of s.rx records.old)) }
+    ensures records_after { records.new ≡ take_records s records.old }
 {
     let rx = s.rx;
     let answer = hand_out(take_verdict(s, records), rx, records);
@@ -229,20 +229,20 @@ pub fn take(s: State, records: &mut [u64]) -> TakeResult
     }
 }
 
-#[derive(Drop)]
+#[derive(Clone, Copy)]
 pub enum TakeAck {
     Number(Seq),
     No(Refusal),
 }
 
-#[derive(Drop)]
+#[derive(Clone, Copy)]
 pub struct TakeAckResult {
     pub answer: TakeAck,
     pub state: State,
 }
 
 fn is_waiting(oldest: OldestAck) -> bool
-    ensures { result ≡ isWaiting oldest }
+    ensures { result ≡ is_waiting oldest }
 {
     match oldest {
         OldestAck::Nothing => false,
@@ -252,7 +252,7 @@ fn is_waiting(oldest: OldestAck) -> bool
 
 // The number that is acked; where none waits it is never asked.
 fn ack_in(oldest: OldestAck) -> Seq
-    ensures { result ≡ ackIn oldest }
+    ensures { result ≡ ack_in oldest }
 {
     match oldest {
         OldestAck::Nothing => Seq::ZERO,
@@ -261,7 +261,7 @@ fn ack_in(oldest: OldestAck) -> Seq
 }
 
 fn take_ack_verdict(s: State, slot: u8) -> Verdict
-    ensures { result ≡ takeAckVerdict s slot }
+    ensures { result ≡ take_ack_verdict s slot }
 {
     let oldest = row_of(s, slot).oldest_ack();
     let v19 = gate(is_waiting(oldest), Refusal::Nothing, Verdict::Pass);
@@ -271,7 +271,7 @@ fn take_ack_verdict(s: State, slot: u8) -> Verdict
 
 // The link's oldest ack.
 fn ack_answer(s: State, slot: u8) -> TakeAck
-    ensures { result ≡ ackAnswer s slot }
+    ensures { result ≡ ack_answer s slot }
 {
     let verdict = take_ack_verdict(s, slot);
     match verdict {
@@ -284,7 +284,7 @@ fn ack_answer(s: State, slot: u8) -> TakeAck
 }
 
 fn taken_ack_state(s: State, slot: u8) -> State
-    ensures { result ≡ takenAckState s slot }
+    ensures { result ≡ taken_ack_state s slot }
 {
     let row = row_of(s, slot);
     with_row(s, slot, row.take_ack())
@@ -292,8 +292,8 @@ fn taken_ack_state(s: State, slot: u8) -> State
 
 // Takes the link's oldest ack.
 pub fn take_ack(s: State, slot: u8) -> TakeAckResult
-    ensures value { result ≡ takeAckOf s slot }
-    ensures answer_value { takeAckTold result.answer ≡ toldBy (takeAckVerdict s slot) ((ackIn (oldestAck (row_of s slot))).0 ∷ []) }
+    ensures value { result ≡ take_ack_of s slot }
+    ensures answer_value { take_ack_told result.answer ≡ told_by (take_ack_verdict s slot) ((ack_in (oldest_ack (row_of s slot))).0 ∷ []) }
 {
     let answer = ack_answer(s, slot);
     match answer {
@@ -305,7 +305,7 @@ pub fn take_ack(s: State, slot: u8) -> TakeAckResult
     }
 }
 
-#[derive(Drop)]
+#[derive(Clone, Copy)]
 pub enum Due {
     Is(bool),
     No(Refusal),
@@ -313,7 +313,7 @@ pub enum Due {
 
 // A Consumed is due above this count: with nobody reading, none need be saved up.
 fn due_above(s: State) -> u32
-    ensures { result ≡ dueAbove s }
+    ensures { result ≡ due_above s }
 {
     if s.read_open {
         s.rx.recv_buffer / 10
@@ -324,8 +324,8 @@ fn due_above(s: State) -> u32
 
 // Whether the other end is to be told what was taken.
 pub fn is_consume_ack_required(s: State) -> Due
-    ensures value { result ≡ dueOf s }
-    ensures result_value { dueTold result ≡ toldBy (stateVerdict s) (flag (isDue s) ∷ []) }
+    ensures value { result ≡ due_of s }
+    ensures result_value { due_told result ≡ told_by (state_verdict s) (flag (is_due s) ∷ []) }
 {
     if !is_sound(s) {
         return Due::No(Refusal::Unsound);

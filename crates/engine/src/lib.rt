@@ -1,6 +1,8 @@
 // The engine (000, agg/task.rs): its state, when that is sound, and a module for each family of calls. What a host uses is
 // passed on here, flat: `engine::State`, `engine::send`. A family's module is public so that `laws` can name its promises, and what else is public is
 // a part of a call that the calls in place over words (crate `words`) are made of too: docs/EXCEPTIONS.md lists them.
+#![tactic(auto)]
+
 pub mod acking;
 pub mod answer;
 pub mod cells;

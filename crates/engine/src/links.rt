@@ -1,9 +1,9 @@
 // Adding a link, and the plain changes of a row.
 ghost use Rattle.std.specs.Prelude.{◌≡◌, ◌≤◌, [], ◌∷◌};
-ghost use Rattle.refusal.specs.Answers.{toldBy};
-ghost use Rattle.engine.specs.Answer.{outcomeTold};
-ghost use Rattle.engine.specs.Gates.{slotVerdict, timedVerdict};
-ghost use Rattle.engine.specs.Links.{lowestEmpty, lowestIn, is_taken, addVerdict, addTold, addOf, confirmOf, block_of, pingOf, pongOf, mark_of};
+ghost use Rattle.refusal.specs.Answers.{told_by};
+ghost use Rattle.engine.specs.Answer.{outcome_told};
+ghost use Rattle.engine.specs.Gates.{slot_verdict, timed_verdict};
+ghost use Rattle.engine.specs.Links.{lowest_empty, lowest_in, is_taken, add_verdict, add_told, add_of, confirm_of, block_of, ping_of, pong_of, mark_of};
 ghost use Rattle.engine.specs.Sizes.{SLOTS};
 
 use crate::answer::{Changed, change};
@@ -17,13 +17,13 @@ use link::{Limit, LinkRow, MaxPing};
 use refusal::{Refusal, Verdict, both, gate};
 use seq::Seq;
 
-#[derive(Drop)]
+#[derive(Clone, Copy)]
 pub enum AddAnswer {
     Slot(u8),
     No(Refusal),
 }
 
-#[derive(Drop)]
+#[derive(Clone, Copy)]
 pub struct Added {
     pub answer: AddAnswer,
     pub state: State,
@@ -31,7 +31,7 @@ pub struct Added {
 
 // The lowest slot without a link, or SLOTS.
 fn lowest_empty(links: [LinkRow; SLOTS]) -> u8
-    ensures value { result ≡ lowestEmpty links 0 }
+    ensures value { result ≡ lowest_empty links 0 }
     ensures upper_bound { result ≤ SLOTS }
 {
     let mut j: u8 = 0;
@@ -61,8 +61,8 @@ fn is_taken(links: [LinkRow; SLOTS], link_id: u64) -> bool
 }
 
 fn add_verdict(s: State, slot: u8, link_id: u64, roundtrip: u64, max_ping: MaxPing) -> Verdict
-    requires { slot ≡ lowestIn s }
-    ensures { result ≡ addVerdict s link_id roundtrip max_ping }
+    requires { slot ≡ lowest_in s }
+    ensures { result ≡ add_verdict s link_id roundtrip max_ping }
 {
     let sound = is_sound(s);
     let links = s.links;
@@ -82,8 +82,8 @@ pub fn add(
     blocked: bool,
     unconfirmed: bool,
 ) -> Added
-    ensures value { result ≡ addOf s link_id roundtrip max_ping blocked unconfirmed }
-    ensures answer_value { addTold result.answer ≡ toldBy (addVerdict s link_id roundtrip max_ping) (lowestIn s ∷ []) }
+    ensures value { result ≡ add_of s link_id roundtrip max_ping blocked unconfirmed }
+    ensures answer_value { add_told result.answer ≡ told_by (add_verdict s link_id roundtrip max_ping) (lowest_in s ∷ []) }
 {
     let links = s.links;
     let slot = lowest_empty(links);
@@ -104,8 +104,8 @@ pub fn add(
 }
 
 pub fn confirm(s: State, slot: u8) -> Changed
-    ensures value { result ≡ confirmOf s slot }
-    ensures outcome_value { outcomeTold result.outcome ≡ toldBy (slotVerdict s slot) [] }
+    ensures value { result ≡ confirm_of s slot }
+    ensures outcome_value { outcome_told result.outcome ≡ told_by (slot_verdict s slot) [] }
 {
     let verdict = slot_verdict(s, slot);
     let row = row_of(s, slot).confirm();
@@ -114,7 +114,7 @@ pub fn confirm(s: State, slot: u8) -> Changed
 
 pub fn block(s: State, slot: u8, blocked: bool) -> Changed
     ensures value { result ≡ block_of s slot blocked }
-    ensures outcome_value { outcomeTold result.outcome ≡ toldBy (slotVerdict s slot) [] }
+    ensures outcome_value { outcome_told result.outcome ≡ told_by (slot_verdict s slot) [] }
 {
     let verdict = slot_verdict(s, slot);
     let row = row_of(s, slot).block(blocked);
@@ -124,7 +124,7 @@ pub fn block(s: State, slot: u8, blocked: bool) -> Changed
 // Sets the limit mark to any number.
 pub fn mark(s: State, slot: u8, seq: Seq) -> Changed
     ensures value { result ≡ mark_of s slot seq }
-    ensures outcome_value { outcomeTold result.outcome ≡ toldBy (slotVerdict s slot) [] }
+    ensures outcome_value { outcome_told result.outcome ≡ told_by (slot_verdict s slot) [] }
 {
     let verdict = slot_verdict(s, slot);
     let row = row_of(s, slot).mark(Limit::At(seq));
@@ -133,8 +133,8 @@ pub fn mark(s: State, slot: u8, seq: Seq) -> Changed
 
 // Notes that a ping was sent.
 pub fn ping(s: State, slot: u8, time: u64) -> Changed
-    ensures value { result ≡ pingOf s slot time }
-    ensures outcome_value { outcomeTold result.outcome ≡ toldBy (timedVerdict s slot time Verdict.Pass) [] }
+    ensures value { result ≡ ping_of s slot time }
+    ensures outcome_value { outcome_told result.outcome ≡ told_by (timed_verdict s slot time Verdict.Pass) [] }
 {
     let verdict = timed_verdict(s, slot, time, Verdict::Pass);
     let row = row_of(s, slot).ping(time);
@@ -143,8 +143,8 @@ pub fn ping(s: State, slot: u8, time: u64) -> Changed
 
 // A pong arrived.
 pub fn pong(s: State, slot: u8, time: u64) -> Changed
-    ensures value { result ≡ pongOf s slot time }
-    ensures outcome_value { outcomeTold result.outcome ≡ toldBy (timedVerdict s slot time Verdict.Pass) [] }
+    ensures value { result ≡ pong_of s slot time }
+    ensures outcome_value { outcome_told result.outcome ≡ told_by (timed_verdict s slot time Verdict.Pass) [] }
 {
     let verdict = timed_verdict(s, slot, time, Verdict::Pass);
     let row = row_of(s, slot).pong(time);

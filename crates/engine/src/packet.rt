@@ -1,6 +1,6 @@
 // A packet made, and changed.
 ghost use Rattle.std.specs.Prelude.{◌≡◌};
-ghost use Rattle.engine.specs.Fields.{newFlight, flushedFlight, newPacket, withStatus};
+ghost use Rattle.engine.specs.Fields.{new_flight, flushed_flight, new_packet, with_status};
 
 use crate::state::{Flushed, InFlight, SentReliable, SentReliableStatus};
 use msg::ReliableMsg;
@@ -8,7 +8,7 @@ use seq::Seq;
 
 impl InFlight {
     pub fn new(time: u64, slot: u8, link: u64, resent: bool) -> InFlight
-        ensures { result ≡ newFlight time slot link resent }
+        ensures { result ≡ new_flight time slot link resent }
     {
         InFlight {
             sent: time,
@@ -21,7 +21,7 @@ impl InFlight {
 
     // A flush time that is there stays.
     pub fn flush(self, time: u64) -> InFlight
-        ensures { result ≡ flushedFlight self time }
+        ensures { result ≡ flushed_flight self time }
     {
         let flushed = self.flushed;
         match flushed {
@@ -39,7 +39,7 @@ impl InFlight {
 
 impl SentReliable {
     pub fn new(seq: Seq, msg: ReliableMsg, len: u32, status: SentReliableStatus) -> SentReliable
-        ensures { result ≡ newPacket seq msg len status }
+        ensures { result ≡ new_packet seq msg len status }
     {
         SentReliable {
             seq,
@@ -50,7 +50,7 @@ impl SentReliable {
     }
 
     pub fn with_status(self, status: SentReliableStatus) -> SentReliable
-        ensures { result ≡ withStatus self status }
+        ensures { result ≡ with_status self status }
     {
         let seq = self.seq;
         let msg = self.msg;

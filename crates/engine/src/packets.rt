@@ -1,7 +1,7 @@
 // One pass over the packet table gathers what Sound asks of it.
 ghost use Rattle.std.specs.Prelude.{◌≡◌, ◌≤◌};
-ghost use Rattle.engine.specs.Packets.{isData, isSent, isReceived, isQueued};
-ghost use Rattle.engine.specs.Tally.{lengthOk, flushedOk, statusOk, packetOk, weighed, tally_of};
+ghost use Rattle.engine.specs.Packets.{is_data, is_sent, is_received, is_queued};
+ghost use Rattle.engine.specs.Tally.{length_ok, flushed_ok, status_ok, packet_ok, weighed, tally_of};
 ghost use Rattle.engine.specs.Sizes.{PACKETS};
 
 use crate::ring::next_cell;
@@ -13,7 +13,7 @@ use refusal::both;
 use seq::Seq;
 
 // What a pass has found: whether all was well, and the sums.
-#[derive(Drop)]
+#[derive(Clone, Copy)]
 pub struct Tally {
     pub ok: bool,
     pub on: [u32; SLOTS],
@@ -23,14 +23,14 @@ pub struct Tally {
 }
 
 pub fn is_data(msg: ReliableMsg) -> bool
-    ensures { result ≡ isData msg }
+    ensures { result ≡ is_data msg }
 {
     msg.kind() == LinkMsg::MSG_DATA
 }
 
 // Whether a message may have a length: only Data has bytes, and at most 1,024.
 pub fn length_ok(msg: ReliableMsg, len: usize) -> bool
-    ensures { result ≡ lengthOk msg len }
+    ensures { result ≡ length_ok msg len }
 {
     if len == 0 {
         return true;
@@ -39,7 +39,7 @@ pub fn length_ok(msg: ReliableMsg, len: usize) -> bool
 }
 
 pub fn is_sent(status: SentReliableStatus) -> bool
-    ensures { result ≡ isSent status }
+    ensures { result ≡ is_sent status }
 {
     match status {
         SentReliableStatus::Sent(_) => true,
@@ -49,7 +49,7 @@ pub fn is_sent(status: SentReliableStatus) -> bool
 }
 
 pub fn is_received(status: SentReliableStatus) -> bool
-    ensures { result ≡ isReceived status }
+    ensures { result ≡ is_received status }
 {
     match status {
         SentReliableStatus::Sent(_) => false,
@@ -59,7 +59,7 @@ pub fn is_received(status: SentReliableStatus) -> bool
 }
 
 pub fn is_queued(status: SentReliableStatus) -> bool
-    ensures { result ≡ isQueued status }
+    ensures { result ≡ is_queued status }
 {
     match status {
         SentReliableStatus::Sent(_) => false,
@@ -69,7 +69,7 @@ pub fn is_queued(status: SentReliableStatus) -> bool
 }
 
 fn flushed_ok(flushed: Flushed, time: u64) -> bool
-    ensures { result ≡ flushedOk flushed time }
+    ensures { result ≡ flushed_ok flushed time }
 {
     match flushed {
         Flushed::Unflushed => true,
@@ -79,7 +79,7 @@ fn flushed_ok(flushed: Flushed, time: u64) -> bool
 
 // Whether a packet's status is well; `next` is the number that the resend queue has next.
 fn status_ok(status: SentReliableStatus, seq: Seq, next: Seq, roster: Roster, time: u64) -> bool
-    ensures { result ≡ statusOk status seq next roster time }
+    ensures { result ≡ status_ok status seq next roster time }
 {
     match status {
         SentReliableStatus::Sent(flight) => {
@@ -94,7 +94,7 @@ fn status_ok(status: SentReliableStatus, seq: Seq, next: Seq, roster: Roster, ti
 }
 
 pub fn packet_ok(p: SentReliable, n: Seq, next: Seq, roster: Roster, time: u64) -> bool
-    ensures { result ≡ packetOk p n next roster time }
+    ensures { result ≡ packet_ok p n next roster time }
 {
     let seq = p.seq;
     let msg = p.msg;

@@ -1,6 +1,6 @@
 // The resend queue, made anew from the table wherever a packet's status changed.
 ghost use Rattle.std.specs.Prelude.{◌≡◌, ◌<◌, ◌≤◌, ◌++◌, length, drop};
-ghost use Rattle.engine.specs.Packets.{packets, queuedOf};
+ghost use Rattle.engine.specs.Packets.{packets, queued_of};
 ghost use Rattle.engine.specs.Queue.{put_in, requeued};
 ghost use Rattle.engine.specs.Sizes.{PACKETS};
 
@@ -12,7 +12,7 @@ use crate::table::first_cell;
 use seq::Seq;
 
 // The numbers gathered so far: the first count of these.
-#[derive(Drop)]
+#[derive(Clone, Copy)]
 struct Gathered {
     numbers: [Seq; PACKETS],
     count: usize,
@@ -38,8 +38,8 @@ fn put(g: Gathered, p: SentReliable) -> Gathered
 // The numbers of the ResendQueued packets, oldest first, over the old queue.
 fn gather(tx: Sending) -> Gathered
     requires { tx.txed_count ≤ PACKETS }
-    ensures numbers_value { result.numbers ≡ queuedOf (packets tx) ++ drop (length (queuedOf (packets tx))) tx.resend_queue }
-    ensures count_value { result.count ≡ length (queuedOf (packets tx)) }
+    ensures numbers_value { result.numbers ≡ queued_of (packets tx) ++ drop (length (queued_of (packets tx))) tx.resend_queue }
+    ensures count_value { result.count ≡ length (queued_of (packets tx)) }
 {
     let numbers = tx.resend_queue;
     let mut g = Gathered { numbers, count: 0 };

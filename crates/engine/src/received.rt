@@ -1,7 +1,7 @@
 // One pass over the records in use gathers what Sound asks of them.
 ghost use Rattle.std.specs.Prelude.{◌≡◌, length};
 ghost use Rattle.engine.specs.Received.{table_of};
-ghost use Rattle.engine.specs.CellTally.{Lent, Judged, cellOk, wordOk, recordsFine, newestOk, foundRecords};
+ghost use Rattle.engine.specs.CellTally.{Lent, Judged, cell_ok, word_ok, records_fine, newest_ok, found_records};
 
 use crate::packets::length_ok;
 use crate::records::{held_of, is_data_record, is_full, is_ready_kind, is_record, length_in};
@@ -11,7 +11,7 @@ use refusal::both;
 
 // Whether a cell is well: k numbers past the oldest, where the next expected is `expected` past it.
 fn cell_ok(held: Held, k: usize, expected: usize) -> bool
-    ensures { result ≡ cellOk held k expected }
+    ensures { result ≡ cell_ok held k expected }
 {
     match held {
         Held::Nothing => {
@@ -35,7 +35,7 @@ fn cell_ok(held: Held, k: usize, expected: usize) -> bool
 
 // Whether a record is well, by what it says.
 fn any_ok(word: u64, k: usize, expected: usize) -> bool
-    ensures { result ≡ wordOk word k expected }
+    ensures { result ≡ word_ok word k expected }
 {
     let held = held_of(word);
     both(is_record(word), cell_ok(held, k, expected))
@@ -43,7 +43,7 @@ fn any_ok(word: u64, k: usize, expected: usize) -> bool
 
 // .. where a Data is told first, by its word alone, since most records are a Data's.
 fn record_ok(word: u64, k: usize, expected: usize) -> bool
-    ensures { result ≡ wordOk word k expected }
+    ensures { result ≡ word_ok word k expected }
 {
     if is_data_record(word) {
         if k != expected {
@@ -57,7 +57,7 @@ fn record_ok(word: u64, k: usize, expected: usize) -> bool
 // at 2^32, which a table that is well cannot reach.
 fn records_ok(rx: Receiving, records: &[u64]) -> bool
     requires { Judged rx (length records.now) }
-    ensures { result ≡ recordsFine (table_of rx records.now) }
+    ensures { result ≡ records_fine (table_of rx records.now) }
 {
     let cells = rx.cells;
     let oldest = rx.rx_oldest;
@@ -81,7 +81,7 @@ fn records_ok(rx: Receiving, records: &[u64]) -> bool
 // Whether the last cell in use holds a message, where any is in use from the next expected number on.
 fn newest_ok(rx: Receiving, records: &[u64]) -> bool
     requires { Lent rx (length records.now) }
-    ensures { result ≡ newestOk rx.cells (table_of rx records.now) }
+    ensures { result ≡ newest_ok rx.cells (table_of rx records.now) }
 {
     if rx.rx_end.eq(rx.rx_seq) {
         return true;
@@ -94,7 +94,7 @@ fn newest_ok(rx: Receiving, records: &[u64]) -> bool
 // What the pass finds.
 pub fn found_records(rx: Receiving, records: &[u64]) -> bool
     requires { Judged rx (length records.now) }
-    ensures { result ≡ foundRecords (table_of rx records.now) }
+    ensures { result ≡ found_records (table_of rx records.now) }
 {
     let fine = records_ok(rx, records);
     both(fine, newest_ok(rx, records))

@@ -1,12 +1,12 @@
 // Receiving a message.
 ghost use Rattle.std.specs.Prelude.{◌≡◌, ◌≤◌, [], length};
-ghost use Rattle.engine.specs.Receiving.{messageVerdict, lengthsOk, receiveVerdict, effectTx, Storing, repeatedState, effectState, receiveOf, receiveStore, receiveRecords};
+ghost use Rattle.engine.specs.Receiving.{message_verdict, lengths_ok, receive_verdict, effect_tx, Storing, repeated_state, effect_state, receive_of, receive_store, receive_records};
 ghost use Rattle.engine.specs.Received.{table_of};
 ghost use Rattle.engine.specs.CellTally.{Lent};
-ghost use Rattle.engine.specs.Cells.{storedIn};
+ghost use Rattle.engine.specs.Cells.{stored_in};
 ghost use Rattle.msg.specs.Reliable.{count_of};
-ghost use Rattle.refusal.specs.Answers.{toldBy};
-ghost use Rattle.engine.specs.Answer.{outcomeTold};
+ghost use Rattle.refusal.specs.Answers.{told_by};
+ghost use Rattle.engine.specs.Answer.{outcome_told};
 
 use crate::answer::{Changed, Outcome};
 use crate::cells::{advance, is_repeat, near_oldest, open_cells};
@@ -33,7 +33,7 @@ fn message_verdict(
     len: usize,
 ) -> Verdict
     requires { Lent s.rx (length records.now) }
-    ensures { result ≡ messageVerdict s records.now slot msg seq.0 len }
+    ensures { result ≡ message_verdict s records.now slot msg seq.0 len }
 {
     let rx = s.rx;
     let again = is_repeat(rx, records, seq);
@@ -54,7 +54,7 @@ fn message_verdict(
 
 // Whether the received store and the record space have the lengths that the state's cell count asks for.
 pub fn lengths_ok(rx: Receiving, store: usize, records: usize) -> bool
-    ensures { result ≡ lengthsOk rx store records }
+    ensures { result ≡ lengths_ok rx store records }
 {
     let cells = rx.cells as usize;
     both(store == cells * DATA_BYTES, records == cells)
@@ -69,7 +69,7 @@ fn receive_verdict(
     seq: Seq,
     len: usize,
 ) -> Verdict
-    ensures { result ≡ receiveVerdict s store records.now slot msg seq.0 len }
+    ensures { result ≡ receive_verdict s store records.now slot msg seq.0 len }
 {
     if !lengths_ok(s.rx, store, records.len()) {
         return Verdict::No(Refusal::StoreLength);
@@ -83,7 +83,7 @@ fn receive_verdict(
 // A new message's effect on the sending half, at once, even while it is held.
 fn effect_tx(tx: Sending, msg: ReliableMsg) -> Sending
     requires { count_of msg ≤ tx.txed_unconsumed }
-    ensures { result ≡ effectTx tx msg }
+    ensures { result ≡ effect_tx tx msg }
 {
     let kind = msg.kind();
     let mut out = tx;
@@ -102,8 +102,8 @@ pub fn store_message(
     len: u32,
 ) -> Receiving
     requires { Storing rx (length records.old) seq.0 len }
-    ensures value { result ≡ (storedIn rx.cells (table_of rx records.old) msg seq.0 len).rx }
-    ensures records_after { records.new ≡ (storedIn rx.cells (table_of rx records.old) msg seq.0 len).records }
+    ensures value { result ≡ (stored_in rx.cells (table_of rx records.old) msg seq.0 len).rx }
+    ensures records_after { records.new ≡ (stored_in rx.cells (table_of rx records.old) msg seq.0 len).records }
 {
     let end = open_cells(rx, records, seq);
     let at = cell_at(rx.cells, seq);
@@ -116,7 +116,7 @@ pub fn store_message(
 
 // A repeat adds an ack and nothing else.
 fn repeated_state(s: State, slot: u8, seq: Seq) -> State
-    ensures { result ≡ repeatedState s slot seq.0 }
+    ensures { result ≡ repeated_state s slot seq.0 }
 {
     with_row(s, slot, row_of(s, slot).queue_ack(seq))
 }
@@ -124,7 +124,7 @@ fn repeated_state(s: State, slot: u8, seq: Seq) -> State
 // The ack, the effect, and the receiving half as the table left it.
 fn received_state(s: State, slot: u8, msg: ReliableMsg, seq: Seq, rx: Receiving) -> State
     requires { count_of msg ≤ s.tx.txed_unconsumed }
-    ensures { result ≡ effectState s slot msg seq.0 rx }
+    ensures { result ≡ effect_state s slot msg seq.0 rx }
 {
     let tx = s.tx;
     let mut out = with_row(s, slot, row_of(s, slot).queue_ack(seq));
@@ -143,10 +143,10 @@ pub fn receive(
     seq: Seq,
     payload: &[u8],
 ) -> Changed
-    ensures value { result ≡ receiveOf s (length store.old) records.old slot msg seq.0 (length payload.now) }
-    ensures outcome_value { outcomeTold result.outcome ≡ toldBy (receiveVerdict s (length store.old) records.old slot msg seq.0 (length payload.now)) [] }
-    ensures store_after { store.new ≡ receiveStore s store.old records.old slot msg seq.0 payload.now }
-    ensures records_after { records.new ≡ receiveRecords s (length store.old) records.old slot msg seq.0 (length payload.now) }
+    ensures value { result ≡ receive_of s (length store.old) records.old slot msg seq.0 (length payload.now) }
+    ensures outcome_value { outcome_told result.outcome ≡ told_by (receive_verdict s (length store.old) records.old slot msg seq.0 (length payload.now)) [] }
+    ensures store_after { store.new ≡ receive_store s store.old records.old slot msg seq.0 payload.now }
+    ensures records_after { records.new ≡ receive_records s (length store.old) records.old slot msg seq.0 (length payload.now) }
 {
     let len = payload.len();
     let verdict = receive_verdict(s, store.len(), records, slot, msg, seq, len);
@@ -165,7 +165,7 @@ pub fn receive(
             }
             let start = cell_at(rx.cells, seq) * DATA_BYTES;
             let end = start + len;
-            bytes::copy(payload, &mut store[start..end]);
+            store[start..end].copy_from_slice(payload);
             let next = store_message(rx, records, msg, seq, len as u32);
             Changed {
                 outcome: Outcome::Done,

@@ -1,7 +1,7 @@
 // A cell's record: one word of the lent record space. 0 is an empty cell; else the word is a message's kind, 2^8 times its length and
 // 2^32 times its count.
 ghost use Rattle.std.specs.Prelude.{◌≡◌, ◌/◌, ◌%◌, true};
-ghost use Rattle.engine.specs.Records.{isFull, isReadyKind, heldBytes, heldAs, held_of, recordOf, RecordFits, DataRecord, isRecord, keptOf, keptRecord};
+ghost use Rattle.engine.specs.Records.{is_full, is_ready_kind, held_bytes, held_as, held_of, record_of, RecordFits, DataRecord, is_record, kept_of, kept_record};
 
 use crate::packets::is_data;
 use crate::sizes::DATA_BYTES;
@@ -13,7 +13,7 @@ use refusal::{both, either};
 const SHORTEST_DATA: u64 = LinkMsg::MSG_DATA as u64 + 0x100;
 
 pub fn is_full(held: Held) -> bool
-    ensures { result ≡ isFull held }
+    ensures { result ≡ is_full held }
 {
     match held {
         Held::Nothing => false,
@@ -22,7 +22,7 @@ pub fn is_full(held: Held) -> bool
 }
 
 pub fn held_bytes(held: Held) -> u32
-    ensures { result ≡ heldBytes held }
+    ensures { result ≡ held_bytes held }
 {
     match held {
         Held::Nothing => 0,
@@ -31,14 +31,14 @@ pub fn held_bytes(held: Held) -> u32
 }
 
 pub fn is_ready_kind(msg: ReliableMsg) -> bool
-    ensures { result ≡ isReadyKind msg }
+    ensures { result ≡ is_ready_kind msg }
 {
     either(is_data(msg), msg.kind() == LinkMsg::MSG_SEND_FINISH)
 }
 
 // The message of a kind, if it is one that cells hold.
 fn held_as(kind: u8, len: u32, count: u32) -> Held
-    ensures { result ≡ heldAs kind len count }
+    ensures { result ≡ held_as kind len count }
 {
     if kind == LinkMsg::MSG_DATA {
         return Held::Message(ReliableMsg::Data, len);
@@ -78,7 +78,7 @@ pub fn held_of(word: u64) -> Held
 // The record of what a cell holds.
 pub fn record_of(held: Held) -> u64
     requires { RecordFits held }
-    ensures { result ≡ recordOf held }
+    ensures { result ≡ record_of held }
 {
     match held {
         Held::Nothing => 0,
@@ -100,7 +100,7 @@ pub fn is_data_record(word: u64) -> bool
 
 // Whether a word is the record of what it says.
 pub fn is_record(word: u64) -> bool
-    ensures { result ≡ isRecord word }
+    ensures { result ≡ is_record word }
 {
     let held = held_of(word);
     record_of(held) == word
@@ -108,7 +108,7 @@ pub fn is_record(word: u64) -> bool
 
 // What stays in the cell of a message that is passed: Data and SendFinish become ready, any other leaves.
 fn kept(held: Held) -> Held
-    ensures { result ≡ keptOf held }
+    ensures { result ≡ kept_of held }
 {
     match held {
         Held::Nothing => held,
@@ -122,7 +122,7 @@ fn kept(held: Held) -> Held
 }
 
 pub fn kept_record(word: u64) -> u64
-    ensures { result ≡ keptRecord word }
+    ensures { result ≡ kept_record word }
 {
     let held = held_of(word);
     let stays = kept(held);

@@ -1,9 +1,9 @@
 // Resending a queued packet over another link.
 ghost use Rattle.std.specs.Prelude.{◌≡◌, [], ◌∷◌};
-ghost use Rattle.refusal.specs.Answers.{toldBy};
+ghost use Rattle.refusal.specs.Answers.{told_by};
 ghost use Rattle.msg.specs.Reliable.{kind_of, count_of};
-ghost use Rattle.engine.specs.Table.{lookedAt};
-ghost use Rattle.engine.specs.Resending.{lastLink, resendVerdict, resentState, resendTold, resendOf};
+ghost use Rattle.engine.specs.Table.{looked_at};
+ghost use Rattle.engine.specs.Resending.{last_link, resend_verdict, resent_state, resend_told, resend_of};
 
 use crate::gates::timed_verdict;
 use crate::packets::is_queued;
@@ -15,14 +15,14 @@ use msg::ReliableMsg;
 use refusal::{Refusal, Verdict, both, gate};
 use seq::Seq;
 
-#[derive(Drop)]
+#[derive(Clone, Copy)]
 pub enum ResendAnswer {
     // the message, and the length of its data
     Message(ReliableMsg, u32),
     No(Refusal),
 }
 
-#[derive(Drop)]
+#[derive(Clone, Copy)]
 pub struct ResendResult {
     pub answer: ResendAnswer,
     pub state: State,
@@ -30,7 +30,7 @@ pub struct ResendResult {
 
 // The identity that a packet was last sent on.
 pub fn last_link(status: SentReliableStatus) -> u64
-    ensures { result ≡ lastLink status }
+    ensures { result ≡ last_link status }
 {
     match status {
         SentReliableStatus::Sent(flight) => flight.link,
@@ -40,7 +40,7 @@ pub fn last_link(status: SentReliableStatus) -> u64
 }
 
 fn resend_verdict(s: State, slot: u8, time: u64, seq: Seq) -> Verdict
-    ensures { result ≡ resendVerdict s slot time seq.0 }
+    ensures { result ≡ resend_verdict s slot time seq.0 }
 {
     let tx = s.tx;
     let held = in_table(tx, seq);
@@ -55,8 +55,8 @@ fn resend_verdict(s: State, slot: u8, time: u64, seq: Seq) -> Verdict
 }
 
 fn resent_state(s: State, slot: u8, time: u64, seq: Seq) -> State
-    requires { resendVerdict s slot time seq.0 ≡ Verdict.Pass }
-    ensures { result ≡ resentState s slot time seq.0 }
+    requires { resend_verdict s slot time seq.0 ≡ Verdict.Pass }
+    ensures { result ≡ resent_state s slot time seq.0 }
 {
     let row = row_of(s, slot);
     let tx = s.tx;
@@ -73,8 +73,8 @@ fn resent_state(s: State, slot: u8, time: u64, seq: Seq) -> State
 
 // Puts a queued packet on another link.
 pub fn resend(s: State, slot: u8, time: u64, seq: Seq) -> ResendResult
-    ensures value { result ≡ resendOf s slot time seq.0 }
-    ensures answer_value { resendTold result.answer ≡ toldBy (resendVerdict s slot time seq.0) (kind_of (lookedAt s.tx seq.0).msg ∷ count_of (lookedAt s.tx seq.0).msg ∷ (lookedAt s.tx seq.0).len ∷ []) }
+    ensures value { result ≡ resend_of s slot time seq.0 }
+    ensures answer_value { resend_told result.answer ≡ told_by (resend_verdict s slot time seq.0) (kind_of (looked_at s.tx seq.0).msg ∷ count_of (looked_at s.tx seq.0).msg ∷ (looked_at s.tx seq.0).len ∷ []) }
 {
     let verdict = resend_verdict(s, slot, time, seq);
     match verdict {

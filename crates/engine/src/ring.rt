@@ -1,12 +1,12 @@
 // Going round a table.
 ghost use Rattle.std.specs.Prelude.{◌≡◌, ◌%◌, ◌<◌};
-ghost use Rattle.engine.specs.Ring.{nextCell};
+ghost use Rattle.engine.specs.Ring.{next_cell};
 
 use seq::Seq;
 
 // The cell after another of so many cells, going round. The sum goes round too, so that one test is enough.
 pub fn next_cell(cells: usize, at: usize) -> usize
-    ensures { result ≡ nextCell cells at }
+    ensures { result ≡ next_cell cells at }
 {
     let next = std::num::wrapping_add_usize(at, 1);
     if next < cells { next } else { 0 }

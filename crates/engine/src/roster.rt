@@ -1,11 +1,11 @@
 // Who lives in which slot: what the tests of identities look at, so that they need not carry whole rows.
 ghost use Rattle.std.specs.Prelude.{◌≡◌};
-ghost use Rattle.engine.specs.Roster.{rosterOf, livesIn, livesBefore};
+ghost use Rattle.engine.specs.Roster.{roster_of, lives_in, lives_before};
 
 use crate::sizes::SLOTS;
 use link::LinkRow;
 
-#[derive(Drop)]
+#[derive(Clone, Copy)]
 pub struct Roster {
     pub live: [bool; SLOTS],
     pub ids: [u64; SLOTS],
@@ -13,7 +13,7 @@ pub struct Roster {
 
 impl Roster {
     pub fn of(links: [LinkRow; SLOTS]) -> Roster
-        ensures { result ≡ rosterOf links }
+        ensures { result ≡ roster_of links }
     {
         Roster {
             live: [
@@ -41,7 +41,7 @@ impl Roster {
 
     // Whether a slot holds a live link with the identity.
     pub fn lives_in(self, slot: usize, id: u64) -> bool
-        ensures { result ≡ livesIn self slot id }
+        ensures { result ≡ lives_in self slot id }
     {
         if SLOTS <= slot {
             return false;
@@ -55,7 +55,7 @@ impl Roster {
 
     // Whether one of the first n slots holds a live link with the identity.
     pub fn lives_before(self, n: usize, id: u64) -> bool
-        ensures { result ≡ livesBefore self n id }
+        ensures { result ≡ lives_before self n id }
     {
         let mut left = n;
         while 0 < left {

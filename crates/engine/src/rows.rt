@@ -1,7 +1,7 @@
 // The rows inside the state, and the tests that every call with a slot or a time makes.
 ghost use Rattle.std.specs.Prelude.{◌≡◌};
-ghost use Rattle.engine.specs.Rows.{row_of, slotOk, timeOk};
-ghost use Rattle.engine.specs.Fields.{with_row, withTime};
+ghost use Rattle.engine.specs.Rows.{row_of, slot_ok, time_ok};
+ghost use Rattle.engine.specs.Fields.{with_row, with_time};
 
 use crate::sizes::SLOT_END;
 use crate::state::State;
@@ -22,7 +22,7 @@ pub fn row_of(s: State, slot: u8) -> LinkRow
 
 // Whether a slot holds a link.
 pub(crate) fn slot_ok(s: State, slot: u8) -> bool
-    ensures { result ≡ slotOk s slot }
+    ensures { result ≡ slot_ok s slot }
 {
     if SLOT_END <= slot {
         return false;
@@ -33,7 +33,7 @@ pub(crate) fn slot_ok(s: State, slot: u8) -> bool
 
 // Whether a time is neither before the last accepted one nor too late.
 pub(crate) fn time_ok(s: State, time: u64) -> bool
-    ensures { result ≡ timeOk s time }
+    ensures { result ≡ time_ok s time }
 {
     both(s.time <= time, time <= MAX_TIME)
 }
@@ -52,7 +52,7 @@ pub(crate) fn with_row(s: State, slot: u8, row: LinkRow) -> State
 }
 
 pub(crate) fn with_time(s: State, time: u64) -> State
-    ensures { result ≡ withTime s time }
+    ensures { result ≡ with_time s time }
 {
     let mut out = s;
     out.time = time;

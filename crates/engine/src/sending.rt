@@ -1,7 +1,7 @@
 // Sending a message.
 ghost use Rattle.std.specs.Prelude.{◌≡◌, ◌+◌, ◌^◌, ◌<◌, ◌≤◌, [], ◌∷◌, length};
-ghost use Rattle.engine.specs.Sending.{openOk, toldOk, totalsOk, sendVerdict, sentTx, toldRx, Room, sentState, sendTold, sendOf, sendStore};
-ghost use Rattle.refusal.specs.Answers.{toldBy};
+ghost use Rattle.engine.specs.Sending.{open_ok, told_ok, totals_ok, send_verdict, sent_tx, told_rx, Room, sent_state, send_told, send_of, send_store};
+ghost use Rattle.refusal.specs.Answers.{told_by};
 ghost use Rattle.engine.specs.Sizes.{PACKETS};
 ghost use Rattle.msg.specs.Reliable.{count_of};
 
@@ -16,13 +16,13 @@ use msg::{LinkMsg, ReliableMsg};
 use refusal::{Refusal, Verdict, both, either, gate};
 use seq::Seq;
 
-#[derive(Drop)]
+#[derive(Clone, Copy)]
 pub enum SendAnswer {
     Number(Seq),
     No(Refusal),
 }
 
-#[derive(Drop)]
+#[derive(Clone, Copy)]
 pub struct SendResult {
     pub answer: SendAnswer,
     pub state: State,
@@ -30,14 +30,14 @@ pub struct SendResult {
 
 // Whether a message may be given at all: no more data after the end of sending.
 pub fn open_ok(finished: bool, msg: ReliableMsg) -> bool
-    ensures { result ≡ openOk finished msg }
+    ensures { result ≡ open_ok finished msg }
 {
     either(!finished, !is_ready_kind(msg))
 }
 
 // Whether a Consumed tells of bytes that were taken and not told yet.
 pub fn told_ok(msg: ReliableMsg, untold: u32) -> bool
-    ensures { result ≡ toldOk msg untold }
+    ensures { result ≡ told_ok msg untold }
 {
     let n = msg.count();
     let some = either(msg.kind() != LinkMsg::MSG_CONSUMED, 1 <= n);
@@ -45,7 +45,7 @@ pub fn told_ok(msg: ReliableMsg, untold: u32) -> bool
 }
 
 fn totals_ok(s: State, slot: u8, msg: ReliableMsg, len: usize) -> bool
-    ensures { result ≡ totalsOk s slot msg len }
+    ensures { result ≡ totals_ok s slot msg len }
 {
     let unacked = sum_fits(s.tx.txed_unacked, len, MAX_TOTAL);
     let unconsumed = sum_fits(s.tx.txed_unconsumed, len, MAX_TOTAL);
@@ -62,7 +62,7 @@ fn send_verdict(
     msg: ReliableMsg,
     len: usize,
 ) -> Verdict
-    ensures { result ≡ sendVerdict s store slot time msg len }
+    ensures { result ≡ send_verdict s store slot time msg len }
 {
     let sound = is_sound(s);
     let timed = time_ok(s, time);
@@ -83,7 +83,7 @@ fn send_verdict(
 // The sending half with one packet more.
 fn sent_tx(tx: Sending, slot: u8, link: u64, time: u64, msg: ReliableMsg, len: u32) -> Sending
     requires { (tx.txed_count < PACKETS) × (tx.txed_unacked + len < 2 ^ 32) × (tx.txed_unconsumed + len < 2 ^ 32) }
-    ensures { result ≡ sentTx tx slot link time msg len }
+    ensures { result ≡ sent_tx tx slot link time msg len }
 {
     let seq = tx.tx_seq;
     let at = (seq.0 % PACKET_ROUND) as usize;
@@ -102,7 +102,7 @@ fn sent_tx(tx: Sending, slot: u8, link: u64, time: u64, msg: ReliableMsg, len: u
 
 fn told_rx(rx: Receiving, msg: ReliableMsg) -> Receiving
     requires { count_of msg ≤ rx.rxed_reliable_consumed }
-    ensures { result ≡ toldRx rx msg }
+    ensures { result ≡ told_rx rx msg }
 {
     let mut out = rx;
     out.rxed_reliable_consumed = rx.rxed_reliable_consumed - msg.count();
@@ -111,7 +111,7 @@ fn told_rx(rx: Receiving, msg: ReliableMsg) -> Receiving
 
 fn sent_state(s: State, slot: u8, time: u64, msg: ReliableMsg, len: u32) -> State
     requires { Room s slot msg len }
-    ensures { result ≡ sentState s slot time msg len }
+    ensures { result ≡ sent_state s slot time msg len }
 {
     let row = row_of(s, slot);
     let tx = s.tx;
@@ -133,9 +133,9 @@ pub fn send(
     msg: ReliableMsg,
     payload: &[u8],
 ) -> SendResult
-    ensures value { result ≡ sendOf s (length store.old) slot time msg (length payload.now) }
-    ensures answer_value { sendTold result.answer ≡ toldBy (sendVerdict s (length store.old) slot time msg (length payload.now)) (s.tx.tx_seq.0 ∷ []) }
-    ensures store_after { store.new ≡ sendStore s store.old slot time msg payload.now }
+    ensures value { result ≡ send_of s (length store.old) slot time msg (length payload.now) }
+    ensures answer_value { send_told result.answer ≡ told_by (send_verdict s (length store.old) slot time msg (length payload.now)) (s.tx.tx_seq.0 ∷ []) }
+    ensures store_after { store.new ≡ send_store s store.old slot time msg payload.now }
 {
     let len = payload.len();
     let verdict = send_verdict(s, store.len(), slot, time, msg, len);
@@ -148,7 +148,7 @@ pub fn send(
             let seq = s.tx.tx_seq;
             let start = (seq.0 % PACKET_ROUND) as usize * DATA_BYTES;
             let end = start + len;
-            bytes::copy(payload, &mut store[start..end]);
+            store[start..end].copy_from_slice(payload);
             let next = sent_state(s, slot, time, msg, len as u32);
             SendResult {
                 answer: SendAnswer::Number(seq),

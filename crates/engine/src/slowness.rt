@@ -1,7 +1,7 @@
 // Which links of a lent run of rows are listed as slow.
 ghost use Rattle.std.specs.Prelude.{◌≡◌, ◌<◌, []};
-ghost use Rattle.engine.specs.Slowness.{slowIfConfirmed, allSlow, overSlots, listedIn, noteIn, slowSlots, slowOf, slowVerdict, slowTold, slowLinksOf};
-ghost use Rattle.refusal.specs.Answers.{toldBy};
+ghost use Rattle.engine.specs.Slowness.{slow_if_confirmed, all_slow, over_slots, listed_in, note_in, slow_slots, slow_of, slow_verdict, slow_told, slow_links_of};
+ghost use Rattle.refusal.specs.Answers.{told_by};
 ghost use Rattle.engine.specs.Sizes.{SLOTS};
 
 use crate::sizes::{SLOT_END, SLOTS};
@@ -9,7 +9,7 @@ use link::LinkRow;
 use refusal::{Refusal, both};
 
 // The slots that are listed, lowest first: the first count of these. The places past them are 0.
-#[derive(Drop)]
+#[derive(Clone, Copy)]
 pub struct SlowLinks {
     pub slots: [u8; SLOTS],
     pub count: usize,
@@ -17,7 +17,7 @@ pub struct SlowLinks {
 
 // Whether a row, if it is a confirmed link, is slow.
 fn is_slow_if_confirmed(row: LinkRow) -> bool
-    ensures { result ≡ slowIfConfirmed row }
+    ensures { result ≡ slow_if_confirmed row }
 {
     if row.is_confirmed() {
         row.is_slow()
@@ -28,7 +28,7 @@ fn is_slow_if_confirmed(row: LinkRow) -> bool
 
 // Whether every confirmed link is slow.
 fn all_slow(rows: [LinkRow; SLOTS]) -> bool
-    ensures { result ≡ allSlow rows }
+    ensures { result ≡ all_slow rows }
 {
     let mut i: usize = 0;
     while i < SLOTS {
@@ -42,7 +42,7 @@ fn all_slow(rows: [LinkRow; SLOTS]) -> bool
 }
 
 fn none_listed() -> SlowLinks
-    ensures { result ≡ listedIn [] }
+    ensures { result ≡ listed_in [] }
 {
     SlowLinks {
         slots: [0; SLOTS],
@@ -53,7 +53,7 @@ fn none_listed() -> SlowLinks
 // What was found, with a slot behind the others where its link is confirmed and above its max_ping.
 fn note(found: SlowLinks, slot: u8, row: LinkRow) -> SlowLinks
     requires { found.count < SLOTS }
-    ensures { result ≡ noteIn found slot row }
+    ensures { result ≡ note_in found slot row }
 {
     let confirmed = row.is_confirmed();
     let above = row.is_above_max_ping();
@@ -69,7 +69,7 @@ fn note(found: SlowLinks, slot: u8, row: LinkRow) -> SlowLinks
 
 // The slots of the confirmed links above their max_ping.
 fn list_over(rows: [LinkRow; SLOTS]) -> SlowLinks
-    ensures { result ≡ listedIn (overSlots 0 rows) }
+    ensures { result ≡ listed_in (over_slots 0 rows) }
 {
     let mut found = none_listed();
     let mut slot: u8 = 0;
@@ -84,7 +84,7 @@ fn list_over(rows: [LinkRow; SLOTS]) -> SlowLinks
 
 // The slow links among eight rows in slot order.
 pub fn slow_rows(rows: [LinkRow; SLOTS]) -> SlowLinks
-    ensures { result ≡ slowOf rows }
+    ensures { result ≡ slow_of rows }
 {
     if all_slow(rows) {
         return none_listed();
@@ -92,7 +92,7 @@ pub fn slow_rows(rows: [LinkRow; SLOTS]) -> SlowLinks
     list_over(rows)
 }
 
-#[derive(Drop)]
+#[derive(Clone, Copy)]
 pub enum SlowAnswer {
     Listed(SlowLinks),
     No(Refusal),
@@ -100,7 +100,7 @@ pub enum SlowAnswer {
 
 // The slow links of a lent run of rows, which is to be eight long. The answer and what it tells are one clause: the proof is by hand.
 pub fn slow(rows: &[LinkRow]) -> SlowAnswer
-    ensures { (result ≡ slowLinksOf rows.now) × (slowTold result ≡ toldBy (slowVerdict rows.now) (slowSlots rows.now)) }
+    ensures { (result ≡ slow_links_of rows.now) × (slow_told result ≡ told_by (slow_verdict rows.now) (slow_slots rows.now)) }
 {
     if rows.len() != SLOTS {
         return SlowAnswer::No(Refusal::Slot);

@@ -1,8 +1,8 @@
 // Whether a state is sound: what refusal 1 asks of the state handed in.
 ghost use Rattle.std.specs.Prelude.{◌≡◌, ◌≤◌};
-ghost use Rattle.engine.specs.CellCount.{isCellCount};
-ghost use Rattle.engine.specs.Decide.{soundb, soundWithb};
-ghost use Rattle.engine.specs.Found.{firstOk, rowOk, rows_from, distinctBelow, receivingb, foundSound};
+ghost use Rattle.engine.specs.CellCount.{is_cell_count};
+ghost use Rattle.engine.specs.Decide.{soundb, sound_withb};
+ghost use Rattle.engine.specs.Found.{first_ok, row_ok, rows_from, distinct_below, receivingb, found_sound};
 ghost use Rattle.engine.specs.Sizes.{SLOTS, PACKETS};
 
 use crate::packets::{is_received, tallied};
@@ -18,7 +18,7 @@ use refusal::{both, either};
 // The first packet isn't Received.
 fn first_ok(tx: Sending) -> bool
     requires { tx.txed_count ≤ PACKETS }
-    ensures { result ≡ firstOk tx }
+    ensures { result ≡ first_ok tx }
 {
     if tx.txed_count == 0 {
         return true;
@@ -31,7 +31,7 @@ fn first_ok(tx: Sending) -> bool
 
 // A link's unacked bytes are the sum of its Sent data, and its counts and times within their sizes. An empty slot has no link.
 pub fn row_ok(row: LinkRow, sum: u32, time: u64) -> bool
-    ensures { result ≡ rowOk row sum time }
+    ensures { result ≡ row_ok row sum time }
 {
     if !row.live {
         return true;
@@ -55,7 +55,7 @@ fn rows_ok(links: [LinkRow; SLOTS], on: [u32; SLOTS], time: u64) -> bool
 
 // No identity lives twice: nobody below a live slot has its identity.
 fn distinct(roster: Roster) -> bool
-    ensures { result ≡ distinctBelow roster SLOTS }
+    ensures { result ≡ distinct_below roster SLOTS }
 {
     let mut left: usize = SLOTS;
     while 0 < left {
@@ -71,7 +71,7 @@ fn distinct(roster: Roster) -> bool
 
 // "64 cells times a power of two, up to 65,536 cells". 64 is told first, since most tables have as many.
 pub fn is_cell_count(cells: u32) -> bool
-    ensures { result ≡ isCellCount cells }
+    ensures { result ≡ is_cell_count cells }
 {
     if cells == 64 {
         return true;
@@ -107,7 +107,7 @@ pub fn receiving_ok(rx: Receiving) -> bool
 
 // What the passes find. A count above PACKETS is told first: a pass goes through as many packets as the count says.
 fn found_sound(s: State) -> bool
-    ensures { result ≡ foundSound s }
+    ensures { result ≡ found_sound s }
 {
     let tx = s.tx;
     let rx = s.rx;
@@ -143,7 +143,7 @@ pub fn is_sound(s: State) -> bool
 
 // Whether the state is sound with these records.
 pub fn is_sound_with(s: State, records: &[u64]) -> bool
-    ensures { result ≡ soundWithb s records.now }
+    ensures { result ≡ sound_withb s records.now }
 {
     let rx = s.rx;
     if !is_sound(s) {

@@ -1,8 +1,8 @@
 // The fresh state.
 ghost use Rattle.std.specs.Prelude.{◌≡◌, [], length, replicate};
-ghost use Rattle.refusal.specs.Answers.{toldBy};
-ghost use Rattle.engine.specs.Answer.{outcomeTold};
-ghost use Rattle.engine.specs.Starting.{freshTx, freshRx, freshState, freshVerdict, fresh_of, freshRecords, RefusedUnsound};
+ghost use Rattle.refusal.specs.Answers.{told_by};
+ghost use Rattle.engine.specs.Answer.{outcome_told};
+ghost use Rattle.engine.specs.Starting.{fresh_tx, fresh_rx, fresh_state, fresh_verdict, fresh_of, fresh_records, RefusedUnsound};
 
 use crate::answer::{Changed, Outcome};
 use crate::sizes::{DATA_BYTES, PACKETS, SLOTS};
@@ -14,7 +14,7 @@ use refusal::{Refusal, Verdict, both, gate};
 use seq::Seq;
 
 fn fresh_tx(start: Seq) -> Sending
-    ensures { result ≡ freshTx start.0 }
+    ensures { result ≡ fresh_tx start.0 }
 {
     let status = SentReliableStatus::Sent(InFlight::new(0, 0, 0, false));
     let none = SentReliable::new(Seq::ZERO, ReliableMsg::Data, 0, status);
@@ -34,7 +34,7 @@ fn fresh_tx(start: Seq) -> Sending
 }
 
 fn fresh_rx(start: Seq, recv_buffer: u32, cells: u32) -> Receiving
-    ensures { result ≡ freshRx start.0 recv_buffer cells }
+    ensures { result ≡ fresh_rx start.0 recv_buffer cells }
 {
     Receiving {
         rx_seq: start,
@@ -48,7 +48,7 @@ fn fresh_rx(start: Seq, recv_buffer: u32, cells: u32) -> Receiving
 }
 
 fn fresh_state(start: Seq, recv_buffer: u32, cells: u32) -> State
-    ensures { result ≡ freshState start.0 recv_buffer cells }
+    ensures { result ≡ fresh_state start.0 recv_buffer cells }
 {
     let empty = LinkRow::empty();
     State {
@@ -61,7 +61,7 @@ fn fresh_state(start: Seq, recv_buffer: u32, cells: u32) -> State
 }
 
 pub fn fresh_verdict(recv_buffer: u32, cells: u32, records: usize) -> Verdict
-    ensures { result ≡ freshVerdict recv_buffer cells records }
+    ensures { result ≡ fresh_verdict recv_buffer cells records }
 {
     let most = cells as usize * DATA_BYTES;
     let within = both(1 <= recv_buffer, recv_buffer as usize <= most);
@@ -88,9 +88,9 @@ pub fn empty_records(records: &mut [u64])
 // not sound, and every call refuses it.
 pub fn fresh(start: Seq, recv_buffer: u32, cells: u32, records: &mut [u64]) -> Changed
     ensures value { result ≡ fresh_of start.0 recv_buffer cells (length records.old) }
-    ensures outcome_value { outcomeTold result.outcome ≡ toldBy (freshVerdict recv_buffer cells (length records.old)) [] }
+    ensures outcome_value { outcome_told result.outcome ≡ told_by (fresh_verdict recv_buffer cells (length records.old)) [] }
     ensures refused_unsound { RefusedUnsound result }
-    ensures records_after { records.new ≡ freshRecords recv_buffer cells records.old }
+    ensures records_after { records.new ≡ fresh_records recv_buffer cells records.old }
 {
     let verdict = fresh_verdict(recv_buffer, cells, records.len());
     match verdict {

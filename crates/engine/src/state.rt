@@ -5,14 +5,14 @@ use msg::ReliableMsg;
 use seq::Seq;
 
 // When a packet was flushed.
-#[derive(Drop)]
+#[derive(Clone, Copy)]
 pub enum Flushed {
     Unflushed,
     FlushedAt(u64),
 }
 
 // A packet that was sent over a link, and is not acknowledged yet.
-#[derive(Drop)]
+#[derive(Clone, Copy)]
 pub struct InFlight {
     pub sent: u64,
     pub flushed: Flushed,
@@ -22,7 +22,7 @@ pub struct InFlight {
     pub resent: bool,
 }
 
-#[derive(Drop)]
+#[derive(Clone, Copy)]
 pub enum SentReliableStatus {
     Sent(InFlight),
     // Received by the other end.
@@ -32,7 +32,7 @@ pub enum SentReliableStatus {
 }
 
 // A packet of the table. The bytes of a Data are in the sent store, in the cell of its number.
-#[derive(Drop)]
+#[derive(Clone, Copy)]
 pub struct SentReliable {
     pub seq: Seq,
     pub msg: ReliableMsg,
@@ -41,14 +41,14 @@ pub struct SentReliable {
 }
 
 // What a receive cell holds: a message and its length. Its record, a word of the lent record space, says so (`records`).
-#[derive(Drop)]
+#[derive(Clone, Copy)]
 pub enum Held {
     Nothing,
     Message(ReliableMsg, u32),
 }
 
 // The sending half.
-#[derive(Drop)]
+#[derive(Clone, Copy)]
 pub struct Sending {
     // the number that the next message gets
     pub tx_seq: Seq,
@@ -72,7 +72,7 @@ pub struct Sending {
 }
 
 // The receiving half.
-#[derive(Drop)]
+#[derive(Clone, Copy)]
 pub struct Receiving {
     // the next expected number
     pub rx_seq: Seq,
@@ -89,7 +89,7 @@ pub struct Receiving {
     pub rx_end: Seq,
 }
 
-#[derive(Drop)]
+#[derive(Clone, Copy)]
 pub struct State {
     pub links: [LinkRow; SLOTS],
     pub tx: Sending,

@@ -1,7 +1,7 @@
 // The packet of a number in the table, and where the table starts.
 ghost use Rattle.std.specs.Prelude.{◌≡◌, ◌%◌, ◌<◌, ◌≤◌};
 ghost use Rattle.engine.specs.Packets.{first_of};
-ghost use Rattle.engine.specs.Table.{in_table, packetOf, withPacket};
+ghost use Rattle.engine.specs.Table.{in_table, packet_of, with_packet};
 ghost use Rattle.engine.specs.Sizes.{PACKETS};
 
 use crate::sizes::PACKET_ROUND;
@@ -29,7 +29,7 @@ pub(crate) fn in_table(tx: Sending, seq: Seq) -> bool
 
 // What the number's cell holds.
 pub fn packet_of(tx: Sending, seq: Seq) -> SentReliable
-    ensures { result ≡ packetOf tx seq.0 }
+    ensures { result ≡ packet_of tx seq.0 }
 {
     let at = (seq.0 % PACKET_ROUND) as usize;
     tx.txed_packets[at]
@@ -37,7 +37,7 @@ pub fn packet_of(tx: Sending, seq: Seq) -> SentReliable
 
 // The table with another packet in the number's cell.
 pub(crate) fn with_packet(tx: Sending, seq: Seq, p: SentReliable) -> Sending
-    ensures { result ≡ withPacket tx seq.0 p }
+    ensures { result ≡ with_packet tx seq.0 p }
 {
     let at = (seq.0 % PACKET_ROUND) as usize;
     let mut out = tx;

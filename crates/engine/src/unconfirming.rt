@@ -1,11 +1,11 @@
 // Unconfirming a link, and removing one.
 ghost use Rattle.std.specs.Prelude.{◌≡◌, ◌<◌, ◌≤◌, [], map};
-ghost use Rattle.refusal.specs.Answers.{toldBy};
-ghost use Rattle.engine.specs.Answer.{outcomeTold};
-ghost use Rattle.engine.specs.Gates.{slotVerdict};
+ghost use Rattle.refusal.specs.Answers.{told_by};
+ghost use Rattle.engine.specs.Answer.{outcome_told};
+ghost use Rattle.engine.specs.Gates.{slot_verdict};
 ghost use Rattle.engine.specs.Ring.{window, refilled};
-ghost use Rattle.engine.specs.Packets.{noPacket};
-ghost use Rattle.engine.specs.Unconfirming.{unconfirmedPacket, unconfirmedState, removedState, unconfirmOf, removeOf};
+ghost use Rattle.engine.specs.Packets.{no_packet};
+ghost use Rattle.engine.specs.Unconfirming.{unconfirmed_packet, unconfirmed_state, removed_state, unconfirm_of, remove_of};
 ghost use Rattle.engine.specs.Sizes.{PACKETS};
 
 use crate::answer::{Changed, Outcome};
@@ -21,7 +21,7 @@ use refusal::Verdict;
 
 // A packet Sent over the slot becomes ResendQueued, and remembers the identity.
 pub fn unconfirm_packet(p: SentReliable, slot: u8) -> SentReliable
-    ensures { result ≡ unconfirmedPacket slot p }
+    ensures { result ≡ unconfirmed_packet slot p }
 {
     let status = p.status;
     match status {
@@ -46,7 +46,7 @@ fn unconfirm_packets(
     slot: u8,
 ) -> [SentReliable; PACKETS]
     requires { (first < PACKETS) × (count ≤ PACKETS) }
-    ensures { result ≡ refilled PACKETS packets first (map (unconfirmedPacket slot) (window PACKETS noPacket packets first count)) }
+    ensures { result ≡ refilled PACKETS packets first (map (unconfirmed_packet slot) (window PACKETS no_packet packets first count)) }
 {
     let mut out = packets;
     let mut at = first;
@@ -63,7 +63,7 @@ fn unconfirm_packets(
 
 fn unconfirmed_state(s: State, slot: u8) -> State
     requires { s.tx.txed_count ≤ PACKETS }
-    ensures { result ≡ unconfirmedState s slot }
+    ensures { result ≡ unconfirmed_state s slot }
 {
     let row = row_of(s, slot).unconfirm();
     let mut tx = s.tx;
@@ -77,8 +77,8 @@ fn unconfirmed_state(s: State, slot: u8) -> State
 }
 
 pub fn unconfirm(s: State, slot: u8) -> Changed
-    ensures value { result ≡ unconfirmOf s slot }
-    ensures outcome_value { outcomeTold result.outcome ≡ toldBy (slotVerdict s slot) [] }
+    ensures value { result ≡ unconfirm_of s slot }
+    ensures outcome_value { outcome_told result.outcome ≡ told_by (slot_verdict s slot) [] }
 {
     let verdict = slot_verdict(s, slot);
     match verdict {
@@ -95,7 +95,7 @@ pub fn unconfirm(s: State, slot: u8) -> Changed
 
 fn removed_state(s: State, slot: u8) -> State
     requires { s.tx.txed_count ≤ PACKETS }
-    ensures { result ≡ removedState s slot }
+    ensures { result ≡ removed_state s slot }
 {
     let alone = unconfirmed_state(s, slot);
     with_row(alone, slot, LinkRow::empty())
@@ -103,8 +103,8 @@ fn removed_state(s: State, slot: u8) -> State
 
 // Removing unconfirms, then empties the slot.
 pub fn remove(s: State, slot: u8) -> Changed
-    ensures value { result ≡ removeOf s slot }
-    ensures outcome_value { outcomeTold result.outcome ≡ toldBy (slotVerdict s slot) [] }
+    ensures value { result ≡ remove_of s slot }
+    ensures outcome_value { outcome_told result.outcome ≡ told_by (slot_verdict s slot) [] }
 {
     let verdict = slot_verdict(s, slot);
     match verdict {

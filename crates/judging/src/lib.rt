@@ -1,5 +1,7 @@
 // Whether the words of a state are sound, judged where they stand: what `engine::is_sound` says of the state that they say, in one pass over the packets in
 // use, with neither the state nor a row's acks read.
+#![tactic(auto)]
+
 mod packet;
 mod pass;
 mod roster;

@@ -1,13 +1,13 @@
 // A packet judged by its words. What it says is read no further than the tests go.
 ghost use Rattle.std.specs.Prelude.{◌≡◌, ◌%◌, ◌<◌, length, slice_index_or};
-ghost use Rattle.seq.specs.Numbers.{seqOf};
-ghost use Rattle.engine.specs.Packets.{noPacket};
+ghost use Rattle.seq.specs.Numbers.{seq_of};
+ghost use Rattle.engine.specs.Packets.{no_packet};
 ghost use Rattle.engine.specs.Records.{held_of};
-ghost use Rattle.engine.specs.Roster.{rosterOf};
-ghost use Rattle.engine.specs.Tally.{flushedOk};
+ghost use Rattle.engine.specs.Roster.{roster_of};
+ghost use Rattle.engine.specs.Tally.{flushed_ok};
 ghost use Rattle.words.specs.Layout.{WORDS};
-ghost use Rattle.words.specs.Meaning.{flushedOf, packetOf, state_of};
-ghost use Rattle.judging.specs.Weights.{heldFine, flightFine, statusWeight, weightOf};
+ghost use Rattle.words.specs.Meaning.{flushed_of, packet_of, state_of};
+ghost use Rattle.judging.specs.Weights.{held_fine, flight_fine, status_weight, weight_of};
 
 use crate::roster::lives_in;
 use engine::packets::length_ok;
@@ -18,7 +18,7 @@ use words::layout::{PACKET, PACKETS_START};
 use words::queues::queued_at;
 
 // What a packet adds to the tally, by its status: its bytes, and a Sent one's slot. One that is not well ends the pass.
-#[derive(Drop)]
+#[derive(Clone, Copy)]
 pub enum Weight {
     Wrong,
     Flying(usize, u32),
@@ -28,7 +28,7 @@ pub enum Weight {
 
 // Data is told first, since most packets are.
 fn message_ok(word: u64) -> bool
-    ensures { result ≡ heldFine (held_of word) }
+    ensures { result ≡ held_fine (held_of word) }
 {
     if is_data_record(word) {
         return true;
@@ -41,7 +41,7 @@ fn message_ok(word: u64) -> bool
 }
 
 fn flushed_ok(some: u64, at: u64, time: u64) -> bool
-    ensures { result ≡ flushedOk (flushedOf some at) time }
+    ensures { result ≡ flushed_ok (flushed_of some at) time }
 {
     if some == 0 {
         return true;
@@ -52,7 +52,7 @@ fn flushed_ok(some: u64, at: u64, time: u64) -> bool
 // Whether a packet's flight is over a live link, and not later than the time.
 fn flight_ok(words: &[u64], part: &[u64], slot: usize, time: u64) -> bool
     requires { (length words.now ≡ WORDS) × (length part.now ≡ 8) }
-    ensures { result ≡ flightFine (rosterOf (state_of words.now).links) part.now slot time }
+    ensures { result ≡ flight_fine (roster_of (state_of words.now).links) part.now slot time }
 {
     if !lives_in(words, slot, part[4]) {
         return false;
@@ -66,7 +66,7 @@ fn flight_ok(words: &[u64], part: &[u64], slot: usize, time: u64) -> bool
 // What a packet adds whose number n and message are well. Sent, a tag of 1 or 2, is told first, since most packets are.
 fn status_in(words: &[u64], part: &[u64], n: Seq, queued: usize, time: u64) -> Weight
     requires { (length words.now ≡ WORDS) × (length part.now ≡ 8) }
-    ensures { result ≡ statusWeight part.now n (slice_index_or (state_of words.now).tx.resend_queue (queued % 64) (seqOf 0)) (rosterOf (state_of words.now).links) time }
+    ensures { result ≡ status_weight part.now n (slice_index_or (state_of words.now).tx.resend_queue (queued % 64) (seq_of 0)) (roster_of (state_of words.now).links) time }
 {
     let len = length_in(part[1]);
     let tag = part[2];
@@ -91,7 +91,7 @@ fn status_in(words: &[u64], part: &[u64], n: Seq, queued: usize, time: u64) -> W
 
 fn weight_in(words: &[u64], part: &[u64], n: Seq, queued: usize, time: u64) -> Weight
     requires { (length words.now ≡ WORDS) × (length part.now ≡ 8) }
-    ensures { result ≡ weightOf (packetOf part.now) n (slice_index_or (state_of words.now).tx.resend_queue (queued % 64) (seqOf 0)) (rosterOf (state_of words.now).links) time }
+    ensures { result ≡ weight_of (packet_of part.now) n (slice_index_or (state_of words.now).tx.resend_queue (queued % 64) (seq_of 0)) (roster_of (state_of words.now).links) time }
 {
     let seq = Seq((part[0] % 0x1_0000_0000) as u32);
     if !seq.eq(n) {
@@ -106,7 +106,7 @@ fn weight_in(words: &[u64], part: &[u64], n: Seq, queued: usize, time: u64) -> W
 // What the packet in a cell adds, which is to be the number n, with so many queued before it.
 pub(crate) fn weight_at(words: &[u64], at: usize, n: Seq, queued: usize, time: u64) -> Weight
     requires { (length words.now ≡ WORDS) × (at < 64) }
-    ensures { result ≡ weightOf (slice_index_or (state_of words.now).tx.txed_packets at noPacket) n (slice_index_or (state_of words.now).tx.resend_queue (queued % 64) (seqOf 0)) (rosterOf (state_of words.now).links) time }
+    ensures { result ≡ weight_of (slice_index_or (state_of words.now).tx.txed_packets at no_packet) n (slice_index_or (state_of words.now).tx.resend_queue (queued % 64) (seq_of 0)) (roster_of (state_of words.now).links) time }
 {
     let start = PACKETS_START + at * PACKET;
     let end = start + PACKET;

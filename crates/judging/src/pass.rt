@@ -1,8 +1,8 @@
 // One pass over the packets in use, which ends at the first that is not well.
 ghost use Rattle.std.specs.Prelude.{◌≡◌, length};
-ghost use Rattle.seq.specs.Numbers.{seqOf};
+ghost use Rattle.seq.specs.Numbers.{seq_of};
 ghost use Rattle.engine.specs.Packets.{first_of};
-ghost use Rattle.engine.specs.Roster.{rosterOf};
+ghost use Rattle.engine.specs.Roster.{roster_of};
 ghost use Rattle.engine.specs.Tally.{tally_of};
 ghost use Rattle.words.specs.Layout.{WORDS};
 ghost use Rattle.words.specs.Meaning.{state_of};
@@ -30,8 +30,8 @@ fn spoilt() -> Tally
 // The tally of the packets in use, `count` of them from the number `first` on. The sums stand apart while the pass runs, so that only those by
 // slot are kept in memory.
 pub(crate) fn tallied(words: &[u64], count: usize, first: Seq, time: u64) -> Tally
-    requires { (length words.now ≡ WORDS) × (count ≡ (state_of words.now).tx.txed_count) × (first ≡ seqOf (first_of (state_of words.now).tx)) × (time ≡ (state_of words.now).time) }
-    ensures { result ≡ clipped (tally_of (state_of words.now).tx (rosterOf (state_of words.now).links) (state_of words.now).time) }
+    requires { (length words.now ≡ WORDS) × (count ≡ (state_of words.now).tx.txed_count) × (first ≡ seq_of (first_of (state_of words.now).tx)) × (time ≡ (state_of words.now).time) }
+    ensures { result ≡ clipped (tally_of (state_of words.now).tx (roster_of (state_of words.now).links) (state_of words.now).time) }
 {
     let mut on = [0u32; SLOTS];
     let mut unacked: u32 = 0;

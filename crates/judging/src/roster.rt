@@ -1,8 +1,8 @@
 // Who lives in which slot, by the first two words of each row.
 ghost use Rattle.std.specs.Prelude.{◌≡◌, ◌<◌, length};
-ghost use Rattle.engine.specs.Roster.{rosterOf, livesIn, livesBefore};
-ghost use Rattle.engine.specs.Found.{distinctBelow};
-ghost use Rattle.engine.specs.Sound.{rowAt};
+ghost use Rattle.engine.specs.Roster.{roster_of, lives_in, lives_before};
+ghost use Rattle.engine.specs.Found.{distinct_below};
+ghost use Rattle.engine.specs.Sound.{row_at};
 ghost use Rattle.words.specs.Layout.{WORDS};
 ghost use Rattle.words.specs.Meaning.{state_of};
 
@@ -11,14 +11,14 @@ use words::layout::{ROW, ROWS};
 
 fn is_live(words: &[u64], slot: usize) -> bool
     requires { (length words.now ≡ WORDS) × (slot < 8) }
-    ensures { result ≡ (rowAt (state_of words.now) slot).live }
+    ensures { result ≡ (row_at (state_of words.now) slot).live }
 {
     words[ROWS + slot * ROW] != 0
 }
 
 fn id_of(words: &[u64], slot: usize) -> u64
     requires { (length words.now ≡ WORDS) × (slot < 8) }
-    ensures { result ≡ (rowAt (state_of words.now) slot).link_id }
+    ensures { result ≡ (row_at (state_of words.now) slot).link_id }
 {
     words[ROWS + slot * ROW + 1]
 }
@@ -26,7 +26,7 @@ fn id_of(words: &[u64], slot: usize) -> u64
 // Whether a slot holds a live link with the identity.
 pub(crate) fn lives_in(words: &[u64], slot: usize, id: u64) -> bool
     requires { length words.now ≡ WORDS }
-    ensures { result ≡ livesIn (rosterOf (state_of words.now).links) slot id }
+    ensures { result ≡ lives_in (roster_of (state_of words.now).links) slot id }
 {
     if SLOTS <= slot {
         return false;
@@ -40,7 +40,7 @@ pub(crate) fn lives_in(words: &[u64], slot: usize, id: u64) -> bool
 // Whether one of the first n slots holds a live link with the identity.
 fn lives_before(words: &[u64], n: usize, id: u64) -> bool
     requires { length words.now ≡ WORDS }
-    ensures { result ≡ livesBefore (rosterOf (state_of words.now).links) n id }
+    ensures { result ≡ lives_before (roster_of (state_of words.now).links) n id }
 {
     let mut left = n;
     while 0 < left {
@@ -55,7 +55,7 @@ fn lives_before(words: &[u64], n: usize, id: u64) -> bool
 // No identity lives twice: nobody below a live slot has its identity.
 pub(crate) fn distinct(words: &[u64]) -> bool
     requires { length words.now ≡ WORDS }
-    ensures { result ≡ distinctBelow (rosterOf (state_of words.now).links) 8 }
+    ensures { result ≡ distinct_below (roster_of (state_of words.now).links) 8 }
 {
     let mut left: usize = SLOTS;
     while 0 < left {

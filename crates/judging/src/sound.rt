@@ -1,12 +1,12 @@
 // The whole judgement.
 ghost use Rattle.std.specs.Prelude.{◌≡◌, length};
-ghost use Rattle.seq.specs.Numbers.{seqOf};
+ghost use Rattle.seq.specs.Numbers.{seq_of};
 ghost use Rattle.engine.specs.Packets.{first_of};
-ghost use Rattle.engine.specs.Decide.{soundb, soundWithb};
-ghost use Rattle.engine.specs.Found.{firstOk, rows_from, foundSound};
+ghost use Rattle.engine.specs.Decide.{soundb, sound_withb};
+ghost use Rattle.engine.specs.Found.{first_ok, rows_from, found_sound};
 ghost use Rattle.words.specs.Layout.{WORDS};
 ghost use Rattle.words.specs.Meaning.{state_of};
-ghost use Rattle.judging.specs.Words.{sumsOk, linksOk};
+ghost use Rattle.judging.specs.Words.{sums_ok, links_ok};
 
 use crate::pass::tallied;
 use crate::roster::distinct;
@@ -28,8 +28,8 @@ const RECEIVED: u64 = 3;
 
 // The first packet isn't Received: its tag alone is read.
 fn first_ok(words: &[u64], count: usize, first: Seq) -> bool
-    requires { (length words.now ≡ WORDS) × (count ≡ (state_of words.now).tx.txed_count) × (first ≡ seqOf (first_of (state_of words.now).tx)) }
-    ensures { result ≡ firstOk (state_of words.now).tx }
+    requires { (length words.now ≡ WORDS) × (count ≡ (state_of words.now).tx.txed_count) × (first ≡ seq_of (first_of (state_of words.now).tx)) }
+    ensures { result ≡ first_ok (state_of words.now).tx }
 {
     if count == 0 {
         return true;
@@ -56,7 +56,7 @@ fn rows_ok(words: &[u64], on: [u32; SLOTS], time: u64) -> bool
 // The sums of a pass are those that the words say.
 fn sums_ok(words: &[u64], t: Tally) -> bool
     requires { length words.now ≡ WORDS }
-    ensures { result ≡ sumsOk (state_of words.now).tx t }
+    ensures { result ≡ sums_ok (state_of words.now).tx t }
 {
     let tx = tx_of(words);
     if t.queued != tx.resend_count {
@@ -73,7 +73,7 @@ fn sums_ok(words: &[u64], t: Tally) -> bool
 
 fn links_ok(words: &[u64], on: [u32; SLOTS], time: u64) -> bool
     requires { length words.now ≡ WORDS }
-    ensures { result ≡ linksOk (state_of words.now).links on time }
+    ensures { result ≡ links_ok (state_of words.now).links on time }
 {
     if !rows_ok(words, on, time) {
         return false;
@@ -87,7 +87,7 @@ fn links_ok(words: &[u64], on: [u32; SLOTS], time: u64) -> bool
 // What the passes find. A count above PACKETS is told first: a pass goes through as many packets as the count says.
 fn found_sound(words: &[u64]) -> bool
     requires { length words.now ≡ WORDS }
-    ensures { result ≡ foundSound (state_of words.now) }
+    ensures { result ≡ found_sound (state_of words.now) }
 {
     let tx = tx_of(words);
     if PACKETS < tx.txed_count {
@@ -125,7 +125,7 @@ pub fn is_sound(words: &[u64]) -> bool
 
 // .. and sound with these records.
 pub fn is_sound_with(words: &[u64], records: &[u64]) -> bool
-    ensures { result ≡ soundWithb (state_of words.now) records.now }
+    ensures { result ≡ sound_withb (state_of words.now) records.now }
 {
     if !is_sound(words) {
         return false;

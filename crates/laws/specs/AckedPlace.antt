@@ -3,10 +3,10 @@
 use Rattle.std.specs.Prelude.{◌≡◌, ℕ, ◌^◌, ◌≤◌, ◌<◌}
 use Rattle.std.proofs.Common.{le-leb}
 use Rattle.refusal.specs.Tests.{join}
-use Rattle.seq.specs.Numbers.{seqOf}
+use Rattle.seq.specs.Numbers.{seq_of}
 use Rattle.seq.specs.Distance.{past}
 use Rattle.engine.specs.declared.state.State.{State}
-use Rattle.engine.specs.Table.{in_table, lookedAt}
+use Rattle.engine.specs.Table.{in_table, looked_at}
 use Rattle.engine.specs.InTable.{looked-number}
 use Rattle.engine.specs.Sound.{Sound, Shaped}
 
@@ -14,7 +14,7 @@ use Rattle.engine.specs.Sound.{Sound, Shaped}
 pub place-holds : (s : State) (a : ℕ) → Shaped s → a < 2 ^ 32 → Sound s
     → 1 ≤ past s.tx.tx_seq.0 a
     → past s.tx.tx_seq.0 a ≤ s.tx.txed_count
-    → (lookedAt s.tx a).seq ≡ seqOf a
+    → (looked_at s.tx a).seq ≡ seq_of a
 unfolding in_table
 place-holds s a shaped u32 sound low high =
     let back = past s.tx.tx_seq.0 a in

@@ -6,34 +6,34 @@ use Rattle.msg.specs.declared.reliable.ReliableMsg.{ReliableMsg}
 use Rattle.link.specs.declared.row.MaxPing.{MaxPing}
 use Rattle.link.specs.declared.timeout.AckTimeout.{AckTimeout}
 use Rattle.engine.specs.declared.state.State.{State}
-use Rattle.engine.specs.Links.{addOf, confirmOf, block_of, mark_of, pingOf, pongOf, addVerdict, lowestIn, AddPassed}
-use Rattle.engine.specs.Unconfirming.{unconfirmOf, removeOf, unconfirmedState, removedState}
-use Rattle.engine.specs.Sending.{sendOf, sendStore, sendVerdict, sentState, SendPassed}
-use Rattle.engine.specs.Flushing.{flushOf, flushedState}
-use Rattle.engine.specs.Resending.{resendOf, resendVerdict, resentState, ResendPassed}
-use Rattle.engine.specs.Acking.{ackVerdict, AckPassed, ackOf, ackedState}
-use Rattle.engine.specs.Receiving.{receiveOf, receiveStore, receiveRecords, receiveVerdict, repeatedState, storedTable, receivedState, ReceivePassed}
-use Rattle.engine.specs.Closing.{closeOf, closedState}
-use Rattle.engine.specs.Table.{lookedAt}
+use Rattle.engine.specs.Links.{add_of, confirm_of, block_of, mark_of, ping_of, pong_of, add_verdict, lowest_in, AddPassed}
+use Rattle.engine.specs.Unconfirming.{unconfirm_of, remove_of, unconfirmed_state, removed_state}
+use Rattle.engine.specs.Sending.{send_of, send_store, send_verdict, sent_state, SendPassed}
+use Rattle.engine.specs.Flushing.{flush_of, flushed_state}
+use Rattle.engine.specs.Resending.{resend_of, resend_verdict, resent_state, ResendPassed}
+use Rattle.engine.specs.Acking.{ack_verdict, AckPassed, ack_of, acked_state}
+use Rattle.engine.specs.Receiving.{receive_of, receive_store, receive_records, receive_verdict, repeated_state, stored_table, received_state, ReceivePassed}
+use Rattle.engine.specs.Closing.{close_of, closed_state}
+use Rattle.engine.specs.Table.{looked_at}
 use Rattle.engine.specs.Packets.{packets}
 use Rattle.msg.specs.Reliable.{kind_of, count_of}
-use Rattle.link.specs.Acks.{oldestAck}
-use Rattle.refusal.specs.Answers.{Told, toldBy, flag}
-use Rattle.engine.specs.HandingOut.{readyValues, ackIn, isDue, take_of, takeRecords, takeAckOf, readyOf, msgIn, dataLength, showVerdict, takeVerdict, takenTable, takenState, Taking, takeAckVerdict, takenAckState, TakeAckPassed}
-use Rattle.engine.specs.Deadlines.{firstSent, namedValues, confirmTimeoutVerdict}
+use Rattle.link.specs.Acks.{oldest_ack}
+use Rattle.refusal.specs.Answers.{Told, told_by, flag}
+use Rattle.engine.specs.HandingOut.{ready_values, ack_in, is_due, take_of, take_records, take_ack_of, ready_of, msg_in, data_length, show_verdict, take_verdict, taken_table, taken_state, Taking, take_ack_verdict, taken_ack_state, TakeAckPassed}
+use Rattle.engine.specs.Deadlines.{first_sent, named_values, confirm_timeout_verdict}
 use Rattle.refusal.specs.declared.verdict.Verdict.{Verdict}
 use Rattle.link.specs.declared.row.Limit.TheVariants.{At}
-use Rattle.link.specs.Row.{fresh_row, confirmed, blockedRow}
-use Rattle.link.specs.Limit.{markedRow}
+use Rattle.link.specs.Row.{fresh_row, confirmed, blocked_row}
+use Rattle.link.specs.Limit.{marked_row}
 use Rattle.link.specs.Roundtrip.{pinged, ponged}
-use Rattle.engine.specs.Gates.{stateVerdict, slotVerdict, timedVerdict, AtSlot, AtTime}
+use Rattle.engine.specs.Gates.{state_verdict, slot_verdict, timed_verdict, AtSlot, AtTime}
 use Rattle.engine.specs.Rows.{row_of}
-use Rattle.engine.specs.Stores.{cellStart, copied}
-use Rattle.engine.specs.Records.{heldBytes}
+use Rattle.engine.specs.Stores.{cell_start, copied}
+use Rattle.engine.specs.Records.{held_bytes}
 use Rattle.engine.specs.Received.{RxTable, table_of}
-use Rattle.engine.specs.Cells.{isRepeat}
+use Rattle.engine.specs.Cells.{is_repeat}
 use Rattle.engine.specs.Sizes.{PACKETS}
-use Rattle.engine.specs.Fields.{with_row, withTime}
+use Rattle.engine.specs.Fields.{with_row, with_time}
 use Rattle.refusal.specs.declared.verdict.Verdict.TheVariants as verdicts
 
 pub data Call : Type 0 where
@@ -56,8 +56,8 @@ pub record Holding : Type 0 where
   pub received : List ℕ
   pub records : List ℕ
 
-abbrev pub withState : Holding → State → Holding
-withState h s = record { state = s; sent = h.sent; received = h.received; records = h.records }
+abbrev pub with_state : Holding → State → Holding
+with_state h s = record { state = s; sent = h.sent; received = h.received; records = h.records }
 
 -- the receiving half with its records
 abbrev pub table : Holding → RxTable
@@ -65,29 +65,29 @@ table h = table_of h.state.rx h.records
 
 -- the refusals of each call, in the order of their numbers
 abbrev pub verdict : Call → Holding → Verdict
-verdict (Add id roundtrip max blocked unconfirmed) h = addVerdict h.state id roundtrip max
-verdict (Remove slot) h = slotVerdict h.state slot
-verdict (Confirm slot) h = slotVerdict h.state slot
-verdict (Unconfirm slot) h = slotVerdict h.state slot
-verdict (Block slot blocked) h = slotVerdict h.state slot
-verdict (Mark slot seq) h = slotVerdict h.state slot
-verdict (Ping slot time) h = timedVerdict h.state slot time verdicts.Pass
-verdict (Pong slot time) h = timedVerdict h.state slot time verdicts.Pass
-verdict (Flush slot time) h = timedVerdict h.state slot time verdicts.Pass
-verdict (Send slot time msg bytes) h = sendVerdict h.state (length h.sent) slot time msg (length bytes)
-verdict (Resend slot time n) h = resendVerdict h.state slot time n
-verdict (Ack slot time n) h = ackVerdict h.state slot time n
-verdict (Receive slot msg n bytes) h = receiveVerdict h.state (length h.received) h.records slot msg n (length bytes)
-verdict Show h = showVerdict h.state (length h.received) h.records
-verdict Take h = takeVerdict h.state h.records
-verdict Due h = stateVerdict h.state
-verdict Close h = stateVerdict h.state
-verdict (TakeAck slot) h = takeAckVerdict h.state slot
-verdict (EarliestConfirmTimeout timeout unreliable) h = confirmTimeoutVerdict h.state timeout
+verdict (Add id roundtrip max blocked unconfirmed) h = add_verdict h.state id roundtrip max
+verdict (Remove slot) h = slot_verdict h.state slot
+verdict (Confirm slot) h = slot_verdict h.state slot
+verdict (Unconfirm slot) h = slot_verdict h.state slot
+verdict (Block slot blocked) h = slot_verdict h.state slot
+verdict (Mark slot seq) h = slot_verdict h.state slot
+verdict (Ping slot time) h = timed_verdict h.state slot time verdicts.Pass
+verdict (Pong slot time) h = timed_verdict h.state slot time verdicts.Pass
+verdict (Flush slot time) h = timed_verdict h.state slot time verdicts.Pass
+verdict (Send slot time msg bytes) h = send_verdict h.state (length h.sent) slot time msg (length bytes)
+verdict (Resend slot time n) h = resend_verdict h.state slot time n
+verdict (Ack slot time n) h = ack_verdict h.state slot time n
+verdict (Receive slot msg n bytes) h = receive_verdict h.state (length h.received) h.records slot msg n (length bytes)
+verdict Show h = show_verdict h.state (length h.received) h.records
+verdict Take h = take_verdict h.state h.records
+verdict Due h = state_verdict h.state
+verdict Close h = state_verdict h.state
+verdict (TakeAck slot) h = take_ack_verdict h.state slot
+verdict (EarliestConfirmTimeout timeout unreliable) h = confirm_timeout_verdict h.state timeout
 
 -- what it tells where none applies
 abbrev pub values : Call → Holding → List ℕ
-values (Add id roundtrip max blocked unconfirmed) h = lowestIn h.state ∷ []
+values (Add id roundtrip max blocked unconfirmed) h = lowest_in h.state ∷ []
 values (Remove slot) h = []
 values (Confirm slot) h = []
 values (Unconfirm slot) h = []
@@ -97,53 +97,53 @@ values (Ping slot time) h = []
 values (Pong slot time) h = []
 values (Flush slot time) h = []
 values (Send slot time msg bytes) h = h.state.tx.tx_seq.0 ∷ []
-values (Resend slot time n) h = let p = lookedAt h.state.tx n in kind_of p.msg ∷ count_of p.msg ∷ p.len ∷ []
+values (Resend slot time n) h = let p = looked_at h.state.tx n in kind_of p.msg ∷ count_of p.msg ∷ p.len ∷ []
 values (Ack slot time n) h = []
 values (Receive slot msg n bytes) h = []
-values Show h = readyValues (table h)
-values Take h = readyValues (table h)
-values Due h = flag (isDue h.state) ∷ []
+values Show h = ready_values (table h)
+values Take h = ready_values (table h)
+values Due h = flag (is_due h.state) ∷ []
 values Close h = []
-values (TakeAck slot) h = (ackIn (oldestAck (row_of h.state slot))).0 ∷ []
-values (EarliestConfirmTimeout timeout unreliable) h = namedValues (firstSent (packets h.state.tx)) h.state timeout unreliable
+values (TakeAck slot) h = (ack_in (oldest_ack (row_of h.state slot))).0 ∷ []
+values (EarliestConfirmTimeout timeout unreliable) h = named_values (first_sent (packets h.state.tx)) h.state timeout unreliable
 
 -- the call's answer, in the paper's number and values
 abbrev pub told : Call → Holding → Told
-told c h = toldBy (verdict c h) (values c h)
+told c h = told_by (verdict c h) (values c h)
 
 abbrev pub number : Call → Holding → ℕ
 number c h = (told c h).number
 
 -- state and stores after the call
 abbrev pub next : Call → Holding → Holding
-next (Add id roundtrip max blocked unconfirmed) h = withState h (addOf h.state id roundtrip max blocked unconfirmed).state
-next (Remove slot) h = withState h (removeOf h.state slot).state
-next (Confirm slot) h = withState h (confirmOf h.state slot).state
-next (Unconfirm slot) h = withState h (unconfirmOf h.state slot).state
-next (Block slot blocked) h = withState h (block_of h.state slot blocked).state
-next (Mark slot seq) h = withState h (mark_of h.state slot seq).state
-next (Ping slot time) h = withState h (pingOf h.state slot time).state
-next (Pong slot time) h = withState h (pongOf h.state slot time).state
-next (Flush slot time) h = withState h (flushOf h.state slot time).state
+next (Add id roundtrip max blocked unconfirmed) h = with_state h (add_of h.state id roundtrip max blocked unconfirmed).state
+next (Remove slot) h = with_state h (remove_of h.state slot).state
+next (Confirm slot) h = with_state h (confirm_of h.state slot).state
+next (Unconfirm slot) h = with_state h (unconfirm_of h.state slot).state
+next (Block slot blocked) h = with_state h (block_of h.state slot blocked).state
+next (Mark slot seq) h = with_state h (mark_of h.state slot seq).state
+next (Ping slot time) h = with_state h (ping_of h.state slot time).state
+next (Pong slot time) h = with_state h (pong_of h.state slot time).state
+next (Flush slot time) h = with_state h (flush_of h.state slot time).state
 next (Send slot time msg bytes) h = record {
-  state = (sendOf h.state (length h.sent) slot time msg (length bytes)).state;
-  sent = sendStore h.state h.sent slot time msg bytes;
+  state = (send_of h.state (length h.sent) slot time msg (length bytes)).state;
+  sent = send_store h.state h.sent slot time msg bytes;
   received = h.received;
   records = h.records;
 }
-next (Resend slot time n) h = withState h (resendOf h.state slot time n).state
-next (Ack slot time n) h = withState h (ackOf h.state slot time n).state
+next (Resend slot time n) h = with_state h (resend_of h.state slot time n).state
+next (Ack slot time n) h = with_state h (ack_of h.state slot time n).state
 next (Receive slot msg n bytes) h = record {
-  state = (receiveOf h.state (length h.received) h.records slot msg n (length bytes)).state;
+  state = (receive_of h.state (length h.received) h.records slot msg n (length bytes)).state;
   sent = h.sent;
-  received = receiveStore h.state h.received h.records slot msg n bytes;
-  records = receiveRecords h.state (length h.received) h.records slot msg n (length bytes);
+  received = receive_store h.state h.received h.records slot msg n bytes;
+  records = receive_records h.state (length h.received) h.records slot msg n (length bytes);
 }
 next Show h = h
-next Take h = record { state = (take_of h.state h.records).state; sent = h.sent; received = h.received; records = takeRecords h.state h.records }
+next Take h = record { state = (take_of h.state h.records).state; sent = h.sent; received = h.received; records = take_records h.state h.records }
 next Due h = h
-next Close h = withState h (closeOf h.state).state
-next (TakeAck slot) h = withState h (takeAckOf h.state slot).state
+next Close h = with_state h (close_of h.state).state
+next (TakeAck slot) h = with_state h (take_ack_of h.state slot).state
 next (EarliestConfirmTimeout timeout unreliable) h = h
 
 -- what the type of a call's number says of it
@@ -193,48 +193,48 @@ Unnoted (EarliestConfirmTimeout timeout unreliable) = Unit
 -- ---- what a call leaves where it passes: Passed shows that `next` goes by `verdict` and this
 
 -- the oldest ready message's data bytes
-abbrev pub readyLength : RxTable → ℕ
-readyLength t = dataLength (msgIn (readyOf t)) (heldBytes (readyOf t))
+abbrev pub ready_length : RxTable → ℕ
+ready_length t = data_length (msg_in (ready_of t)) (held_bytes (ready_of t))
 
 -- the number of a message was received already
 abbrev pub again : Holding → ℕ → Bool
-again h n = isRepeat h.state.rx.cells (table h) n
+again h n = is_repeat h.state.rx.cells (table h) n
 
 -- what each leaves where it passes
 abbrev pub done : Call → Holding → Holding
-done (Add id roundtrip max blocked unconfirmed) h = withState h (with_row h.state (lowestIn h.state) (fresh_row id roundtrip max blocked unconfirmed))
-done (Remove slot) h = withState h (removedState h.state slot)
-done (Confirm slot) h = withState h (with_row h.state slot (confirmed (row_of h.state slot)))
-done (Unconfirm slot) h = withState h (unconfirmedState h.state slot)
-done (Block slot blocked) h = withState h (with_row h.state slot (blockedRow (row_of h.state slot) blocked))
-done (Mark slot seq) h = withState h (with_row h.state slot (markedRow (row_of h.state slot) (At seq)))
-done (Ping slot time) h = withState h (withTime (with_row h.state slot (pinged (row_of h.state slot) time)) time)
-done (Pong slot time) h = withState h (withTime (with_row h.state slot (ponged (row_of h.state slot) time)) time)
-done (Flush slot time) h = withState h (flushedState h.state slot time)
+done (Add id roundtrip max blocked unconfirmed) h = with_state h (with_row h.state (lowest_in h.state) (fresh_row id roundtrip max blocked unconfirmed))
+done (Remove slot) h = with_state h (removed_state h.state slot)
+done (Confirm slot) h = with_state h (with_row h.state slot (confirmed (row_of h.state slot)))
+done (Unconfirm slot) h = with_state h (unconfirmed_state h.state slot)
+done (Block slot blocked) h = with_state h (with_row h.state slot (blocked_row (row_of h.state slot) blocked))
+done (Mark slot seq) h = with_state h (with_row h.state slot (marked_row (row_of h.state slot) (At seq)))
+done (Ping slot time) h = with_state h (with_time (with_row h.state slot (pinged (row_of h.state slot) time)) time)
+done (Pong slot time) h = with_state h (with_time (with_row h.state slot (ponged (row_of h.state slot) time)) time)
+done (Flush slot time) h = with_state h (flushed_state h.state slot time)
 done (Send slot time msg bytes) h = record {
-  state = sentState h.state slot time msg (length bytes);
-  sent = copied h.sent (cellStart PACKETS h.state.tx.tx_seq.0) bytes;
+  state = sent_state h.state slot time msg (length bytes);
+  sent = copied h.sent (cell_start PACKETS h.state.tx.tx_seq.0) bytes;
   received = h.received;
   records = h.records;
 }
-done (Resend slot time n) h = withState h (resentState h.state slot time n)
-done (Ack slot time n) h = withState h (ackedState h.state slot time n)
+done (Resend slot time n) h = with_state h (resent_state h.state slot time n)
+done (Ack slot time n) h = with_state h (acked_state h.state slot time n)
 done (Receive slot msg n bytes) h = record {
-  state = cond (again h n) (repeatedState h.state slot n) (receivedState h.state h.records slot msg n (length bytes));
+  state = cond (again h n) (repeated_state h.state slot n) (received_state h.state h.records slot msg n (length bytes));
   sent = h.sent;
-  received = cond (again h n) h.received (copied h.received (cellStart h.state.rx.cells n) bytes);
-  records = cond (again h n) h.records (storedTable h.state h.records msg n (length bytes)).records;
+  received = cond (again h n) h.received (copied h.received (cell_start h.state.rx.cells n) bytes);
+  records = cond (again h n) h.records (stored_table h.state h.records msg n (length bytes)).records;
 }
 done Show h = h
 done Take h = record {
-  state = takenState h.state h.records (readyLength (table h));
+  state = taken_state h.state h.records (ready_length (table h));
   sent = h.sent;
   received = h.received;
-  records = (takenTable h.state h.records (readyLength (table h))).records;
+  records = (taken_table h.state h.records (ready_length (table h))).records;
 }
 done Due h = h
-done Close h = withState h (closedState h.state)
-done (TakeAck slot) h = withState h (takenAckState h.state slot)
+done Close h = with_state h (closed_state h.state)
+done (TakeAck slot) h = with_state h (taken_ack_state h.state slot)
 done (EarliestConfirmTimeout timeout unreliable) h = h
 
 -- all that an accepted call says of its arguments and of what is held
@@ -253,7 +253,7 @@ Passed (Resend slot time n) h = ResendPassed h.state slot time n
 Passed (Ack slot time n) h = AckPassed h.state slot time n
 Passed (Receive slot msg n bytes) h = ReceivePassed h.state (length h.received) h.records slot msg n (length bytes)
 Passed Show h = Unit
-Passed Take h = Taking h.state h.records (msgIn (readyOf (table h))) h.state.rx.rx_oldest (heldBytes (readyOf (table h)))
+Passed Take h = Taking h.state h.records (msg_in (ready_of (table h))) h.state.rx.rx_oldest (held_bytes (ready_of (table h)))
 Passed Due h = Unit
 Passed Close h = Unit
 Passed (TakeAck slot) h = TakeAckPassed h.state slot

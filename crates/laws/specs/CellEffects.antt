@@ -12,12 +12,12 @@ use Rattle.std.proofs.Math.ListN.{set, length-set}
 use Rattle.std.proofs.lemmas.List.{length-map, length-replicate, get_or-replicate}
 use borrow.Table.Steps.{cases}
 use borrow.Author.Tests.{ltb-true, ltb-false, lt-ltb, le-ltb, eq-eqb, ne_eqb, eqb-true, eqb-false, not-true, not-false}
-use Rattle.seq.specs.Numbers.{seqOf, plus, minus}
+use Rattle.seq.specs.Numbers.{seq_of, plus, minus}
 use Rattle.seq.specs.Laws.{cell-counted, plus-plus, plus-lt, minus-ahead}
 use Rattle.seq.specs.Distance.{past, past_near, past-ahead, past-counted, past-plus}
 use Rattle.refusal.specs.Tests.{false-true, split, same_test}
 use Rattle.msg.specs.declared.reliable.ReliableMsg.{ReliableMsg}
-use Rattle.msg.specs.Reliable.{isKind, MSG_DATA, MSG_SEND_FINISH}
+use Rattle.msg.specs.Reliable.{is_kind, MSG_DATA, MSG_SEND_FINISH}
 use Rattle.engine.specs.declared.state.Held.{Held}
 use Rattle.engine.specs.declared.state.Held.TheVariants.{Nothing, Message}
 use Rattle.engine.specs.declared.state.Receiving.{Receiving}
@@ -25,20 +25,20 @@ use Rattle.engine.specs.declared.state.State.{State}
 use Rattle.engine.specs.CellCount.{CellCount, cell-count}
 use Rattle.engine.specs.Ring.{cells-apart, window-at, window-length, refilled, refill-length, refill-out, refill-window}
 use Rattle.engine.specs.Turns.{turns-keep}
-use Rattle.engine.specs.Records.{isFull, isReadyKind, heldBytes, keptOf, recordOf, held_of, isRecord, keptRecord, held_none, held-record, record_is, held_kept}
-use Rattle.engine.specs.Received.{RxTable, table_of, expectedAt, inUse, held_at, isUsed, cell_of, recordView, cellView, bytesIn, view-record, view-none, view-cell}
-use Rattle.engine.specs.Cells.{nearOldest, canAdvance, passedOver, advanced, endAfter, openedRecords, put_in, storedIn}
+use Rattle.engine.specs.Records.{is_full, is_ready_kind, held_bytes, kept_of, record_of, held_of, is_record, kept_record, held_none, held-record, record_is, held_kept}
+use Rattle.engine.specs.Received.{RxTable, table_of, expected_at, in_use, held_at, is_used, cell_of, record_view, cell_view, bytes_in, view-record, view-none, view-cell}
+use Rattle.engine.specs.Cells.{near_oldest, can_advance, passed_over, advanced, end_after, opened_records, put_in, stored_in}
 use Rattle.engine.specs.DecidedTables.{plus-zero, length_none}
-use Rattle.engine.specs.Fields.{withBytes, withNumbers, withParts, withEnds, withTotals}
-use Rattle.engine.specs.HandingOut.{takenIn, canSkip, passed_by, skipped}
-use Rattle.engine.specs.Sound.{packetAt, SentHere, ReadyKind, LengthWithin, SoundRecords, cell_at}
+use Rattle.engine.specs.Fields.{with_bytes, with_numbers, with_parts, with_ends, with_totals}
+use Rattle.engine.specs.HandingOut.{taken_in, can_skip, passed_by, skipped}
+use Rattle.engine.specs.Sound.{packet_at, SentHere, ReadyKind, LengthWithin, SoundRecords, cell_at}
 use Rattle.laws.specs.RowsKept.{rows_of, here-kept}
 use Rattle.laws.specs.Parts.{SendingSound, ReceivingSound, whole}
 use Rattle.laws.specs.Good.{Good}
 
 -- what the cell of the number k past o holds
-abbrev pub heldPast : ℕ → RxTable → ℕ → ℕ → Held
-heldPast N t o k = cell_of N t (plus o k)
+abbrev pub held_past : ℕ → RxTable → ℕ → ℕ → Held
+held_past N t o k = cell_of N t (plus o k)
 
 -- a call changes one cell, so that the cells hold c; then the next expected number moves on over `passed` messages, and the oldest over
 -- `gone` numbers that stand for nothing that is ready. From the old oldest number on, `end` cells are in use then
@@ -46,28 +46,28 @@ pub record Passes (N : ℕ) (old new : RxTable) (c : ℕ → Held) : Type 0 wher
   pub passed : ℕ
   pub gone : ℕ
   pub end : ℕ
-  pub expected-is : new.rx.rx_seq ≡ seqOf (plus old.rx.rx_seq.0 passed)
-  pub oldest-is : new.rx.rx_oldest ≡ seqOf (plus old.rx.rx_oldest.0 gone)
-  pub end_is : new.rx.rx_end ≡ seqOf (plus old.rx.rx_oldest.0 end)
-  pub within : expectedAt old.rx + passed ≤ end
+  pub expected-is : new.rx.rx_seq ≡ seq_of (plus old.rx.rx_seq.0 passed)
+  pub oldest-is : new.rx.rx_oldest ≡ seq_of (plus old.rx.rx_oldest.0 gone)
+  pub end_is : new.rx.rx_end ≡ seq_of (plus old.rx.rx_oldest.0 end)
+  pub within : expected_at old.rx + passed ≤ end
   pub used : end ≤ N
-  pub grows : inUse old.rx ≤ end
-  pub behind : gone ≤ expectedAt old.rx + passed
+  pub grows : in_use old.rx ≤ end
+  pub behind : gone ≤ expected_at old.rx + passed
   -- of what is passed, "Data and SendFinish among them become ready"; every other cell is as it was
-  pub ready-were : (k : ℕ) → k < expectedAt old.rx → heldPast N new old.rx.rx_oldest.0 k ≡ c k
-  pub kept : (k : ℕ) → expectedAt old.rx ≤ k → k < expectedAt old.rx + passed → heldPast N new old.rx.rx_oldest.0 k ≡ keptOf (c k)
-  pub ahead : (k : ℕ) → expectedAt old.rx + passed ≤ k → k < N → heldPast N new old.rx.rx_oldest.0 k ≡ c k
+  pub ready-were : (k : ℕ) → k < expected_at old.rx → held_past N new old.rx.rx_oldest.0 k ≡ c k
+  pub kept : (k : ℕ) → expected_at old.rx ≤ k → k < expected_at old.rx + passed → held_past N new old.rx.rx_oldest.0 k ≡ kept_of (c k)
+  pub ahead : (k : ℕ) → expected_at old.rx + passed ≤ k → k < N → held_past N new old.rx.rx_oldest.0 k ≡ c k
   -- "consecutive messages": each passed is there, and the next isn't
-  pub full : (k : ℕ) → expectedAt old.rx ≤ k → k < expectedAt old.rx + passed → isFull (c k) ≡ true
-  pub stops : expectedAt old.rx + passed < N → isFull (c (expectedAt old.rx + passed)) ≡ false
+  pub full : (k : ℕ) → expected_at old.rx ≤ k → k < expected_at old.rx + passed → is_full (c k) ≡ true
+  pub stops : expected_at old.rx + passed < N → is_full (c (expected_at old.rx + passed)) ≡ false
   -- the oldest is the first that is ready
-  pub emptied : (k : ℕ) → k < gone → heldPast N new old.rx.rx_oldest.0 k ≡ Nothing
-  pub stands : gone < expectedAt old.rx + passed → isFull (heldPast N new old.rx.rx_oldest.0 gone) ≡ true
+  pub emptied : (k : ℕ) → k < gone → held_past N new old.rx.rx_oldest.0 k ≡ Nothing
+  pub stands : gone < expected_at old.rx + passed → is_full (held_past N new old.rx.rx_oldest.0 gone) ≡ true
   -- nothing is held from the end on, also where the cells come round, and the last before it holds something
-  pub beyond : (k : ℕ) → end ≤ k → k < gone + 2 ^ 30 → heldPast N new old.rx.rx_oldest.0 k ≡ Nothing
-  pub newest : (k : ℕ) → expectedAt old.rx + passed ≤ k → suc k ≡ end → isFull (c k) ≡ true
+  pub beyond : (k : ℕ) → end ≤ k → k < gone + 2 ^ 30 → held_past N new old.rx.rx_oldest.0 k ≡ Nothing
+  pub newest : (k : ℕ) → expected_at old.rx + passed ≤ k → suc k ≡ end → is_full (c k) ≡ true
   -- each word in use is a record
-  pub recorded : (k : ℕ) → gone ≤ k → k < end → isRecord (get_or new.records (plus old.rx.rx_oldest.0 k % N) 0) ≡ true
+  pub recorded : (k : ℕ) → gone ≤ k → k < end → is_record (get_or new.records (plus old.rx.rx_oldest.0 k % N) 0) ≡ true
   pub cells-long : length new.records ≡ N
 
 -- what both calls ask of the table: clauses of Sound, SoundRecords and Shaped, in the words of the numbers past the oldest
@@ -76,16 +76,16 @@ pub record Table (N : ℕ) (t : RxTable) : Type 0 where
   pub expected-u32 : t.rx.rx_seq.0 < 2 ^ 32
   pub oldest-u32 : t.rx.rx_oldest.0 < 2 ^ 32
   pub end-u32 : t.rx.rx_end.0 < 2 ^ 32
-  pub near : expectedAt t.rx ≤ inUse t.rx
-  pub used : inUse t.rx ≤ N
-  pub oldest : 0 < expectedAt t.rx → isFull (heldPast N t t.rx.rx_oldest.0 0) ≡ true
-  pub held : heldPast N t t.rx.rx_oldest.0 (expectedAt t.rx) ≡ Nothing
-  pub newest : (k : ℕ) → expectedAt t.rx ≤ k → suc k ≡ inUse t.rx → isFull (heldPast N t t.rx.rx_oldest.0 k) ≡ true
-  pub recorded : (k : ℕ) → k < inUse t.rx → isRecord (get_or t.records (plus t.rx.rx_oldest.0 k % N) 0) ≡ true
+  pub near : expected_at t.rx ≤ in_use t.rx
+  pub used : in_use t.rx ≤ N
+  pub oldest : 0 < expected_at t.rx → is_full (held_past N t t.rx.rx_oldest.0 0) ≡ true
+  pub held : held_past N t t.rx.rx_oldest.0 (expected_at t.rx) ≡ Nothing
+  pub newest : (k : ℕ) → expected_at t.rx ≤ k → suc k ≡ in_use t.rx → is_full (held_past N t t.rx.rx_oldest.0 k) ≡ true
+  pub recorded : (k : ℕ) → k < in_use t.rx → is_record (get_or t.records (plus t.rx.rx_oldest.0 k % N) 0) ≡ true
 
 -- the cells with one of them changed
-abbrev pub heldBut : ℕ → RxTable → ℕ → Held → ℕ → Held
-heldBut N t at h k = cond (eqb k at) h (heldPast N t t.rx.rx_oldest.0 k)
+abbrev pub held_but : ℕ → RxTable → ℕ → Held → ℕ → Held
+held_but N t at h k = cond (eqb k at) h (held_past N t t.rx.rx_oldest.0 k)
 
 -- ---- numbers
 
@@ -134,7 +134,7 @@ one_more P n old new k l = cases (eqb k n) (λ t. rw (eqb-true k n t) new) (λ t
 -- ---- a message
 
 -- what is not full holds nothing
-pub not_full : (h : Held) → isFull h ≡ false → h ≡ Nothing
+pub not_full : (h : Held) → is_full h ≡ false → h ≡ Nothing
 not_full Nothing e = refl
 not_full (Message msg len) e = false-true (sym e)
 
@@ -144,51 +144,51 @@ neither true b e = false-true (sym e)
 neither false b e = (refl, e)
 
 -- what stays in a passed cell is ready, fits, and has the bytes that were there
-stays : (h : Held) → LengthWithin h → ReadyKind (keptOf h) × LengthWithin (keptOf h) × (heldBytes (keptOf h) ≡ heldBytes h)
+stays : (h : Held) → LengthWithin h → ReadyKind (kept_of h) × LengthWithin (kept_of h) × (held_bytes (kept_of h) ≡ held_bytes h)
 stays Nothing w = (tt, tt, refl)
 stays (Message msg len) w =
-    cases (isReadyKind msg) (λ t. simp t (refl, w, refl))
-    (λ f. simp f (tt, tt, sym (length_none msg len (neither (isKind MSG_DATA msg) (isKind MSG_SEND_FINISH msg) f).0 w)))
+    cases (is_ready_kind msg) (λ t. simp t (refl, w, refl))
+    (λ f. simp f (tt, tt, sym (length_none msg len (neither (is_kind MSG_DATA msg) (is_kind MSG_SEND_FINISH msg) f).0 w)))
 
 -- .. and its word is a record
-none-recorded : isRecord 0 ≡ true
-unfolding isRecord
-none-recorded = eq-eqb _ _ (ap recordOf held_none)
+none-recorded : is_record 0 ≡ true
+unfolding is_record
+none-recorded = eq-eqb _ _ (ap record_of held_none)
 
-kept-recorded : (word : ℕ) → isRecord word ≡ true → isRecord (keptRecord word) ≡ true
-unfolding keptRecord
-kept-recorded word e = cases (isFull (keptOf (held_of word))) (λ t. simp t e) (λ t. simp t none-recorded)
+kept-recorded : (word : ℕ) → is_record word ≡ true → is_record (kept_record word) ≡ true
+unfolding kept_record
+kept-recorded word e = cases (is_full (kept_of (held_of word))) (λ t. simp t e) (λ t. simp t none-recorded)
 
 -- ---- sums
 
-unfoldable sumOver : (ℕ → ℕ) → ℕ → ℕ
-sumOver f zero = 0
-sumOver f (suc n) = f 0 + sumOver (λ k. f (suc k)) n
+unfoldable sum_over : (ℕ → ℕ) → ℕ → ℕ
+sum_over f zero = 0
+sum_over f (suc n) = f 0 + sum_over (λ k. f (suc k)) n
 
-sum_same : (f g : ℕ → ℕ) (n : ℕ) → ((k : ℕ) → k < n → f k ≡ g k) → sumOver f n ≡ sumOver g n
-unfolding sumOver
+sum_same : (f g : ℕ → ℕ) (n : ℕ) → ((k : ℕ) → k < n → f k ≡ g k) → sum_over f n ≡ sum_over g n
+unfolding sum_over
 sum_same f g zero e = refl
 sum_same f g (suc n) e = omega (arith, e 0 (omega arith), sum_same (λ k. f (suc k)) (λ k. g (suc k)) n (λ k l. e (suc k) (omega arith)))
 
-sum-none : (f : ℕ → ℕ) (n : ℕ) → ((k : ℕ) → k < n → f k ≡ 0) → sumOver f n ≡ 0
-unfolding sumOver
+sum-none : (f : ℕ → ℕ) (n : ℕ) → ((k : ℕ) → k < n → f k ≡ 0) → sum_over f n ≡ 0
+unfolding sum_over
 sum-none f zero e = refl
 sum-none f (suc n) e = omega (arith, e 0 (omega arith), sum-none (λ k. f (suc k)) n (λ k l. e (suc k) (omega arith)))
 
-sum-split : (f : ℕ → ℕ) (m n : ℕ) → sumOver f (m + n) ≡ sumOver f m + sumOver (λ k. f (m + k)) n
-unfolding sumOver
+sum-split : (f : ℕ → ℕ) (m n : ℕ) → sum_over f (m + n) ≡ sum_over f m + sum_over (λ k. f (m + k)) n
+unfolding sum_over
 sum-split f zero n = let z : 0 + n ≡ n = omega arith in simp zero-add
 sum-split f (suc m) n = simp suc-add (omega (arith, sum-split (λ k. f (suc k)) m n))
 
 -- all but one are the same
-sum-but : (f g : ℕ → ℕ) (n at : ℕ) → at < n → ((k : ℕ) → (k ≡ at → ⊥) → f k ≡ g k) → sumOver f n + g at ≡ sumOver g n + f at
-unfolding sumOver
+sum-but : (f g : ℕ → ℕ) (n at : ℕ) → at < n → ((k : ℕ) → (k ≡ at → ⊥) → f k ≡ g k) → sum_over f n + g at ≡ sum_over g n + f at
+unfolding sum_over
 sum-but f g zero at l e = absurd (omega arith)
 sum-but f g (suc n) zero l e = omega (arith, sum_same (λ k. f (suc k)) (λ k. g (suc k)) n (λ k u. e (suc k) (λ q. omega arith)))
 sum-but f g (suc n) (suc at) l e = omega (arith, e 0 (λ q. omega arith), sum-but (λ k. f (suc k)) (λ k. g (suc k)) n at (omega arith) (λ k ne. e (suc k) (λ q. ne (omega arith))))
 
-bytes-sum : (hs : List Held) → bytesIn hs ≡ sumOver (λ k. heldBytes (get_or hs k Nothing)) (length hs)
-unfolding bytesIn sumOver
+bytes-sum : (hs : List Held) → bytes_in hs ≡ sum_over (λ k. held_bytes (get_or hs k Nothing)) (length hs)
+unfolding bytes_in sum_over
 bytes-sum [] = refl
 bytes-sum (h ∷ hs) = omega (arith, bytes-sum hs)
 
@@ -209,10 +209,10 @@ set_at words i w k l =
 -- the next expected number is p on
 record Over (N : ℕ) (old : RxTable) (w : ℕ → ℕ) (U p expected : ℕ) (records : List ℕ) : Type 0 where
   expected-is : expected ≡ plus old.rx.rx_seq.0 p
-  within : expectedAt old.rx + p ≤ U
-  other : (k : ℕ) → k < U → (expectedAt old.rx ≤ k → expectedAt old.rx + p ≤ k) → word_in N records (plus old.rx.rx_oldest.0 k) ≡ w k
-  kept : (k : ℕ) → k < expectedAt old.rx + p → expectedAt old.rx ≤ k
-      → (word_in N records (plus old.rx.rx_oldest.0 k) ≡ keptRecord (w k)) × (isFull (held_of (w k)) ≡ true)
+  within : expected_at old.rx + p ≤ U
+  other : (k : ℕ) → k < U → (expected_at old.rx ≤ k → expected_at old.rx + p ≤ k) → word_in N records (plus old.rx.rx_oldest.0 k) ≡ w k
+  kept : (k : ℕ) → k < expected_at old.rx + p → expected_at old.rx ≤ k
+      → (word_in N records (plus old.rx.rx_oldest.0 k) ≡ kept_record (w k)) × (is_full (held_of (w k)) ≡ true)
   cells-N : length records ≡ N
 
 -- .. and the oldest g on
@@ -220,26 +220,26 @@ record Moved (N : ℕ) (old : RxTable) (w : ℕ → ℕ) (U p g : ℕ) (new : Rx
   over : Over N old w U p new.rx.rx_seq.0 new.records
   oldest-is : new.rx.rx_oldest.0 ≡ plus old.rx.rx_oldest.0 g
   end_is : new.rx.rx_end.0 ≡ plus old.rx.rx_oldest.0 U
-  behind : g ≤ expectedAt old.rx + p
-  emptied : (k : ℕ) → k < g → isFull (held_at N new.records (plus old.rx.rx_oldest.0 k)) ≡ false
+  behind : g ≤ expected_at old.rx + p
+  emptied : (k : ℕ) → k < g → is_full (held_at N new.records (plus old.rx.rx_oldest.0 k)) ≡ false
 
 -- .. where at most `left` messages are to pass, and the oldest is the first that is ready
 abbrev Going : ℕ → RxTable → (ℕ → ℕ) → ℕ → ℕ → RxTable → Type 0
 Going N old w U left new =
-    (p : ℕ) × (g : ℕ) × Moved N old w U p g new × (U ≤ expectedAt old.rx + p + left)
-    × (g < expectedAt old.rx + p → isFull (held_at N new.records (plus old.rx.rx_oldest.0 g)) ≡ true)
+    (p : ℕ) × (g : ℕ) × Moved N old w U p g new × (U ≤ expected_at old.rx + p + left)
+    × (g < expected_at old.rx + p → is_full (held_at N new.records (plus old.rx.rx_oldest.0 g)) ≡ true)
 
 -- what the words are after the change: all in use are records, and from the end on there are none
 record Words (old : RxTable) (w : ℕ → ℕ) (U : ℕ) : Type 0 where
-  grows : inUse old.rx ≤ U
-  recorded : (k : ℕ) → k < U → isRecord (w k) ≡ true
+  grows : in_use old.rx ≤ U
+  recorded : (k : ℕ) → k < U → is_record (w k) ≡ true
   beyond : (k : ℕ) → U ≤ k → w k ≡ 0
-  newest : (k : ℕ) → expectedAt old.rx ≤ k → suc k ≡ U → isFull (held_of (w k)) ≡ true
+  newest : (k : ℕ) → expected_at old.rx ≤ k → suc k ≡ U → is_full (held_of (w k)) ≡ true
 
 -- a number's cell, by how far it is past the oldest
 pub same-cell : (N : ℕ) → CellCount N → (t : RxTable) (n : ℕ) → t.rx.rx_oldest.0 < 2 ^ 32 → past n t.rx.rx_oldest.0 < 2 ^ 30
-    → heldPast N t t.rx.rx_oldest.0 (past n t.rx.rx_oldest.0) ≡ cell_of N t n
-unfolding cell_of isUsed held_at
+    → held_past N t t.rx.rx_oldest.0 (past n t.rx.rx_oldest.0) ≡ cell_of N t n
+unfolding cell_of is_used held_at
 same-cell N count t n h close =
     let o = t.rx.rx_oldest.0 in
     simp (past-plus o (past n o) h close, ← (number-cell N count n o h close))
@@ -250,7 +250,7 @@ module _ (N : ℕ) (count : CellCount N) (old : RxTable) (table : Table N old) w
   o = old.rx.rx_oldest.0
 
   abbrev E : ℕ
-  E = expectedAt old.rx
+  E = expected_at old.rx
 
   near-expected : E < 2 ^ 30
   near-expected = omega (arith, table.near, table.used, count.few)
@@ -270,26 +270,26 @@ module _ (N : ℕ) (count : CellCount N) (old : RxTable) (table : Table N old) w
     expected-at : t.rx.rx_seq.0 ≡ plus o (E + p)
     expected-at = was.over.expected-is ∙ counted old.rx.rx_seq.0 o p table.expected-u32 table.oldest-u32 near-expected
 
-    can-advance : canAdvance N t ≡ (ltb (E + p) U && isFull (held_at N t.records (plus o (E + p))))
-    unfolding canAdvance
+    can-advance : can_advance N t ≡ (ltb (E + p) U && is_full (held_at N t.records (plus o (E + p))))
+    unfolding can_advance
     can-advance = simp (expected-at, was.end_is, apart-is o (E + p) U was.over.within (omega (arith, count.few)))
 
     apart : not (eqb t.rx.rx_oldest.0 t.rx.rx_seq.0) ≡ ltb g (E + p)
     apart = simp (expected-at, was.oldest-is) (apart-is o g (E + p) was.behind (omega (arith, was.over.within, count.few)))
 
-    can-skip : canSkip N t.records t.rx ≡ (ltb g (E + p) && not (isFull (held_at N t.records (plus o g))))
-    unfolding canSkip
-    can-skip = ap₂ ◌&&◌ apart (ap (λ n. not (isFull (held_at N t.records n))) was.oldest-is)
+    can-skip : can_skip N t.records t.rx ≡ (ltb g (E + p) && not (is_full (held_at N t.records (plus o g))))
+    unfolding can_skip
+    can-skip = ap₂ ◌&&◌ apart (ap (λ n. not (is_full (held_at N t.records n))) was.oldest-is)
 
     -- one turn: the oldest stays, or goes along where it was the next expected and nothing is ready there
-    turn : (left : ℕ) → U ≤ E + p + suc left → (g < E + p → isFull (held_at N t.records (plus o g)) ≡ true) → canAdvance N t ≡ true → Going N old w U left (passedOver N t)
-    unfolding passedOver held_at
+    turn : (left : ℕ) → U ≤ E + p + suc left → (g < E + p → is_full (held_at N t.records (plus o g)) ≡ true) → can_advance N t ≡ true → Going N old w U left (passed_over N t)
+    unfolding passed_over held_at
     turn left many stands b =
-        let both = split (ltb (E + p) U) (isFull (held_at N t.records (plus o (E + p)))) (sym can-advance ∙ b) in
+        let both = split (ltb (E + p) U) (is_full (held_at N t.records (plus o (E + p)))) (sym can-advance ∙ b) in
         let l : E + p < U = ltb-true (E + p) U both.0 in
         let lN : E + p < N = omega arith in
         let seq = t.rx.rx_seq.0 in
-        let stays = keptRecord (word_in N t.records seq) in
+        let stays = kept_record (word_in N t.records seq) in
         let after = set t.records (seq % N) stays in
         let seen = put t.records seq (E + p) stays was.over.cells-N (ap (λ m. m % N) expected-at) lN in
         let here : word_in N after (plus o (E + p)) ≡ stays = seen (E + p) lN ∙ simp (eq-eqb (E + p) (E + p) refl) in
@@ -303,20 +303,20 @@ module _ (N : ℕ) (count : CellCount N) (old : RxTable) (table : Table N old) w
           other = λ k lk f. there k (omega arith) (λ q. omega (arith, f (omega arith))) ∙ was.over.other k lk (λ a. omega (arith, f a));
           kept = rw (← end) (one_more _ (E + p)
               (λ k lk a. let k-was = was.over.kept k lk a in (there k (omega arith) (λ q. omega arith) ∙ k-was.0, k-was.1))
-              (λ a. (here ∙ ap keptRecord (ap (word_in N t.records) expected-at ∙ now), ap (λ x. isFull (held_of x)) (sym now) ∙ both.1)));
+              (λ a. (here ∙ ap kept_record (ap (word_in N t.records) expected-at ∙ now), ap (λ x. is_full (held_of x)) (sym now) ∙ both.1)));
           cells-N = length-set t.records _ _ ∙ was.over.cells-N;
         } in
-        let empty : (k : ℕ) → k < g → isFull (held_of (word_in N after (plus o k))) ≡ false =
-        λ k lk. ap (λ x. isFull (held_of x)) (there k (omega (arith, was.behind)) (λ q. omega (arith, was.behind))) ∙ was.emptied k lk in
+        let empty : (k : ℕ) → k < g → is_full (held_of (word_in N after (plus o k))) ≡ false =
+        λ k lk. ap (λ x. is_full (held_of x)) (there k (omega (arith, was.behind)) (λ q. omega (arith, was.behind))) ∙ was.emptied k lk in
         let next = plus seq 1 in
-        let made : (g' oldest : ℕ) → oldest ≡ plus o g' → g' ≤ E + suc p → ((k : ℕ) → k < g' → isFull (held_of (word_in N after (plus o k))) ≡ false)
-        → (g' < E + suc p → isFull (held_of (word_in N after (plus o g'))) ≡ true) → Going N old w U left (table_of (withNumbers t.rx (seqOf next) (seqOf oldest)) after) =
+        let made : (g' oldest : ℕ) → oldest ≡ plus o g' → g' ≤ E + suc p → ((k : ℕ) → k < g' → is_full (held_of (word_in N after (plus o k))) ≡ false)
+        → (g' < E + suc p → is_full (held_of (word_in N after (plus o g'))) ≡ true) → Going N old w U left (table_of (with_numbers t.rx (seq_of next) (seq_of oldest)) after) =
         λ g' oldest is b none first. (suc p, g', record { over = over; oldest-is = is; end_is = was.end_is; behind = b; emptied = none }, omega arith, first) in
-        let stay : (g ≡ E + p → isFull (held_of stays) ≡ true) → Going N old w U left (table_of (withNumbers t.rx (seqOf next) t.rx.rx_oldest) after) =
+        let stay : (g ≡ E + p → is_full (held_of stays) ≡ true) → Going N old w U left (table_of (with_numbers t.rx (seq_of next) t.rx.rx_oldest) after) =
         λ first. made g t.rx.rx_oldest.0 was.oldest-is (omega (arith, was.behind)) empty (λ lg. cases (eqb g (E + p))
-        (λ q. let e = eqb-true g (E + p) q in rw e (ap (λ x. isFull (held_of x)) here ∙ first e))
-        (λ q. let ne = eqb-false g (E + p) q in ap (λ x. isFull (held_of x)) (there g (omega (arith, was.behind)) ne) ∙ stands (omega (arith, was.behind)))) in
-        cases (isFull (held_of stays))
+        (λ q. let e = eqb-true g (E + p) q in rw e (ap (λ x. is_full (held_of x)) here ∙ first e))
+        (λ q. let ne = eqb-false g (E + p) q in ap (λ x. is_full (held_of x)) (there g (omega (arith, was.behind)) ne) ∙ stands (omega (arith, was.behind)))) in
+        cases (is_full (held_of stays))
         (λ f. simp f (stay (λ q. f)))
         (λ f. cases (ltb g (E + p))
         (λ q. simp (f, not-true (eqb t.rx.rx_oldest.0 seq) (apart ∙ q)) (stay (λ e. absurd (omega (arith, ltb-true g (E + p) q)))))
@@ -324,61 +324,61 @@ module _ (N : ℕ) (count : CellCount N) (old : RxTable) (table : Table N old) w
         let e : g ≡ E + p = omega (arith, ltb-false g (E + p) q, was.behind) in
         simp (f, not-false (eqb t.rx.rx_oldest.0 seq) (apart ∙ q))
         (made (suc g) next (ap (λ m. plus m 1) (expected-at ∙ ap (plus o) (sym e)) ∙ plus_one o g) (omega arith)
-        (one_more _ g empty (rw e (ap (λ x. isFull (held_of x)) here ∙ f))) (λ lg. absurd (omega arith)))))
+        (one_more _ g empty (rw e (ap (λ x. is_full (held_of x)) here ∙ f))) (λ lg. absurd (omega arith)))))
 
     -- the oldest moves on over an empty cell
-    by_one : g < E + p → isFull (held_at N t.records (plus o g)) ≡ false → Moved N old w U p (suc g) (table_of (passed_by t.rx) t.records)
+    by_one : g < E + p → is_full (held_at N t.records (plus o g)) ≡ false → Moved N old w U p (suc g) (table_of (passed_by t.rx) t.records)
     unfolding passed_by
     by_one l none =
         record { over = was.over; oldest-is = ap (λ m. plus m 1) was.oldest-is ∙ plus_one o g; end_is = was.end_is; behind = l; emptied = one_more _ g was.emptied none }
 
     -- ---- where it ends
 
-    in_use : inUse t.rx ≡ U - g
-    in_use = simp (was.end_is, was.oldest-is) (past-counted o U g (omega (arith, was.behind, was.over.within)) (omega (arith, count.few)))
+    in-use : in_use t.rx ≡ U - g
+    in-use = simp (was.end_is, was.oldest-is) (past-counted o U g (omega (arith, was.behind, was.over.within)) (omega (arith, count.few)))
 
     -- before the oldest, and from the end on, nothing is held; between them what the records say
-    held_in : (k : ℕ) → k < U → heldPast N t o k ≡ held_at N t.records (plus o k)
-    unfolding cell_of isUsed
-    held_in k l =
+    held-in : (k : ℕ) → k < U → held_past N t o k ≡ held_at N t.records (plus o k)
+    unfolding cell_of is_used
+    held-in k l =
         cases (ltb g (suc k))
         (λ b.
         let at : past (plus o k) t.rx.rx_oldest.0 ≡ k - g = ap (past (plus o k)) was.oldest-is ∙ past-counted o k g (omega (arith, ltb-true g (suc k) b)) (omega (arith, count.few)) in
-        simp (at, in_use, lt-ltb (k - g) (U - g) (omega (arith, ltb-true g (suc k) b))))
+        simp (at, in-use, lt-ltb (k - g) (U - g) (omega (arith, ltb-true g (suc k) b))))
         (λ b.
         let none = not_full _ (was.emptied k (omega (arith, ltb-false g (suc k) b))) in
-        cases (ltb (past (plus o k) t.rx.rx_oldest.0) (inUse t.rx)) (λ d. simp d) (λ d. simp d (sym none)))
+        cases (ltb (past (plus o k) t.rx.rx_oldest.0) (in_use t.rx)) (λ d. simp d) (λ d. simp d (sym none)))
 
-    held_out : (k : ℕ) → U ≤ k → k < g + 2 ^ 30 → heldPast N t o k ≡ Nothing
-    unfolding cell_of isUsed
+    held_out : (k : ℕ) → U ≤ k → k < g + 2 ^ 30 → held_past N t o k ≡ Nothing
+    unfolding cell_of is_used
     held_out k l u =
         let low : g ≤ U = omega (arith, was.behind, was.over.within) in
         let at : past (plus o k) t.rx.rx_oldest.0 ≡ k - g = ap (past (plus o k)) was.oldest-is ∙ past-counted o k g (omega arith) u in
-        simp (at, in_use, le-ltb (k - g) (U - g) (omega arith))
+        simp (at, in-use, le-ltb (k - g) (U - g) (omega arith))
 
     -- nothing stands at the next expected number, and the oldest is ready
-    passes : (E + p < U → isFull (held_of (w (E + p))) ≡ false) → (g < E + p → isFull (held_at N t.records (plus o g)) ≡ true) → Passes N old t (λ k. held_of (w k))
+    passes : (E + p < U → is_full (held_of (w (E + p))) ≡ false) → (g < E + p → is_full (held_at N t.records (plus o g)) ≡ true) → Passes N old t (λ k. held_of (w k))
     unfolding held_at
     passes stops stands = record {
       passed = p;
       gone = g;
       end = U;
-      expected-is = ap seqOf was.over.expected-is;
-      oldest-is = ap seqOf was.oldest-is;
-      end_is = ap seqOf was.end_is;
+      expected-is = ap seq_of was.over.expected-is;
+      oldest-is = ap seq_of was.oldest-is;
+      end_is = ap seq_of was.end_is;
       within = was.over.within;
       used = few;
       grows = words.grows;
       behind = was.behind;
-      ready-were = λ k l. held_in k (omega (arith, was.over.within)) ∙ ap held_of (was.over.other k (omega (arith, was.over.within)) (λ a. absurd (omega arith)));
-      kept = λ k a b. held_in k (omega (arith, was.over.within)) ∙ ap held_of (was.over.kept k b a).0 ∙ held_kept (w k);
+      ready-were = λ k l. held-in k (omega (arith, was.over.within)) ∙ ap held_of (was.over.other k (omega (arith, was.over.within)) (λ a. absurd (omega arith)));
+      kept = λ k a b. held-in k (omega (arith, was.over.within)) ∙ ap held_of (was.over.kept k b a).0 ∙ held_kept (w k);
       ahead = λ k a l. cases (ltb k U)
-          (λ b. held_in k (ltb-true k U b) ∙ ap held_of (was.over.other k (ltb-true k U b) (λ x. a)))
+          (λ b. held-in k (ltb-true k U b) ∙ ap held_of (was.over.other k (ltb-true k U b) (λ x. a)))
           (λ b. let ge : U ≤ k = omega (arith, ltb-false k U b) in held_out k ge (omega (arith, count.few)) ∙ sym (ap held_of (words.beyond k ge) ∙ held_none));
       full = λ k a b. (was.over.kept k b a).1;
-      stops = λ l. cases (ltb (E + p) U) (λ b. stops (ltb-true (E + p) U b)) (λ b. ap isFull (ap held_of (words.beyond (E + p) (omega (arith, ltb-false (E + p) U b))) ∙ held_none));
-      emptied = λ k l. held_in k (omega (arith, was.behind, was.over.within)) ∙ not_full _ (was.emptied k l);
-      stands = λ l. ap isFull (held_in g (omega (arith, was.over.within))) ∙ stands l;
+      stops = λ l. cases (ltb (E + p) U) (λ b. stops (ltb-true (E + p) U b)) (λ b. ap is_full (ap held_of (words.beyond (E + p) (omega (arith, ltb-false (E + p) U b))) ∙ held_none));
+      emptied = λ k l. held-in k (omega (arith, was.behind, was.over.within)) ∙ not_full _ (was.emptied k l);
+      stands = λ l. ap is_full (held-in g (omega (arith, was.over.within))) ∙ stands l;
       beyond = held_out;
       newest = λ k l e. words.newest k (omega arith) e;
       recorded = λ k l u. cases (ltb k E)
@@ -393,46 +393,46 @@ module _ (N : ℕ) (count : CellCount N) (old : RxTable) (table : Table N old) w
   advances : (w : ℕ → ℕ) (U : ℕ) → U ≤ N → Words old w U → (t : RxTable) → Going N old w U N t → Passes N old (advanced N N t) (λ k. held_of (w k))
   unfolding held_at
   advances w U few words t start =
-      turns-keep (canAdvance N) (passedOver N) (Going N old w U) (λ new. Passes N old new (λ k. held_of (w k))) (λ left t (p, g, was, many, stands). turn w U few words p g t was left many stands)
+      turns-keep (can_advance N) (passed_over N) (Going N old w U) (λ new. Passes N old new (λ k. held_of (w k))) (λ left t (p, g, was, many, stands). turn w U few words p g t was left many stands)
       (λ left t (p, g, was, many, stands) b. passes w U few words p g t was
-      (λ l. ap (λ x. isFull (held_of x)) (sym (was.over.other (E + p) l (λ a. omega arith))) ∙ (simp (lt-ltb (E + p) U l) at (sym (can-advance w U few words p g t was) ∙ b))) stands)
+      (λ l. ap (λ x. is_full (held_of x)) (sym (was.over.other (E + p) l (λ a. omega arith))) ∙ (simp (lt-ltb (E + p) U l) at (sym (can-advance w U few words p g t was) ∙ b))) stands)
       (λ t (p, g, was, many, stands). passes w U few words p g t was (λ l. absurd (omega arith)) stands) N t start
 
-  skips : (w : ℕ → ℕ) (U : ℕ) (few : U ≤ N) (words : Words old w U) (records : List ℕ) (rx : Receiving) (g : ℕ) → Moved N old w U 0 g (table_of rx records) → (E + 0 < U → isFull (held_of (w (E + 0))) ≡ false)
+  skips : (w : ℕ → ℕ) (U : ℕ) (few : U ≤ N) (words : Words old w U) (records : List ℕ) (rx : Receiving) (g : ℕ) → Moved N old w U 0 g (table_of rx records) → (E + 0 < U → is_full (held_of (w (E + 0))) ≡ false)
       → Passes N old (table_of (skipped N N records rx) records) (λ k. held_of (w k))
   skips w U few words records rx g start stops =
-      turns-keep (canSkip N records) passed_by (λ left new. (g : ℕ) × Moved N old w U 0 g (table_of new records) × (N ≤ g + left)) (λ new. Passes N old (table_of new records) (λ k. held_of (w k)))
+      turns-keep (can_skip N records) passed_by (λ left new. (g : ℕ) × Moved N old w U 0 g (table_of new records) × (N ≤ g + left)) (λ new. Passes N old (table_of new records) (λ k. held_of (w k)))
       (λ left rx (g, was, many) b.
-      let both = split (ltb g (E + 0)) (not (isFull (held_at N records (plus o g)))) (sym (can-skip w U few words 0 g (table_of rx records) was) ∙ b) in
-      (suc g, by_one w U few words 0 g (table_of rx records) was (ltb-true g (E + 0) both.0) (not-true (isFull (held_at N records (plus o g))) both.1), omega arith))
+      let both = split (ltb g (E + 0)) (not (is_full (held_at N records (plus o g)))) (sym (can-skip w U few words 0 g (table_of rx records) was) ∙ b) in
+      (suc g, by_one w U few words 0 g (table_of rx records) was (ltb-true g (E + 0) both.0) (not-true (is_full (held_at N records (plus o g))) both.1), omega arith))
       (λ left rx (g, was, many) b. passes w U few words 0 g (table_of rx records) was stops
-      (λ l. not-false (isFull (held_at N records (plus o g))) (simp (lt-ltb g (E + 0) l) at (sym (can-skip w U few words 0 g (table_of rx records) was) ∙ b))))
+      (λ l. not-false (is_full (held_at N records (plus o g))) (simp (lt-ltb g (E + 0) l) at (sym (can-skip w U few words 0 g (table_of rx records) was) ∙ b))))
       (λ rx (g, was, many). passes w U few words 0 g (table_of rx records) was stops (λ l. absurd (omega (arith, was.over.within)))) N rx (g, start, omega arith)
 
   -- ---- the start: one cell is changed
 
   -- the words of a table, by how far they are past the oldest
-  abbrev wordPast : ℕ → ℕ
-  wordPast k = cond (ltb k (inUse old.rx)) (word_in N old.records (plus o k)) 0
+  abbrev word_past : ℕ → ℕ
+  word_past k = cond (ltb k (in_use old.rx)) (word_in N old.records (plus o k)) 0
 
   -- .. with one of them changed
-  abbrev wordBut : ℕ → ℕ → ℕ → ℕ
-  wordBut at x k = cond (eqb k at) x (wordPast k)
+  abbrev word_but : ℕ → ℕ → ℕ → ℕ
+  word_but at x k = cond (eqb k at) x (word_past k)
 
   -- what they say
-  held-past : (k : ℕ) → k < 2 ^ 30 → held_of (wordPast k) ≡ heldPast N old o k
-  unfolding cell_of isUsed held_at
+  held-past : (k : ℕ) → k < 2 ^ 30 → held_of (word_past k) ≡ held_past N old o k
+  unfolding cell_of is_used held_at
   held-past k l =
       let at : past (plus o k) o ≡ k = past-plus o k table.oldest-u32 l in
-      cases (ltb k (inUse old.rx)) (λ b. simp (at, b)) (λ b. simp (at, b) held_none)
+      cases (ltb k (in_use old.rx)) (λ b. simp (at, b)) (λ b. simp (at, b) held_none)
 
   -- .. with what the changed one says
-  held-but : (at x : ℕ) (h : Held) → held_of x ≡ h → (k : ℕ) → k < 2 ^ 30 → held_of (wordBut at x k) ≡ heldBut N old at h k
+  held-but : (at x : ℕ) (h : Held) → held_of x ≡ h → (k : ℕ) → k < 2 ^ 30 → held_of (word_but at x k) ≡ held_but N old at h k
   held-but at x h e k l = cases (eqb k at) (λ b. simp b e) (λ b. simp b (held-past k l))
 
   -- each is a record
-  word-recorded : (k : ℕ) → isRecord (wordPast k) ≡ true
-  word-recorded k = cases (ltb k (inUse old.rx)) (λ b. simp b (table.recorded k (ltb-true k (inUse old.rx) b))) (λ b. simp b none-recorded)
+  word-recorded : (k : ℕ) → is_record (word_past k) ≡ true
+  word-recorded k = cases (ltb k (in_use old.rx)) (λ b. simp b (table.recorded k (ltb-true k (in_use old.rx) b))) (λ b. simp b none-recorded)
 
   -- Passes goes by what the cells hold below 2^30
   passes_same : (new : RxTable) (c d : ℕ → Held) → ((k : ℕ) → k < 2 ^ 30 → c k ≡ d k) → Passes N old new c → Passes N old new d
@@ -448,14 +448,14 @@ module _ (N : ℕ) (count : CellCount N) (old : RxTable) (table : Table N old) w
     grows = p.grows;
     behind = p.behind;
     ready-were = λ k l. p.ready-were k l ∙ same k (omega (arith, near-expected));
-    kept = λ k a b. p.kept k a b ∙ ap keptOf (same k (omega (arith, p.within, p.used, count.few)));
+    kept = λ k a b. p.kept k a b ∙ ap kept_of (same k (omega (arith, p.within, p.used, count.few)));
     ahead = λ k a l. p.ahead k a l ∙ same k (omega (arith, count.few));
-    full = λ k a b. ap isFull (sym (same k (omega (arith, p.within, p.used, count.few)))) ∙ p.full k a b;
-    stops = λ l. ap isFull (sym (same (E + p.passed) (omega (arith, count.few)))) ∙ p.stops l;
+    full = λ k a b. ap is_full (sym (same k (omega (arith, p.within, p.used, count.few)))) ∙ p.full k a b;
+    stops = λ l. ap is_full (sym (same (E + p.passed) (omega (arith, count.few)))) ∙ p.stops l;
     emptied = p.emptied;
     stands = p.stands;
     beyond = p.beyond;
-    newest = λ k l e. ap isFull (sym (same k (omega (arith, p.used, count.few)))) ∙ p.newest k l e;
+    newest = λ k l e. ap is_full (sym (same k (omega (arith, p.used, count.few)))) ∙ p.newest k l e;
     recorded = p.recorded;
     cells-long = p.cells-long;
   }
@@ -478,62 +478,62 @@ module _ (N : ℕ) (count : CellCount N) (old : RxTable) (table : Table N old) w
   }
 
   -- the end, by how far it is past the oldest
-  end-at : old.rx.rx_end.0 ≡ plus o (inUse old.rx)
-  end-at = sym (plus-zero _ table.end-u32) ∙ counted old.rx.rx_end.0 o 0 table.end-u32 table.oldest-u32 (omega (arith, table.used, count.few)) ∙ ap (plus o) (add-zero (inUse old.rx))
+  end-at : old.rx.rx_end.0 ≡ plus o (in_use old.rx)
+  end-at = sym (plus-zero _ table.end-u32) ∙ counted old.rx.rx_end.0 o 0 table.end-u32 table.oldest-u32 (omega (arith, table.used, count.few)) ∙ ap (plus o) (add-zero (in_use old.rx))
 
   -- ---- the cells that come into use before a number that is past the end
 
-  module _ (at : ℕ) (l : inUse old.rx ≤ at) (few : at < N) where
+  module _ (at : ℕ) (l : in_use old.rx ≤ at) (few : at < N) where
     abbrev filled : List ℕ
-    filled = refilled N old.records (old.rx.rx_end.0 % N) (replicate (at - inUse old.rx) 0)
+    filled = refilled N old.records (old.rx.rx_end.0 % N) (replicate (at - in_use old.rx) 0)
 
-    gap : length (replicate {A = ℕ} (at - inUse old.rx) 0) ≡ at - inUse old.rx
-    gap = length-replicate (at - inUse old.rx) 0
+    gap : length (replicate {A = ℕ} (at - in_use old.rx) 0) ≡ at - in_use old.rx
+    gap = length-replicate (at - in_use old.rx) 0
 
     -- the cell of the number m past the end, and of one that is k past the oldest
-    end-cell : (m : ℕ) → (old.rx.rx_end.0 % N + m) % N ≡ plus o (inUse old.rx + m) % N
+    end-cell : (m : ℕ) → (old.rx.rx_end.0 % N + m) % N ≡ plus o (in_use old.rx + m) % N
     end-cell m =
         mod-add-mod old.rx.rx_end.0 N m ∙ sym (cell-counted N old.rx.rx_end.0 m count.round)
-        ∙ ap (λ n. n % N) (ap (λ n. plus n m) end-at ∙ plus-plus o (inUse old.rx) m)
+        ∙ ap (λ n. n % N) (ap (λ n. plus n m) end-at ∙ plus-plus o (in_use old.rx) m)
 
     filled-long : length filled ≡ N
     filled-long = refill-length N 0 old.records (old.rx.rx_end.0 % N) _ ∙ table.cells-N
 
     -- those in use stay ..
-    filled-old : (k : ℕ) → k < inUse old.rx → word_in N filled (plus o k) ≡ word_in N old.records (plus o k)
+    filled-old : (k : ℕ) → k < in_use old.rx → word_in N filled (plus o k) ≡ word_in N old.records (plus o k)
     filled-old k lk =
-        let m = N - inUse old.rx + k in
+        let m = N - in_use old.rx + k in
         let low = table.used in
-        let on : inUse old.rx + m ≡ k + N = omega arith in
+        let on : in_use old.rx + m ≡ k + N = omega arith in
         let far : o + (k + N) ≡ o + k + N = omega arith in
-        let round : plus o (inUse old.rx + m) % N ≡ plus o k % N =
+        let round : plus o (in_use old.rx + m) % N ≡ plus o k % N =
         ap (λ n. plus o n % N) on ∙ cell-counted N o (k + N) count.round ∙ ap (λ n. n % N) far ∙ add-mod_right (o + k) N ∙ sym (cell-counted N o k count.round) in
         let cell = end-cell m ∙ round in
-        ap (λ i. get_or filled i 0) (sym cell) ∙ refill-out N 0 old.records (old.rx.rx_end.0 % N) m (replicate (at - inUse old.rx) 0) (mod-lt old.rx.rx_end.0 count.some) (omega (arith, gap)) (omega arith)
+        ap (λ i. get_or filled i 0) (sym cell) ∙ refill-out N 0 old.records (old.rx.rx_end.0 % N) m (replicate (at - in_use old.rx) 0) (mod-lt old.rx.rx_end.0 count.some) (omega (arith, gap)) (omega arith)
         ∙ ap (λ i. get_or old.records i 0) cell
 
     -- .. and those that come into use are empty
-    filled-new : (k : ℕ) → inUse old.rx ≤ k → k < at → word_in N filled (plus o k) ≡ 0
+    filled-new : (k : ℕ) → in_use old.rx ≤ k → k < at → word_in N filled (plus o k) ≡ 0
     filled-new k lk hk =
-        let m = k - inUse old.rx in
-        let back : inUse old.rx + m ≡ k = omega arith in
+        let m = k - in_use old.rx in
+        let back : in_use old.rx + m ≡ k = omega arith in
         let cell = end-cell m ∙ ap (λ n. plus o n % N) back in
-        ap (λ i. get_or filled i 0) (sym cell) ∙ sym (window-at N 0 filled (old.rx.rx_end.0 % N) (length (replicate {A = ℕ} (at - inUse old.rx) 0)) m (mod-lt old.rx.rx_end.0 count.some) (omega (arith, gap)))
-        ∙ ap (λ (xs : List ℕ). get_or xs m 0) (refill-window N 0 old.records (old.rx.rx_end.0 % N) (replicate (at - inUse old.rx) 0) (mod-lt old.rx.rx_end.0 count.some) table.cells-N (omega (arith, gap)))
-        ∙ get_or-replicate (at - inUse old.rx) m 0 0 (omega arith)
+        ap (λ i. get_or filled i 0) (sym cell) ∙ sym (window-at N 0 filled (old.rx.rx_end.0 % N) (length (replicate {A = ℕ} (at - in_use old.rx) 0)) m (mod-lt old.rx.rx_end.0 count.some) (omega (arith, gap)))
+        ∙ ap (λ (xs : List ℕ). get_or xs m 0) (refill-window N 0 old.records (old.rx.rx_end.0 % N) (replicate (at - in_use old.rx) 0) (mod-lt old.rx.rx_end.0 count.some) table.cells-N (omega (arith, gap)))
+        ∙ get_or-replicate (at - in_use old.rx) m 0 0 (omega arith)
 
   -- ---- the calls
 
   -- "is stored .. Then consecutive messages advance the next expected number"
-  module _ (msg : ReliableMsg) (n len : ℕ) (close : nearOldest N old.rx n ≡ true) (short : len < 2 ^ 24) where
+  module _ (msg : ReliableMsg) (n len : ℕ) (close : near_oldest N old.rx n ≡ true) (short : len < 2 ^ 24) where
     abbrev at : ℕ
     at = past n o
 
     abbrev x : ℕ
-    x = recordOf (Message msg len)
+    x = record_of (Message msg len)
 
     at-few : at < N
-    unfolding nearOldest
+    unfolding near_oldest
     at-few = ltb-true at N close
 
     at-cell : n % N ≡ plus o at % N
@@ -541,76 +541,76 @@ module _ (N : ℕ) (count : CellCount N) (old : RxTable) (table : Table N old) w
 
     -- how many cells are in use then
     abbrev U : ℕ
-    U = cond (isUsed old.rx n) (inUse old.rx) (suc at)
+    U = cond (is_used old.rx n) (in_use old.rx) (suc at)
 
     -- all but its own, and its own
-    stored-words : (E ≤ U) × (U ≤ N) × ((endAfter old.rx n).0 ≡ plus o U) × (length (openedRecords N old n) ≡ N) × (at < U)
-        × ((k : ℕ) → k < U → (k ≡ at → ⊥) → word_in N (openedRecords N old n) (plus o k) ≡ wordPast k) × ((k : ℕ) → U ≤ k → (k ≡ at → ⊥) × (inUse old.rx ≤ k))
-        × ((k : ℕ) → suc k ≡ U → (k ≡ at → ⊥) → suc k ≡ inUse old.rx) × (inUse old.rx ≤ U)
-    unfolding endAfter openedRecords isUsed
-    stored-words = cases (ltb at (inUse old.rx))
+    stored-words : (E ≤ U) × (U ≤ N) × ((end_after old.rx n).0 ≡ plus o U) × (length (opened_records N old n) ≡ N) × (at < U)
+        × ((k : ℕ) → k < U → (k ≡ at → ⊥) → word_in N (opened_records N old n) (plus o k) ≡ word_past k) × ((k : ℕ) → U ≤ k → (k ≡ at → ⊥) × (in_use old.rx ≤ k))
+        × ((k : ℕ) → suc k ≡ U → (k ≡ at → ⊥) → suc k ≡ in_use old.rx) × (in_use old.rx ≤ U)
+    unfolding end_after opened_records is_used
+    stored-words = cases (ltb at (in_use old.rx))
         (λ b.
-        let l = ltb-true at (inUse old.rx) b in
-        simp b (table.near, table.used, end-at, table.cells-N, l, λ k lk ne. simp (lt-ltb k (inUse old.rx) lk), λ k lk. (λ q. omega arith, lk), λ k e ne. e, omega arith))
+        let l = ltb-true at (in_use old.rx) b in
+        simp b (table.near, table.used, end-at, table.cells-N, l, λ k lk ne. simp (lt-ltb k (in_use old.rx) lk), λ k lk. (λ q. omega arith, lk), λ k e ne. e, omega arith))
         (λ b.
-        let l : inUse old.rx ≤ at = omega (arith, ltb-false at (inUse old.rx) b) in
-        let far : past n old.rx.rx_end.0 ≡ at - inUse old.rx = ap (past n) end-at ∙ number_past n o (inUse old.rx) table.oldest-u32 (omega (arith, at-few, count.few)) l in
+        let l : in_use old.rx ≤ at = omega (arith, ltb-false at (in_use old.rx) b) in
+        let far : past n old.rx.rx_end.0 ≡ at - in_use old.rx = ap (past n) end-at ∙ number_past n o (in_use old.rx) table.oldest-u32 (omega (arith, at-few, count.few)) l in
         simp (b, far) (
           omega (arith, table.near),
           omega (arith, at-few),
           number-next n o table.oldest-u32 (omega (arith, at-few, count.few)),
           filled-long at l at-few,
           omega arith,
-          λ k lk ne. cases (ltb k (inUse old.rx))
-              (λ d. simp d (filled-old at l at-few k (ltb-true k (inUse old.rx) d)))
-              (λ d. simp d (filled-new at l at-few k (omega (arith, ltb-false k (inUse old.rx) d)) (omega arith))),
+          λ k lk ne. cases (ltb k (in_use old.rx))
+              (λ d. simp d (filled-old at l at-few k (ltb-true k (in_use old.rx) d)))
+              (λ d. simp d (filled-new at l at-few k (omega (arith, ltb-false k (in_use old.rx) d)) (omega arith))),
           λ k lk. (λ q. omega arith, omega arith),
           λ k e ne. absurd (ne (omega arith)),
           omega arith,
         ))
 
     abbrev w : ℕ → ℕ
-    w k = wordBut at x k
+    w k = word_but at x k
 
     start : Moved N old w U 0 0 (put_in N old msg n len)
     unfolding put_in
     start =
         let s = stored-words in
-        let seen = put (openedRecords N old n) n at x s.3 at-cell at-few in
-        moved-not w U (put_in N old msg n len) s.0 refl refl s.2 (length-set (openedRecords N old n) _ _ ∙ s.3)
+        let seen = put (opened_records N old n) n at x s.3 at-cell at-few in
+        moved-not w U (put_in N old msg n len) s.0 refl refl s.2 (length-set (opened_records N old n) _ _ ∙ s.3)
         (λ k l. seen k (omega (arith, s.1)) ∙ cases (eqb k at) (λ b. simp b) (λ b. simp b (s.5 k l (eqb-false k at b))))
 
     words : Words old w U
     words = record {
       grows = stored-words.8;
       recorded = λ k l. cases (eqb k at) (λ b. simp b (record_is msg len short)) (λ b. simp b (word-recorded k));
-      beyond = λ k l. let f = stored-words.6 k l in simp (ne_eqb k at f.0, le-ltb k (inUse old.rx) f.1);
-      newest = λ k l e. cases (eqb k at) (λ b. simp b (ap isFull (held-record msg len short)))
+      beyond = λ k l. let f = stored-words.6 k l in simp (ne_eqb k at f.0, le-ltb k (in_use old.rx) f.1);
+      newest = λ k l e. cases (eqb k at) (λ b. simp b (ap is_full (held-record msg len short)))
           (λ b.
           let last = stored-words.7 k e (eqb-false k at b) in
-          simp b (ap isFull (held-past k (omega (arith, last, table.used, count.few))) ∙ table.newest k l last));
+          simp b (ap is_full (held-past k (omega (arith, last, table.used, count.few))) ∙ table.newest k l last));
     }
 
-    pub stored-passes : Passes N old (storedIn N old msg n len) (heldBut N old at (Message msg len))
+    pub stored-passes : Passes N old (stored_in N old msg n len) (held_but N old at (Message msg len))
     unfolding held_at
     stored-passes =
         let said = held-but at x (Message msg len) (held-record msg len short) in
-        let oldest : 0 < E → isFull (heldBut N old at (Message msg len) 0) ≡ true = λ l. cases (eqb 0 at) (λ b. simp b) (λ b. simp b (table.oldest l)) in
-        passes_same _ (λ k. held_of (w k)) (heldBut N old at (Message msg len)) said
+        let oldest : 0 < E → is_full (held_but N old at (Message msg len) 0) ≡ true = λ l. cases (eqb 0 at) (λ b. simp b) (λ b. simp b (table.oldest l)) in
+        passes_same _ (λ k. held_of (w k)) (held_but N old at (Message msg len)) said
         (advances w U stored-words.1 words (put_in N old msg n len)
-        (0, 0, start, omega (arith, stored-words.1), λ l. ap (λ v. isFull (held_of v)) (start.over.other 0 (omega (arith, stored-words.4)) (λ a. omega arith)) ∙ ap isFull (said 0 (omega arith)) ∙ oldest (omega arith)))
+        (0, 0, start, omega (arith, stored-words.1), λ l. ap (λ v. is_full (held_of v)) (start.over.other 0 (omega (arith, stored-words.4)) (λ a. omega arith)) ∙ ap is_full (said 0 (omega arith)) ∙ oldest (omega arith)))
 
   -- an empty record says nothing
-  empty-first : (records : List ℕ) → word_in N records (plus o 0) ≡ 0 → isFull (held_at N records (plus o 0)) ≡ false
+  empty-first : (records : List ℕ) → word_in N records (plus o 0) ≡ 0 → is_full (held_at N records (plus o 0)) ≡ false
   unfolding held_at
-  empty-first records e = ap (λ v. isFull (held_of v)) e ∙ ap isFull held_none
+  empty-first records e = ap (λ v. is_full (held_of v)) e ∙ ap is_full held_none
 
   -- the oldest ready message is taken
-  pub taken-passes : (bytes : ℕ) → 0 < expectedAt old.rx → Passes N old (takenIn N old bytes) (heldBut N old 0 Nothing)
-  unfolding takenIn passed_by
+  pub taken-passes : (bytes : ℕ) → 0 < expected_at old.rx → Passes N old (taken_in N old bytes) (held_but N old 0 Nothing)
+  unfolding taken_in passed_by
   taken-passes bytes some =
-      let U = inUse old.rx in
-      let w = wordBut 0 0 in
+      let U = in_use old.rx in
+      let w = word_but 0 0 in
       let emptied = set old.records (o % N) 0 in
       let few = table.used in
       let low = table.near in
@@ -621,7 +621,7 @@ module _ (N : ℕ) (count : CellCount N) (old : RxTable) (table : Table N old) w
         grows = omega arith;
         recorded = λ k l. cases (eqb k 0) (λ b. simp b none-recorded) (λ b. simp b (word-recorded k));
         beyond = λ k l. simp (ne_eqb k 0 (λ q. omega arith), le-ltb k U l);
-        newest = λ k l e. simp (ne_eqb k 0 (λ q. omega arith)) (ap isFull (held-past k (omega (arith, count.few))) ∙ table.newest k l e);
+        newest = λ k l e. simp (ne_eqb k 0 (λ q. omega arith)) (ap is_full (held-past k (omega (arith, count.few))) ∙ table.newest k l e);
       } in
       let start : Moved N old w U 0 0 (table_of old.rx emptied) =
       moved-not w U (table_of old.rx emptied) low refl refl end-at (length-set old.records _ _ ∙ table.cells-N)
@@ -629,23 +629,23 @@ module _ (N : ℕ) (count : CellCount N) (old : RxTable) (table : Table N old) w
       let on = by_one w U few words 0 0 (table_of old.rx emptied) start (omega arith) (empty-first emptied (start.over.other 0 (omega arith) (λ a. omega arith))) in
       let said = held-but 0 0 Nothing held_none in
       let z : E + 0 ≡ E = omega arith in
-      passes_same _ (λ k. held_of (w k)) (heldBut N old 0 Nothing) said
-      (skips w U few words emptied (withBytes (passed_by old.rx) (old.rx.rxed_reliable_size - bytes) (old.rx.rxed_reliable_consumed + bytes)) 1
+      passes_same _ (λ k. held_of (w k)) (held_but N old 0 Nothing) said
+      (skips w U few words emptied (with_bytes (passed_by old.rx) (old.rx.rxed_reliable_size - bytes) (old.rx.rxed_reliable_consumed + bytes)) 1
       (record { over = on.over; oldest-is = on.oldest-is; end_is = on.end_is; behind = on.behind; emptied = on.emptied })
-      (λ l. ap isFull (said (E + 0) (omega (arith, near-expected))) ∙ simp (z, ne_eqb E 0 (λ q. omega arith)) (ap isFull table.held)))
+      (λ l. ap is_full (said (E + 0) (omega (arith, near-expected))) ∙ simp (z, ne_eqb E 0 (λ q. omega arith)) (ap is_full table.held)))
 
   -- ---- what Sound asks of the table then
 
-  module _ (new : RxTable) (at : ℕ) (h : Held) (pass : Passes N old new (heldBut N old at h)) (l : at < pass.end)
-      (fine : (k : ℕ) → k < N → LengthWithin (heldBut N old at h k) × (k < E → ReadyKind (heldBut N old at h k))) where
+  module _ (new : RxTable) (at : ℕ) (h : Held) (pass : Passes N old new (held_but N old at h)) (l : at < pass.end)
+      (fine : (k : ℕ) → k < N → LengthWithin (held_but N old at h k) × (k < E → ReadyKind (held_but N old at h k))) where
     abbrev on : ℕ
     on = E + pass.passed
 
     -- what is in the cells, which are named from the number that was the oldest
-    cell-then : (k : ℕ) → k < N → (k < on → ReadyKind (heldPast N new o k)) × LengthWithin (heldPast N new o k) × (heldBytes (heldPast N new o k) ≡ heldBytes (heldBut N old at h k))
+    cell-then : (k : ℕ) → k < N → (k < on → ReadyKind (held_past N new o k)) × LengthWithin (held_past N new o k) × (held_bytes (held_past N new o k) ≡ held_bytes (held_but N old at h k))
     cell-then k l =
         let was = fine k l in
-        let stay = stays (heldBut N old at h k) was.0 in
+        let stay = stays (held_but N old at h k) was.0 in
         cases (ltb k E)
         (λ t. let lt = ltb-true k E t in rw (pass.ready-were k lt) (λ z. was.1 lt, was.0, refl))
         (λ f. cases (ltb k on)
@@ -653,12 +653,12 @@ module _ (N : ℕ) (count : CellCount N) (old : RxTable) (table : Table N old) w
         (λ t. let ge = ltb-false k on t in rw (pass.ahead k ge l) (λ z. absurd (omega arith), was.0, refl)))
 
     -- the next expected number, the cells in use and the same cells, from the number that is the oldest now
-    expected-then : expectedAt new.rx ≡ on - pass.gone
+    expected-then : expected_at new.rx ≡ on - pass.gone
     expected-then =
         simp (ap (λ q. q.0) pass.expected-is, ap (λ q. q.0) pass.oldest-is, counted old.rx.rx_seq.0 o pass.passed table.expected-u32 table.oldest-u32 near-expected)
         (past-counted o on pass.gone pass.behind (omega (arith, pass.within, pass.used, count.few)))
 
-    used-then : inUse new.rx ≡ pass.end - pass.gone
+    used-then : in_use new.rx ≡ pass.end - pass.gone
     used-then =
         simp (ap (λ q. q.0) pass.end_is, ap (λ q. q.0) pass.oldest-is)
         (past-counted o pass.end pass.gone (omega (arith, pass.behind, pass.within)) (omega (arith, pass.used, count.few)))
@@ -666,43 +666,43 @@ module _ (N : ℕ) (count : CellCount N) (old : RxTable) (table : Table N old) w
     oldest-then : new.rx.rx_oldest.0 < 2 ^ 32
     oldest-then = rw (ap (λ q. q.0) pass.oldest-is) (plus-lt o pass.gone)
 
-    view_then : (k : ℕ) → k < 2 ^ 30 → get_or (cellView N new) k Nothing ≡ heldPast N new o (pass.gone + k)
+    view_then : (k : ℕ) → k < 2 ^ 30 → get_or (cell_view N new) k Nothing ≡ held_past N new o (pass.gone + k)
     view_then k l = view-cell N count new oldest-then k l ∙ ap (cell_of N new) (ap (λ q. plus q.0 k) pass.oldest-is ∙ plus-plus o pass.gone k)
 
     -- the changed cell's bytes go, and others come
-    bytes-then : bytesIn (cellView N new) + heldBytes (heldPast N old o at) ≡ bytesIn (cellView N old) + heldBytes h
+    bytes-then : bytes_in (cell_view N new) + held_bytes (held_past N old o at) ≡ bytes_in (cell_view N old) + held_bytes h
     bytes-then =
-        let hb : RxTable → ℕ → ℕ = λ t k. heldBytes (heldPast N t o k) in
+        let hb : RxTable → ℕ → ℕ = λ t k. held_bytes (held_past N t o k) in
         let gone-le : pass.gone + (pass.end - pass.gone) ≡ pass.end = omega (arith, pass.behind, pass.within) in
-        let long-new : length (cellView N new) ≡ pass.end - pass.gone = length-map (recordView N new) held_of ∙ window-length N 0 new.records _ (inUse new.rx) ∙ used-then in
-        let a : bytesIn (cellView N new) ≡ sumOver (λ k. hb new (pass.gone + k)) (pass.end - pass.gone) =
-        bytes-sum (cellView N new) ∙ ap (sumOver (λ k. heldBytes (get_or (cellView N new) k Nothing))) long-new
-        ∙ sum_same _ (λ k. hb new (pass.gone + k)) (pass.end - pass.gone) (λ k lk. ap heldBytes (view_then k (omega (arith, pass.used, count.few)))) in
-        let b : sumOver (hb new) pass.end ≡ sumOver (hb new) pass.gone + sumOver (λ k. hb new (pass.gone + k)) (pass.end - pass.gone) =
-        ap (sumOver (hb new)) (sym gone-le) ∙ sum-split (hb new) pass.gone (pass.end - pass.gone) in
-        let c : sumOver (hb new) pass.gone ≡ 0 = sum-none (hb new) pass.gone (λ k lk. ap heldBytes (pass.emptied k lk)) in
-        let d : sumOver (hb new) pass.end ≡ sumOver (λ k. heldBytes (heldBut N old at h k)) pass.end =
-        sum_same (hb new) (λ k. heldBytes (heldBut N old at h k)) pass.end (λ k lk. (cell-then k (omega (arith, pass.used))).2) in
-        let e : bytesIn (cellView N old) ≡ sumOver (hb old) pass.end = old-bytes pass.end pass.grows (omega (arith, pass.used, count.few)) in
-        let f = sum-but (λ k. heldBytes (heldBut N old at h k)) (hb old) pass.end at l (λ k ne. simp (ne_eqb k at ne)) in
-        let g : heldBytes (heldBut N old at h at) ≡ heldBytes h = simp (eq-eqb at at refl) in
+        let long-new : length (cell_view N new) ≡ pass.end - pass.gone = length-map (record_view N new) held_of ∙ window-length N 0 new.records _ (in_use new.rx) ∙ used-then in
+        let a : bytes_in (cell_view N new) ≡ sum_over (λ k. hb new (pass.gone + k)) (pass.end - pass.gone) =
+        bytes-sum (cell_view N new) ∙ ap (sum_over (λ k. held_bytes (get_or (cell_view N new) k Nothing))) long-new
+        ∙ sum_same _ (λ k. hb new (pass.gone + k)) (pass.end - pass.gone) (λ k lk. ap held_bytes (view_then k (omega (arith, pass.used, count.few)))) in
+        let b : sum_over (hb new) pass.end ≡ sum_over (hb new) pass.gone + sum_over (λ k. hb new (pass.gone + k)) (pass.end - pass.gone) =
+        ap (sum_over (hb new)) (sym gone-le) ∙ sum-split (hb new) pass.gone (pass.end - pass.gone) in
+        let c : sum_over (hb new) pass.gone ≡ 0 = sum-none (hb new) pass.gone (λ k lk. ap held_bytes (pass.emptied k lk)) in
+        let d : sum_over (hb new) pass.end ≡ sum_over (λ k. held_bytes (held_but N old at h k)) pass.end =
+        sum_same (hb new) (λ k. held_bytes (held_but N old at h k)) pass.end (λ k lk. (cell-then k (omega (arith, pass.used))).2) in
+        let e : bytes_in (cell_view N old) ≡ sum_over (hb old) pass.end = old-bytes pass.end pass.grows (omega (arith, pass.used, count.few)) in
+        let f = sum-but (λ k. held_bytes (held_but N old at h k)) (hb old) pass.end at l (λ k ne. simp (ne_eqb k at ne)) in
+        let g : held_bytes (held_but N old at h at) ≡ held_bytes h = simp (eq-eqb at at refl) in
         omega (arith, a, b, c, d, e, f, g)
       where
         -- those that were in use, or more
-        old-bytes : (m : ℕ) → inUse old.rx ≤ m → m < 2 ^ 30 → bytesIn (cellView N old) ≡ sumOver (λ k. heldBytes (heldPast N old o k)) m
+        old-bytes : (m : ℕ) → in_use old.rx ≤ m → m < 2 ^ 30 → bytes_in (cell_view N old) ≡ sum_over (λ k. held_bytes (held_past N old o k)) m
         old-bytes m more few =
-            let long : length (cellView N old) ≡ inUse old.rx = length-map (recordView N old) held_of ∙ window-length N 0 old.records _ (inUse old.rx) in
-            let f : ℕ → ℕ = λ k. heldBytes (heldPast N old o k) in
-            let whole : inUse old.rx + (m - inUse old.rx) ≡ m = omega arith in
-            let a : bytesIn (cellView N old) ≡ sumOver f (inUse old.rx) =
-            bytes-sum (cellView N old) ∙ ap (sumOver (λ k. heldBytes (get_or (cellView N old) k Nothing))) long
-            ∙ sum_same _ f (inUse old.rx) (λ k lk. ap heldBytes (view-cell N count old table.oldest-u32 k (omega arith))) in
-            let none : sumOver (λ k. f (inUse old.rx + k)) (m - inUse old.rx) ≡ 0 =
-            sum-none _ (m - inUse old.rx) (λ k lk. ap heldBytes (sym (view-cell N count old table.oldest-u32 (inUse old.rx + k) (omega arith)) ∙ view-none N count old (inUse old.rx + k) (omega arith))) in
-            omega (arith, a, none, ap (sumOver f) (sym whole) ∙ sum-split f (inUse old.rx) (m - inUse old.rx))
+            let long : length (cell_view N old) ≡ in_use old.rx = length-map (record_view N old) held_of ∙ window-length N 0 old.records _ (in_use old.rx) in
+            let f : ℕ → ℕ = λ k. held_bytes (held_past N old o k) in
+            let whole : in_use old.rx + (m - in_use old.rx) ≡ m = omega arith in
+            let a : bytes_in (cell_view N old) ≡ sum_over f (in_use old.rx) =
+            bytes-sum (cell_view N old) ∙ ap (sum_over (λ k. held_bytes (get_or (cell_view N old) k Nothing))) long
+            ∙ sum_same _ f (in_use old.rx) (λ k lk. ap held_bytes (view-cell N count old table.oldest-u32 k (omega arith))) in
+            let none : sum_over (λ k. f (in_use old.rx + k)) (m - in_use old.rx) ≡ 0 =
+            sum-none _ (m - in_use old.rx) (λ k lk. ap held_bytes (sym (view-cell N count old table.oldest-u32 (in_use old.rx + k) (omega arith)) ∙ view-none N count old (in_use old.rx + k) (omega arith))) in
+            omega (arith, a, none, ap (sum_over f) (sym whole) ∙ sum-split f (in_use old.rx) (m - in_use old.rx))
 
     -- the records are sound
-    pub records-then : new.rx.cells ≡ N → new.rx.rxed_reliable_size ≡ bytesIn (cellView N new) → SoundRecords new
+    pub records-then : new.rx.cells ≡ N → new.rx.rxed_reliable_size ≡ bytes_in (cell_view N new) → SoundRecords new
     records-then same sum = record {
       long = pass.cells-long ∙ sym same;
       untaken = rw same sum;
@@ -714,18 +714,18 @@ module _ (N : ℕ) (count : CellCount N) (old : RxTable) (table : Table N old) w
       recorded = λ k lk. rw (same, view-record N count new k lk, ap (λ q. plus q.0 k) pass.oldest-is ∙ plus-plus o pass.gone k) (pass.recorded (pass.gone + k) (omega arith) (omega (arith, used-then)));
     }
       where
-        none_then : get_or (cellView N new) (expectedAt new.rx) Nothing ≡ Nothing
+        none_then : get_or (cell_view N new) (expected_at new.rx) Nothing ≡ Nothing
         none_then =
-            let at : pass.gone + expectedAt new.rx ≡ on = omega (arith, expected-then, pass.behind) in
-            view_then (expectedAt new.rx) (omega (arith, expected-then, pass.within, pass.used, count.few)) ∙ ap (heldPast N new o) at
+            let at : pass.gone + expected_at new.rx ≡ on = omega (arith, expected-then, pass.behind) in
+            view_then (expected_at new.rx) (omega (arith, expected-then, pass.within, pass.used, count.few)) ∙ ap (held_past N new o) at
             ∙ cases (ltb on N)
             (λ b. let lt = ltb-true on N b in pass.ahead on (omega arith) lt ∙ not_full _ (pass.stops lt))
             (λ b. pass.beyond on (omega (arith, ltb-false on N b, pass.used)) (omega (arith, pass.within, pass.used, count.few)))
 
-        newest-then : (k : ℕ) → expectedAt new.rx ≤ k → suc k ≡ inUse new.rx → isFull (heldPast N new o (pass.gone + k)) ≡ true
+        newest-then : (k : ℕ) → expected_at new.rx ≤ k → suc k ≡ in_use new.rx → is_full (held_past N new o (pass.gone + k)) ≡ true
         newest-then k lk e =
             let ge : on ≤ pass.gone + k = omega (arith, expected-then) in
-            ap isFull (pass.ahead (pass.gone + k) ge (omega (arith, used-then, pass.used))) ∙ pass.newest (pass.gone + k) ge (omega (arith, used-then))
+            ap is_full (pass.ahead (pass.gone + k) ge (omega (arith, used-then, pass.used))) ∙ pass.newest (pass.gone + k) ge (omega (arith, used-then))
 
 -- ---- of a state with its records
 
@@ -743,9 +743,9 @@ table-of s good records recorded =
       end-u32 = good.shaped.end-u32;
       near = good.sound.near;
       used = good.sound.used;
-      oldest = λ h. ap isFull (sym (at 0 (omega arith))) ∙ recorded.oldest h;
-      held = sym (at (expectedAt s.rx) (omega (arith, good.sound.near, good.sound.used))) ∙ recorded.held;
-      newest = λ k l e. ap isFull (sym (at k (omega (arith, good.sound.used)))) ∙ recorded.newest k l e;
+      oldest = λ h. ap is_full (sym (at 0 (omega arith))) ∙ recorded.oldest h;
+      held = sym (at (expected_at s.rx) (omega (arith, good.sound.near, good.sound.used))) ∙ recorded.held;
+      newest = λ k l e. ap is_full (sym (at k (omega (arith, good.sound.used)))) ∙ recorded.newest k l e;
       recorded = λ k l. rw (← view-record s.rx.cells count t k l) (recorded.recorded k l);
     }
 
@@ -754,9 +754,9 @@ abbrev pub sizes : Receiving → ℕ × ℕ × ℕ × ℕ
 sizes rx = (rx.rxed_reliable_size, rx.rxed_reliable_consumed, rx.recv_buffer, rx.cells)
 
 -- the state with another receiving half, and with what a message may do to the sending half
-abbrev pub effectOn : State → Receiving → (unconsumed : ℕ) (finished closed : Bool) → State
-effectOn s new n finished closed =
-    withParts s s.links (withEnds (withTotals s.tx s.tx.txed_unacked n s.tx.txed_unconsumable) s.tx.txed_last_consumed finished closed) new s.time
+abbrev pub effect_on : State → Receiving → (unconsumed : ℕ) (finished closed : Bool) → State
+effect_on s new n finished closed =
+    with_parts s s.links (with_ends (with_totals s.tx s.tx.txed_unacked n s.tx.txed_unconsumable) s.tx.txed_last_consumed finished closed) new s.time
 
 -- a good state, and records that are sound with it
 pub record GoodWith (s : State) (records : List ℕ) : Type 0 where
@@ -765,8 +765,8 @@ pub record GoodWith (s : State) (records : List ℕ) : Type 0 where
 
 -- a call that changes a cell, passes messages, and has an effect on the sending half: its cells are as Sound asks, and the state is good
 module _ (s : State) (good : Good s) (records : List ℕ) (recorded : SoundRecords (table_of s.rx records)) (new : RxTable) (at : ℕ) (h : Held)
-    (pass : Passes s.rx.cells (table_of s.rx records) new (heldBut s.rx.cells (table_of s.rx records) at h)) (l : at < pass.end)
-    (fits : LengthWithin h) (ready : at < expectedAt s.rx → ReadyKind h) where
+    (pass : Passes s.rx.cells (table_of s.rx records) new (held_but s.rx.cells (table_of s.rx records) at h)) (l : at < pass.end)
+    (fits : LengthWithin h) (ready : at < expected_at s.rx → ReadyKind h) where
   abbrev t : RxTable
   t = table_of s.rx records
 
@@ -779,24 +779,24 @@ module _ (s : State) (good : Good s) (records : List ℕ) (recorded : SoundRecor
   table : Table N t
   table = table-of s good records recorded
 
-  cells-fine : (k : ℕ) → k < N → LengthWithin (heldBut N t at h k) × (k < expectedAt s.rx → ReadyKind (heldBut N t at h k))
+  cells-fine : (k : ℕ) → k < N → LengthWithin (held_but N t at h k) × (k < expected_at s.rx → ReadyKind (held_but N t at h k))
   cells-fine k lk =
       cases (eqb k at) (λ b. simp b (fits, λ lt. ready (omega (arith, eqb-true k at b))))
       (λ b. simp (b, ← (view-cell N count t good.shaped.oldest-u32 k (omega (arith, count.few)))) (length_at k, recorded.ready k))
     where
       length_at : (k : ℕ) → LengthWithin (cell_at t k)
-      length_at k = cases (ltb k (inUse s.rx)) (λ b. recorded.cell-length k (ltb-true k (inUse s.rx) b)) (λ b. rw (view-none N count t k (ltb-false k (inUse s.rx) b)) tt)
+      length_at k = cases (ltb k (in_use s.rx)) (λ b. recorded.cell-length k (ltb-true k (in_use s.rx) b)) (λ b. rw (view-none N count t k (ltb-false k (in_use s.rx) b)) tt)
 
-  pub passed-good : new.rx.rxed_reliable_size ≡ s.rx.rxed_reliable_size + heldBytes h - heldBytes (heldPast N t s.rx.rx_oldest.0 at)
+  pub passed-good : new.rx.rxed_reliable_size ≡ s.rx.rxed_reliable_size + held_bytes h - held_bytes (held_past N t s.rx.rx_oldest.0 at)
       → new.rx.rxed_reliable_size ≤ s.rx.recv_buffer → new.rx.rxed_reliable_consumed < 2 ^ 32 → new.rx.recv_buffer ≡ s.rx.recv_buffer → new.rx.cells ≡ N
-      → (unconsumed : ℕ) (finished closed : Bool) → unconsumed ≤ s.tx.txed_unconsumed → GoodWith (effectOn s new.rx unconsumed finished closed) new.records
+      → (unconsumed : ℕ) (finished closed : Bool) → unconsumed ≤ s.tx.txed_unconsumed → GoodWith (effect_on s new.rx unconsumed finished closed) new.records
   passed-good sum within low buffer same unconsumed finished closed less =
-      let r = effectOn s new.rx unconsumed finished closed in
+      let r = effect_on s new.rx unconsumed finished closed in
       let on = expected-then N count t table new at h pass l cells-fine in
       let used = used-then N count t table new at h pass l cells-fine in
       let bytes = bytes-then N count t table new at h pass l cells-fine in
-      let there : (i : ℕ) → i < s.tx.txed_count → SentHere r (packetAt s i).status =
-      λ i l. here-kept s r (packetAt s i).status (λ j l lives. (lives, refl)) (good.sound.sent i l) in
+      let there : (i : ℕ) → i < s.tx.txed_count → SentHere r (packet_at s i).status =
+      λ i l. here-kept s r (packet_at s i).status (λ j l lives. (lives, refl)) (good.sound.sent i l) in
       let sending : SendingSound r =
       record {
         each = λ i l. record { number = good.sound.consecutive i l; fits = good.sound.packet-length i l; here = there i l; timed = good.sound.sent-by i l };

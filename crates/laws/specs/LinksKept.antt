@@ -8,7 +8,7 @@ use mathlib.Core.List.{List, map}
 use Rattle.std.proofs.Math.Dec.{leb}
 use Rattle.std.proofs.Math.ListN.{length, replicate, length-replicate, get_or-replicate}
 use borrow.Author.Tests.{leb-true, le-leb, eqb-true}
-use Rattle.seq.specs.Numbers.{seqOf, minus}
+use Rattle.seq.specs.Numbers.{seq_of, minus}
 use Rattle.seq.specs.Laws.{minus-lt}
 use Rattle.seq.specs.Distance.{past, past-ahead}
 use Rattle.refusal.specs.declared.verdict.Verdict.{Verdict}
@@ -22,26 +22,26 @@ use Rattle.link.specs.declared.row.Limit.{Limit}
 use Rattle.link.specs.declared.row.Ping.{Ping}
 use Rattle.link.specs.declared.row.Ping.TheVariants.{Idle, Since}
 use Rattle.link.specs.Fields.{with_flags}
-use Rattle.link.specs.Sizes.{maxPingWithin, pingWithin, MAX_TIME}
-use Rattle.link.specs.Row.{emptyRow, fresh_row, confirmed, blockedRow, no_row}
-use Rattle.link.specs.Limit.{markedRow}
-use Rattle.link.specs.Roundtrip.{pinged, ponged, pongedAs}
+use Rattle.link.specs.Sizes.{max_ping_within, ping_within, MAX_TIME}
+use Rattle.link.specs.Row.{empty_row, fresh_row, confirmed, blocked_row, no_row}
+use Rattle.link.specs.Limit.{marked_row}
+use Rattle.link.specs.Roundtrip.{pinged, ponged, ponged_as}
 use Rattle.engine.specs.declared.state.State.{State}
 use Rattle.engine.specs.Ring.{window, window-length, window-none}
-use Rattle.engine.specs.Packets.{noPacket, first_of, packets, SentOn, sum_of, queuedOf}
+use Rattle.engine.specs.Packets.{no_packet, first_of, packets, SentOn, sum_of, queued_of}
 use Rattle.engine.specs.Records.{held_of}
-use Rattle.engine.specs.Received.{table_of, expectedAt, inUse, bytesIn, view-none}
-use Rattle.engine.specs.CellCount.{isCellCount, cell-count}
-use Rattle.engine.specs.Stores.{storeBy}
+use Rattle.engine.specs.Received.{table_of, expected_at, in_use, bytes_in, view-none}
+use Rattle.engine.specs.CellCount.{is_cell_count, cell-count}
+use Rattle.engine.specs.Stores.{store_by}
 use Rattle.engine.specs.DecidedTables.{RowFine}
 use Rattle.engine.specs.Rows.{row_of}
-use Rattle.engine.specs.Answer.{changedBy}
+use Rattle.engine.specs.Answer.{changed_by}
 use Rattle.engine.specs.Gates.{AtSlot, AtTime}
-use Rattle.engine.specs.Starting.{freshTx, freshRx, freshState, freshVerdict, fresh_of, freshRecords}
-use Rattle.engine.specs.Sound.{Sound, SoundRecords, Shaped, rowAt, packetAt}
-use Rattle.engine.specs.Links.{lowestIn, AddPassed, lowest-empty, taken-nowhere}
+use Rattle.engine.specs.Starting.{fresh_tx, fresh_rx, fresh_state, fresh_verdict, fresh_of, fresh_records}
+use Rattle.engine.specs.Sound.{Sound, SoundRecords, Shaped, row_at, packet_at}
+use Rattle.engine.specs.Links.{lowest_in, AddPassed, lowest-empty, taken-nowhere}
 use Rattle.engine.specs.Sizes.{PACKETS, SLOTS, DATA_BYTES}
-use Rattle.engine.specs.Fields.{with_row, withTime}
+use Rattle.engine.specs.Fields.{with_row, with_time}
 use Rattle.laws.specs.RowsKept.{dead-elsewhere, sum-elsewhere, rows_of, rows-set, apart-set, here-added, links-sound, row-shaped, row_kept}
 use Rattle.laws.specs.RowAcks.{SameAcks, confirm-acks, block-acks, mark-acks, ping-acks, pong-acks, empty-full, fresh-full, same_full}
 use Rattle.laws.specs.Good.{Good}
@@ -49,13 +49,13 @@ use Rattle.laws.specs.Good.{Good}
 -- ---- plain changes of a row
 
 -- a pong keeps who lives there, and its round trip is no longer than the time
-ponged-who : (p : Ping) (r : LinkRow) (time : ℕ) → ((pongedAs p r time).live ≡ r.live) × ((pongedAs p r time).link_id ≡ r.link_id)
-unfolding pongedAs
+ponged-who : (p : Ping) (r : LinkRow) (time : ℕ) → ((ponged_as p r time).live ≡ r.live) × ((ponged_as p r time).link_id ≡ r.link_id)
+unfolding ponged_as
 ponged-who Idle r time = (refl, refl)
 ponged-who (Since since) r time = (refl, refl)
 
-ponged-fine : (p : Ping) (r : LinkRow) (sum time : ℕ) → time ≤ MAX_TIME → RowFine r sum time → RowFine (pongedAs p r time) sum time
-unfolding pongedAs
+ponged-fine : (p : Ping) (r : LinkRow) (sum time : ℕ) → time ≤ MAX_TIME → RowFine r sum time → RowFine (ponged_as p r time) sum time
+unfolding ponged_as
 ponged-fine Idle r sum time top f = f
 ponged-fine (Since since) r sum time top f = record { sums = f.sums; trip = omega arith; limit = f.limit; pinged = refl; acks = f.acks }
 
@@ -63,14 +63,14 @@ ponged-fine (Since since) r sum time top f = record { sums = f.sums; trip = omeg
 flags-fine : (r : LinkRow) (b u : Bool) (sum time : ℕ) → RowFine r sum time → RowFine (with_flags r b u) sum time
 flags-fine r b u sum time f = record { sums = f.sums; trip = f.trip; limit = f.limit; pinged = f.pinged; acks = f.acks }
 
-mark-fine : (r : LinkRow) (m : Limit) (sum time : ℕ) → RowFine r sum time → RowFine (markedRow r m) sum time
-unfolding markedRow
+mark-fine : (r : LinkRow) (m : Limit) (sum time : ℕ) → RowFine r sum time → RowFine (marked_row r m) sum time
+unfolding marked_row
 mark-fine r m sum time f = record { sums = f.sums; trip = f.trip; limit = f.limit; pinged = f.pinged; acks = f.acks }
 
 -- a change of the slot's row that keeps who lives there and the places of its acks, at a time
 module _ (s : State) (good : Good s) (slot : ℕ) where
   row-good : (f : LinkRow → LinkRow) (time : ℕ) → AtTime s slot time → ((r : LinkRow) → ((f r).live ≡ r.live) × ((f r).link_id ≡ r.link_id))
-      → ((r : LinkRow) (sum : ℕ) → RowFine r sum time → RowFine (f r) sum time) → SameAcks (f (row_of s slot)) (row_of s slot) → Good (withTime (with_row s slot (f (row_of s slot))) time)
+      → ((r : LinkRow) (sum : ℕ) → RowFine r sum time → RowFine (f r) sum time) → SameAcks (f (row_of s slot)) (row_of s slot) → Good (with_time (with_row s slot (f (row_of s slot))) time)
   row-good f time ok who fine same = record {
     shaped = row-shaped s slot (f (row_of s slot)) time good.shaped (same_full s slot good.shaped _ same) (omega (arith, ok.top));
     sound = row_kept s slot f time good.shaped good.sound ok.at.small ok.at.live ok.later ok.top who fine;
@@ -84,22 +84,22 @@ module _ (s : State) (good : Good s) (slot : ℕ) where
   unfolding confirmed
   confirmed-good at = row-good confirmed s.time (now at) (λ r. (refl, refl)) (λ r sum. flags-fine r r.blocked false sum s.time) (confirm-acks (row_of s slot))
 
-  pub blocked-good : (blocked : Bool) → AtSlot s slot → Good (with_row s slot (blockedRow (row_of s slot) blocked))
-  unfolding blockedRow
+  pub blocked-good : (blocked : Bool) → AtSlot s slot → Good (with_row s slot (blocked_row (row_of s slot) blocked))
+  unfolding blocked_row
   blocked-good blocked at =
-      row-good (λ r. blockedRow r blocked) s.time (now at) (λ r. (refl, refl)) (λ r sum. flags-fine r blocked r.unconfirmed sum s.time) (block-acks (row_of s slot) blocked)
+      row-good (λ r. blocked_row r blocked) s.time (now at) (λ r. (refl, refl)) (λ r sum. flags-fine r blocked r.unconfirmed sum s.time) (block-acks (row_of s slot) blocked)
 
-  pub marked-good : (m : Limit) → AtSlot s slot → Good (with_row s slot (markedRow (row_of s slot) m))
-  unfolding markedRow
-  marked-good m at = row-good (λ r. markedRow r m) s.time (now at) (λ r. (refl, refl)) (λ r sum. mark-fine r m sum s.time) (mark-acks (row_of s slot) m)
+  pub marked-good : (m : Limit) → AtSlot s slot → Good (with_row s slot (marked_row (row_of s slot) m))
+  unfolding marked_row
+  marked-good m at = row-good (λ r. marked_row r m) s.time (now at) (λ r. (refl, refl)) (λ r sum. mark-fine r m sum s.time) (mark-acks (row_of s slot) m)
 
-  pub pinged-good : (time : ℕ) → AtTime s slot time → Good (withTime (with_row s slot (pinged (row_of s slot) time)) time)
+  pub pinged-good : (time : ℕ) → AtTime s slot time → Good (with_time (with_row s slot (pinged (row_of s slot) time)) time)
   unfolding pinged
   pinged-good time ok =
       row-good (λ r. pinged r time) time ok (λ r. (refl, refl))
       (λ r sum f. record { sums = f.sums; trip = f.trip; limit = f.limit; pinged = le-leb time time (omega arith); acks = f.acks }) (ping-acks (row_of s slot) time)
 
-  pub ponged-good : (time : ℕ) → AtTime s slot time → Good (withTime (with_row s slot (ponged (row_of s slot) time)) time)
+  pub ponged-good : (time : ℕ) → AtTime s slot time → Good (with_time (with_row s slot (ponged (row_of s slot) time)) time)
   ponged-good time ok =
       row-good (λ r. ponged r time) time ok (λ r. ponged-who r.current_ping_sent r time) (λ r sum. ponged-fine r.current_ping_sent r sum time ok.top)
       (pong-acks (row_of s slot) (row_of s slot).current_ping_sent time)
@@ -107,20 +107,20 @@ module _ (s : State) (good : Good s) (slot : ℕ) where
 -- ---- add
 
 pub added-good : (s : State) → Good s → (id roundtrip : ℕ) (max : MaxPing) (blocked unconfirmed : Bool) → AddPassed s id roundtrip max
-    → Good (with_row s (lowestIn s) (fresh_row id roundtrip max blocked unconfirmed))
+    → Good (with_row s (lowest_in s) (fresh_row id roundtrip max blocked unconfirmed))
 unfolding fresh_row
 added-good s good id roundtrip max blocked unconfirmed p =
     let new = fresh_row id roundtrip max blocked unconfirmed in
     let shaped = good.shaped in
     let sound = good.sound in
-    let slot = lowestIn s in
+    let slot = lowest_in s in
     let inside : slot < length s.links = omega (arith, shaped.links-full, p.small) in
     let sums : ℕ → ℕ = λ j. sum_of (SentOn j) (packets s.tx) in
     let whole : slot - 0 ≡ slot = omega arith in
-    let dead : (rowAt s slot).live ≡ false = ap (λ j. (rowAt s j).live) (sym whole) ∙ lowest-empty s.links 0 (omega (arith, inside)) in
-    let few = window-length PACKETS noPacket s.tx.txed_packets (first_of s.tx % PACKETS) s.tx.txed_count in
+    let dead : (row_at s slot).live ≡ false = ap (λ j. (row_at s j).live) (sym whole) ∙ lowest-empty s.links 0 (omega (arith, inside)) in
+    let few = window-length PACKETS no_packet s.tx.txed_packets (first_of s.tx % PACKETS) s.tx.txed_count in
     let none : sums slot ≡ 0 =
-    sum-elsewhere slot (packets s.tx) (λ i h. dead-elsewhere s slot dead (packetAt s i).status (sound.sent i (omega (arith, few)))) in
+    sum-elsewhere slot (packets s.tx) (λ i h. dead-elsewhere s slot dead (packet_at s i).status (sound.sent i (omega (arith, few)))) in
     let fits : RowFine new (sums slot) s.time = record { sums = sym none; trip = p.trip; limit = p.limit; pinged = refl; acks = omega arith } in
     record {
       shaped = row-shaped s slot new s.time shaped (fresh-full id roundtrip max blocked unconfirmed) shaped.time-u64;
@@ -140,17 +140,17 @@ past-self n h = let e : minus n n ≡ 0 = omega arith in past-ahead n n (omega (
 
 module _ (start buffer cells : ℕ) (number : start < 2 ^ 32) where
   -- every row is empty
-  fresh-row : (j : ℕ) → j < SLOTS → rowAt (freshState start buffer cells) j ≡ emptyRow
-  unfolding freshState
-  fresh-row j h = get_or-replicate SLOTS j emptyRow no_row h
+  fresh-row : (j : ℕ) → j < SLOTS → row_at (fresh_state start buffer cells) j ≡ empty_row
+  unfolding fresh_state
+  fresh-row j h = get_or-replicate SLOTS j empty_row no_row h
 
-  fresh-state-shaped : cells ≤ 65536 → buffer ≤ cells * DATA_BYTES → Shaped (freshState start buffer cells)
-  unfolding freshState freshTx freshRx
+  fresh-state-shaped : cells ≤ 65536 → buffer ≤ cells * DATA_BYTES → Shaped (fresh_state start buffer cells)
+  unfolding fresh_state fresh_tx fresh_rx
   fresh-state-shaped few high = record {
-    links-full = length-replicate SLOTS emptyRow;
+    links-full = length-replicate SLOTS empty_row;
     queues = λ j h. ap (λ (r : LinkRow). length r.tx_ack_queue) (fresh-row j h) ∙ empty-full;
-    packets-full = length-replicate PACKETS noPacket;
-    queue-full = length-replicate PACKETS (seqOf 0);
+    packets-full = length-replicate PACKETS no_packet;
+    queue-full = length-replicate PACKETS (seq_of 0);
     next-u32 = number;
     expected-u32 = number;
     oldest-u32 = number;
@@ -169,12 +169,12 @@ module _ (start buffer cells : ℕ) (number : start < 2 ^ 32) where
   }
 
   -- no cell is in use
-  pub fresh-numbers : (expectedAt (freshState start buffer cells).rx ≡ 0) × (inUse (freshState start buffer cells).rx ≡ 0)
-  unfolding freshState freshRx
+  pub fresh-numbers : (expected_at (fresh_state start buffer cells).rx ≡ 0) × (in_use (fresh_state start buffer cells).rx ≡ 0)
+  unfolding fresh_state fresh_rx
   fresh-numbers = (past-self start number, past-self start number)
 
-  fresh-state-sound : isCellCount cells ≡ true → 1 ≤ buffer → buffer ≤ cells * DATA_BYTES → Sound (freshState start buffer cells)
-  unfolding freshState freshTx freshRx emptyRow window sum_of queuedOf
+  fresh-state-sound : is_cell_count cells ≡ true → 1 ≤ buffer → buffer ≤ cells * DATA_BYTES → Sound (fresh_state start buffer cells)
+  unfolding fresh_state fresh_tx fresh_rx empty_row window sum_of queued_of
   fresh-state-sound count low high = record {
     consecutive = λ i h. absurd (omega arith);
     first = λ h. absurd (omega arith);
@@ -188,7 +188,7 @@ module _ (start buffer cells : ℕ) (number : start < 2 ^ 32) where
     near = omega (arith, fresh-numbers.0);
     used = omega (arith, fresh-numbers.1);
     sent-by = λ i h. absurd (omega arith);
-    pinged-by = λ j h l. ap (λ (r : LinkRow). pingWithin r.current_ping_sent 0) (fresh-row j h);
+    pinged-by = λ j h l. ap (λ (r : LinkRow). ping_within r.current_ping_sent 0) (fresh-row j h);
     packet-count = omega arith;
     queue-count = omega arith;
     ack-count = λ j h l. rw (fresh-row j h) (omega arith);
@@ -198,30 +198,30 @@ module _ (start buffer cells : ℕ) (number : start < 2 ^ 32) where
     buffer-within = high;
     time-within = omega arith;
     trip-within = λ j h l. rw (fresh-row j h) (omega arith);
-    max-ping-within = λ j h l. ap (λ (r : LinkRow). maxPingWithin r.max_ping) (fresh-row j h);
+    max-ping-within = λ j h l. ap (λ (r : LinkRow). max_ping_within r.max_ping) (fresh-row j h);
   }
 
   -- the fresh state, where it is not refused
-  module _ (records : List ℕ) (e : freshVerdict buffer cells (length records) ≡ Pass) where
+  module _ (records : List ℕ) (e : fresh_verdict buffer cells (length records) ≡ Pass) where
     pub record FreshPassed : Type 0 where
-      pub count : isCellCount cells ≡ true
+      pub count : is_cell_count cells ≡ true
       pub low : 1 ≤ buffer
       pub high : buffer ≤ cells * DATA_BYTES
       pub lent : length records ≡ cells
 
     pub fresh-passed : FreshPassed
-    unfolding freshVerdict
+    unfolding fresh_verdict
     fresh-passed =
-        let setting = isCellCount cells && (leb 1 buffer && leb buffer (cells * DATA_BYTES)) in
+        let setting = is_cell_count cells && (leb 1 buffer && leb buffer (cells * DATA_BYTES)) in
         let e21 = gate-pass setting (refuse 21 tt) _ e in
         let e2 = gate-pass (eqb (length records) cells) (refuse 2 tt) Pass e21.1 in
-        let a = split (isCellCount cells) (leb 1 buffer && leb buffer (cells * DATA_BYTES)) e21.0 in
+        let a = split (is_cell_count cells) (leb 1 buffer && leb buffer (cells * DATA_BYTES)) e21.0 in
         let b = split (leb 1 buffer) (leb buffer (cells * DATA_BYTES)) a.1 in
         record { count = a.0; low = leb-true 1 buffer b.0; high = leb-true buffer (cells * DATA_BYTES) b.1; lent = eqb-true (length records) cells e2.0 }
 
-    pub fresh-is : (fresh_of start buffer cells (length records)).state ≡ freshState start buffer cells
+    pub fresh-is : (fresh_of start buffer cells (length records)).state ≡ fresh_state start buffer cells
     unfolding fresh_of
-    fresh-is = ap (λ (v : Verdict). (changedBy v (freshState start 0 0) (freshState start buffer cells)).state) e
+    fresh-is = ap (λ (v : Verdict). (changed_by v (fresh_state start 0 0) (fresh_state start buffer cells)).state) e
 
     pub fresh-good : Good (fresh_of start buffer cells (length records)).state
     fresh-good = subst Good (sym fresh-is) (record {
@@ -230,27 +230,27 @@ module _ (start buffer cells : ℕ) (number : start < 2 ^ 32) where
     })
 
     -- its records are empty
-    pub fresh-records-are : freshRecords buffer cells records ≡ replicate cells 0
-    unfolding freshRecords
-    fresh-records-are = ap (λ (v : Verdict). storeBy v records (replicate (length records) 0)) e ∙ ap (λ n. replicate n 0) fresh-passed.lent
+    pub fresh-records-are : fresh_records buffer cells records ≡ replicate cells 0
+    unfolding fresh_records
+    fresh-records-are = ap (λ (v : Verdict). store_by v records (replicate (length records) 0)) e ∙ ap (λ n. replicate n 0) fresh-passed.lent
 
     -- .. and sound with it, whatever they held
-    pub fresh-recorded : SoundRecords (table_of (fresh_of start buffer cells (length records)).state.rx (freshRecords buffer cells records))
-    unfolding freshState freshRx bytesIn
+    pub fresh-recorded : SoundRecords (table_of (fresh_of start buffer cells (length records)).state.rx (fresh_records buffer cells records))
+    unfolding fresh_state fresh_rx bytes_in
     fresh-recorded =
-        subst (λ (s : State). SoundRecords (table_of s.rx (freshRecords buffer cells records))) (sym fresh-is)
-        (subst (λ (l : List ℕ). SoundRecords (table_of (freshState start buffer cells).rx l)) (sym fresh-records-are) none-used)
+        subst (λ (s : State). SoundRecords (table_of s.rx (fresh_records buffer cells records))) (sym fresh-is)
+        (subst (λ (l : List ℕ). SoundRecords (table_of (fresh_state start buffer cells).rx l)) (sym fresh-records-are) none-used)
       where
-        none-used : SoundRecords (table_of (freshState start buffer cells).rx (replicate cells 0))
+        none-used : SoundRecords (table_of (fresh_state start buffer cells).rx (replicate cells 0))
         none-used =
-            let t = table_of (freshState start buffer cells).rx (replicate cells 0) in
+            let t = table_of (fresh_state start buffer cells).rx (replicate cells 0) in
             let count = cell-count cells fresh-passed.count in
             record {
               long = length-replicate cells 0;
-              untaken = sym (ap (λ (l : List ℕ). bytesIn (map held_of l)) (window-none cells 0 (replicate cells 0) (start % cells) (inUse t.rx) (omega (arith, fresh-numbers.1))));
+              untaken = sym (ap (λ (l : List ℕ). bytes_in (map held_of l)) (window-none cells 0 (replicate cells 0) (start % cells) (in_use t.rx) (omega (arith, fresh-numbers.1))));
               ready = λ k h. absurd (omega (arith, fresh-numbers.0));
               oldest = λ h. absurd (omega (arith, fresh-numbers.0));
-              held = view-none cells count t (expectedAt t.rx) (omega (arith, fresh-numbers.1));
+              held = view-none cells count t (expected_at t.rx) (omega (arith, fresh-numbers.1));
               newest = λ k l e. absurd (omega (arith, fresh-numbers.1));
               cell-length = λ k h. absurd (omega (arith, fresh-numbers.1));
               recorded = λ k h. absurd (omega (arith, fresh-numbers.1));

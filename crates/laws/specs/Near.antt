@@ -6,26 +6,26 @@ use Rattle.seq.specs.declared.Apart.TheVariants.{By}
 use Rattle.seq.specs.Numbers.{plus}
 use Rattle.seq.specs.Distance.{distance_of, past, past-told, past-plus}
 use Rattle.engine.specs.declared.state.State.{State}
-use Rattle.engine.specs.Received.{expectedAt}
+use Rattle.engine.specs.Received.{expected_at}
 use Rattle.engine.specs.InTable.{packet-back}
-use Rattle.engine.specs.Sound.{packetAt}
+use Rattle.engine.specs.Sound.{packet_at}
 use Rattle.engine.specs.CellCount.{CellCount, cell-count}
 use Rattle.engine.specs.Sizes.{PACKETS}
 use Rattle.laws.specs.Good.{Good}
 
 module _ (s : State) (good : Good s) where
-  pub packet-near : (i : ℕ) → i < s.tx.txed_count → (distance_of s.tx.tx_seq.0 (packetAt s i).seq.0 ≡ By (pos (s.tx.txed_count - i))) × (s.tx.txed_count - i ≤ PACKETS)
+  pub packet-near : (i : ℕ) → i < s.tx.txed_count → (distance_of s.tx.tx_seq.0 (packet_at s i).seq.0 ≡ By (pos (s.tx.txed_count - i))) × (s.tx.txed_count - i ≤ PACKETS)
   packet-near i h =
       let t = s.tx.tx_seq.0 in
       let count = s.tx.txed_count in
-      let n = (packetAt s i).seq.0 in
+      let n = (packet_at s i).seq.0 in
       let back : past t n ≡ count - i = packet-back s good.shaped good.sound i h in
       (past-told t n (omega (arith, back, good.sound.packet-count)) ∙ ap (λ d. By (pos d)) back, omega (arith, good.sound.packet-count))
 
   count : CellCount s.rx.cells
   count = cell-count s.rx.cells good.sound.cell-count
 
-  pub expected-near : (distance_of s.rx.rx_seq.0 s.rx.rx_oldest.0 ≡ By (pos (expectedAt s.rx))) × (expectedAt s.rx ≤ s.rx.cells)
+  pub expected-near : (distance_of s.rx.rx_seq.0 s.rx.rx_oldest.0 ≡ By (pos (expected_at s.rx))) × (expected_at s.rx ≤ s.rx.cells)
   expected-near =
       (past-told s.rx.rx_seq.0 s.rx.rx_oldest.0 (omega (arith, good.sound.near, good.sound.used, count.few)), omega (arith, good.sound.near, good.sound.used))
 

@@ -5,10 +5,10 @@ use Rattle.std.proofs.Common.{sym, ap, ◌∙◌, arith, length-drop, get_or-dro
 use Rattle.std.proofs.lemmas.Bool.{eqb-false}
 use borrow.Table.Steps.{cases}
 use Rattle.seq.specs.declared.Seq.{Seq}
-use Rattle.seq.specs.Numbers.{seqOf, plus, minus}
+use Rattle.seq.specs.Numbers.{seq_of, plus, minus}
 use Rattle.seq.specs.Laws.{plus-plus}
 use Rattle.link.specs.declared.row.LinkRow.{LinkRow}
-use Rattle.link.specs.Row.{withUnacked}
+use Rattle.link.specs.Row.{with_unacked}
 use Rattle.link.specs.Sizes.{MAX_TIME, ACKS}
 use Rattle.engine.specs.declared.state.InFlight.{InFlight}
 use Rattle.engine.specs.declared.state.SentReliableStatus.{SentReliableStatus}
@@ -17,29 +17,29 @@ use Rattle.engine.specs.declared.state.SentReliable.{SentReliable}
 use Rattle.engine.specs.declared.state.Sending.{Sending}
 use Rattle.engine.specs.declared.state.Receiving.{Receiving}
 use Rattle.engine.specs.declared.state.State.{State}
-use Rattle.engine.specs.Packets.{noPacket, first_of, packets, queue, isReceived, restatused, queuedOf, Pick, SentOn, Outstanding, Settled, weightAs, sum_of}
-use Rattle.engine.specs.Received.{expectedAt, inUse}
-use Rattle.engine.specs.CellCount.{isCellCount}
+use Rattle.engine.specs.Packets.{no_packet, first_of, packets, queue, is_received, restatused, queued_of, Pick, SentOn, Outstanding, Settled, weight_as, sum_of}
+use Rattle.engine.specs.Received.{expected_at, in_use}
+use Rattle.engine.specs.CellCount.{is_cell_count}
 use Rattle.engine.specs.InTable.{number_past}
 use Rattle.engine.specs.DecidedTables.{RowFine}
 use Rattle.engine.specs.DecidedPackets as packet
 use Rattle.engine.specs.Rows.{row_of, row-of}
 use Rattle.engine.specs.Gates.{AtTime}
-use Rattle.engine.specs.Sound.{Sound, packetAt, rowAt, SentHere, SentBy}
-use Rattle.engine.specs.Fields.{newFlight, withBytes}
+use Rattle.engine.specs.Sound.{Sound, packet_at, row_at, SentHere, SentBy}
+use Rattle.engine.specs.Fields.{new_flight, with_bytes}
 use Rattle.engine.specs.Sizes.{PACKETS, DATA_BYTES}
 use Rattle.laws.specs.Good.{Good}
 use Rattle.laws.specs.RowsKept.{RowsFine, Apart, Elsewhere, rows_of, row-later, rows-set, row_here, links-set, apart-set, here-same, sent-later}
 use Rattle.laws.specs.RowAcks.{SameAcks, same_full}
 use Rattle.laws.specs.RowChanged.{Like, like-fine, bytes-fine, bytes-live, bytes-id}
 use Rattle.laws.specs.PacketsKept.{packets-count, map-length, map_at, sum-mapped}
-use Rattle.laws.specs.PacketEffects.{restated, changeAt}
+use Rattle.laws.specs.PacketEffects.{restated, change_at}
 
 -- the sending half: each packet's number, length, slot and times; the queue; the totals
 pub record SendingSound (s : State) : Type 0 where
-  pub each : (i : ℕ) → i < s.tx.txed_count → packet.Good s (packetAt s i) (plus (first_of s.tx) i)
-  pub first : 0 < s.tx.txed_count → isReceived (packetAt s 0).status ≡ false
-  pub queued : queue s.tx ≡ queuedOf (packets s.tx)
+  pub each : (i : ℕ) → i < s.tx.txed_count → packet.Good s (packet_at s i) (plus (first_of s.tx) i)
+  pub first : 0 < s.tx.txed_count → is_received (packet_at s 0).status ≡ false
+  pub queued : queue s.tx ≡ queued_of (packets s.tx)
   pub unacked : s.tx.txed_unacked ≡ sum_of Outstanding (packets s.tx)
   pub unconsumable : s.tx.txed_unconsumable ≡ sum_of Settled (packets s.tx)
   pub packet-count : s.tx.txed_count ≤ PACKETS
@@ -48,9 +48,9 @@ pub record SendingSound (s : State) : Type 0 where
 -- the receiving half, but for what the records hold
 pub record ReceivingSound (rx : Receiving) : Type 0 where
   pub untaken-within : rx.rxed_reliable_size ≤ rx.recv_buffer
-  pub near : expectedAt rx ≤ inUse rx
-  pub used : inUse rx ≤ rx.cells
-  pub cell-count : isCellCount rx.cells ≡ true
+  pub near : expected_at rx ≤ in_use rx
+  pub used : in_use rx ≤ rx.cells
+  pub cell-count : is_cell_count rx.cells ≡ true
   pub buffer-set : 1 ≤ rx.recv_buffer
   pub buffer-within : rx.recv_buffer ≤ rx.cells * DATA_BYTES
 
@@ -67,7 +67,7 @@ module _ (s : State) where
   }
 
   -- whatever is taken and untold
-  receiving-told : (untold : ℕ) → Sound s → ReceivingSound (withBytes s.rx s.rx.rxed_reliable_size untold)
+  receiving-told : (untold : ℕ) → Sound s → ReceivingSound (with_bytes s.rx s.rx.rxed_reliable_size untold)
   receiving-told untold sound = record {
     untaken-within = sound.untaken-within;
     near = sound.near;
@@ -127,7 +127,7 @@ same-sizes s good tx cells places e f g =
 
 -- the receiving half stays, or says fewer bytes taken and untold
 abbrev pub Told : State → State → Type 0
-Told s t = (untold : ℕ) × (untold ≤ s.rx.rxed_reliable_consumed) × (t.rx ≡ withBytes s.rx s.rx.rxed_reliable_size untold)
+Told s t = (untold : ℕ) × (untold ≤ s.rx.rxed_reliable_consumed) × (t.rx ≡ with_bytes s.rx s.rx.rxed_reliable_size untold)
 
 -- what such a call has to show of its new state
 pub record After (s t : State) (slot : ℕ) (row : LinkRow) : Type 0 where
@@ -135,7 +135,7 @@ pub record After (s t : State) (slot : ℕ) (row : LinkRow) : Type 0 where
   -- the slot's row is as Sound asks, with the link's identity or empty, and the Sent data of every other slot is as it was
   pub links : t.links ≡ set s.links slot row
   pub full : length row.tx_ack_queue ≡ ACKS
-  pub who : row.live ≡ true → row.link_id ≡ (rowAt s slot).link_id
+  pub who : row.live ≡ true → row.link_id ≡ (row_at s slot).link_id
   pub fine : row.live ≡ true → RowFine row (sum_of (SentOn slot) (packets t.tx)) t.time
   pub others : (j : ℕ) → (j ≡ slot → ⊥) → sum_of (SentOn j) (packets t.tx) ≡ sum_of (SentOn j) (packets s.tx)
   pub sized : Sized t.tx
@@ -188,7 +188,7 @@ Fits s st = SentHere s st × SentBy s.time st
 
 -- a change by number gives a packet the new status or leaves its own
 pub change-at : (P : SentReliableStatus → Type 0) (n : ℕ) (change : SentReliableStatus → SentReliableStatus) (p : SentReliable) → P p.status → P (change p.status)
-    → P (changeAt n change p)
+    → P (change_at n change p)
 change-at P n change p old new = cases (eqb p.seq.0 n) (λ t. simp t new) (λ t. simp t old)
 
 -- a change of what is Sent over a slot leaves every other status ..
@@ -206,10 +206,10 @@ module _ {slot : ℕ} {change : SentReliableStatus → SentReliableStatus} {new 
   slot-by P same moved (ResendQueued link) = rw (on.queued link) (same (ResendQueued link) tt)
 
   -- .. and a sum where it leaves the weights
-  pub slot-sum : (k : Pick) → ((len : ℕ) (flight : InFlight) → flight.slot ≡ slot → weightAs k (new flight) len ≡ weightAs k (Sent flight) len) → (ps : List SentReliable)
+  pub slot-sum : (k : Pick) → ((len : ℕ) (flight : InFlight) → flight.slot ≡ slot → weight_as k (new flight) len ≡ weight_as k (Sent flight) len) → (ps : List SentReliable)
       → sum_of k (map (restatused change) ps) ≡ sum_of k ps
   slot-sum k same ps =
-      sum-mapped (restatused change) k (λ p. slot-by (λ st new. weightAs k new p.len ≡ weightAs k st p.len) (λ st e. refl) (same p.len) p.status) ps
+      sum-mapped (restatused change) k (λ p. slot-by (λ st new. weight_as k new p.len ≡ weight_as k st p.len) (λ st e. refl) (same p.len) p.status) ps
 
 -- the packets with other statuses, and without the first ones
 module _ (s t : State) (good : Good s) (change : SentReliable → SentReliableStatus) (gone : ℕ)
@@ -222,10 +222,10 @@ module _ (s t : State) (good : Good s) (change : SentReliable → SentReliableSt
       omega (arith, packets-count s.tx, packets-count t.tx, ap length now, length-drop gone ms, map-length (restated change) (packets s.tx))
 
   -- .. each packet that is left was that many places further on ..
-  was : (i : ℕ) → i < t.tx.txed_count → packetAt t i ≡ restated change (packetAt s (gone + i))
+  was : (i : ℕ) → i < t.tx.txed_count → packet_at t i ≡ restated change (packet_at s (gone + i))
   was i h =
-      ap (λ qs. get_or qs i noPacket) now ∙ get_or-drop gone (map (restated change) (packets s.tx)) i noPacket
-      ∙ map_at (restated change) noPacket (packets s.tx) (gone + i) (omega (arith, counts, packets-count s.tx))
+      ap (λ qs. get_or qs i no_packet) now ∙ get_or-drop gone (map (restated change) (packets s.tx)) i no_packet
+      ∙ map_at (restated change) no_packet (packets s.tx) (gone + i) (omega (arith, counts, packets-count s.tx))
 
   -- .. the first number moves on by them ..
   first : first_of t.tx ≡ plus (first_of s.tx) gone
@@ -236,22 +236,22 @@ module _ (s t : State) (good : Good s) (change : SentReliable → SentReliableSt
       ∙ ap (plus (first_of s.tx)) off
 
   -- .. and so each is as Sound asks, with the queue and the totals that the call shows
-  pub changed-sending : ((p : SentReliable) → Fits s p.status → Fits t (change p)) → (gone < s.tx.txed_count → isReceived (change (packetAt s gone)) ≡ false)
-      → queue t.tx ≡ queuedOf (packets t.tx) → t.tx.resend_count ≤ PACKETS
+  pub changed-sending : ((p : SentReliable) → Fits s p.status → Fits t (change p)) → (gone < s.tx.txed_count → is_received (change (packet_at s gone)) ≡ false)
+      → queue t.tx ≡ queued_of (packets t.tx) → t.tx.resend_count ≤ PACKETS
       → t.tx.txed_unacked ≡ sum_of Outstanding (packets t.tx) → t.tx.txed_unconsumable ≡ sum_of Settled (packets t.tx) → SendingSound t
   changed-sending fits stays lists room unacked unconsumable = record {
     each = λ i h.
         let inside : gone + i < s.tx.txed_count = omega (arith, counts) in
-        let new = fits (packetAt s (gone + i)) (good.sound.sent (gone + i) inside, good.sound.sent-by (gone + i) inside) in
+        let new = fits (packet_at s (gone + i)) (good.sound.sent (gone + i) inside, good.sound.sent-by (gone + i) inside) in
         rw (was i h) (record {
-          number = good.sound.consecutive (gone + i) inside ∙ ap seqOf (sym (plus-plus (first_of s.tx) gone i) ∙ ap (λ n. plus n i) (sym first));
+          number = good.sound.consecutive (gone + i) inside ∙ ap seq_of (sym (plus-plus (first_of s.tx) gone i) ∙ ap (λ n. plus n i) (sym first));
           fits = good.sound.packet-length (gone + i) inside;
           here = new.0;
           timed = new.1;
         });
     first = λ h.
         let same : gone + 0 ≡ gone = omega arith in
-        ap (λ p. isReceived p.status) (was 0 h) ∙ ap (λ k. isReceived (change (packetAt s k))) same ∙ stays (omega (arith, counts));
+        ap (λ p. is_received p.status) (was 0 h) ∙ ap (λ k. is_received (change (packet_at s k))) same ∙ stays (omega (arith, counts));
     queued = lists;
     unacked = unacked;
     unconsumable = unconsumable;
@@ -262,27 +262,27 @@ module _ (s t : State) (good : Good s) (change : SentReliable → SentReliableSt
 -- ---- the slot's row keeps the link
 
 -- a packet that named a live slot still does
-pub still : (s t : State) → Good s → (slot : ℕ) → AtTime s slot t.time → (row : LinkRow) → t.links ≡ set s.links slot row → row.live ≡ (rowAt s slot).live
-    → row.link_id ≡ (rowAt s slot).link_id → (st : SentReliableStatus) → Fits s st → Fits t st
+pub still : (s t : State) → Good s → (slot : ℕ) → AtTime s slot t.time → (row : LinkRow) → t.links ≡ set s.links slot row → row.live ≡ (row_at s slot).live
+    → row.link_id ≡ (row_at s slot).link_id → (st : SentReliableStatus) → Fits s st → Fits t st
 still s t good slot ok row links live id st f =
     (here-same s t slot row links (omega (arith, good.shaped.links-full, ok.at.small)) live id st f.0, sent-later st s.time t.time ok.later f.1)
 
 -- a packet is Sent over the link now: its bytes join the link's, and the row may have another mark
 module _ (s t : State) (good : Good s) (slot : ℕ) (ok : AtTime s slot t.time) (m : LinkRow) (like : Like m (row_of s slot)) (len : ℕ) (again : Bool) where
   abbrev row : LinkRow
-  row = withUnacked m ((row_of s slot).txed_unacked_data + len)
+  row = with_unacked m ((row_of s slot).txed_unacked_data + len)
 
   abbrev status : SentReliableStatus
-  status = Sent (newFlight t.time slot (row_of s slot).link_id again)
+  status = Sent (new_flight t.time slot (row_of s slot).link_id again)
 
   pub over-good : t.links ≡ set s.links slot row → SameAcks row (row_of s slot)
-      → ((j : ℕ) → sum_of (SentOn j) (packets t.tx) ≡ sum_of (SentOn j) (packets s.tx) + weightAs (SentOn j) status len)
+      → ((j : ℕ) → sum_of (SentOn j) (packets t.tx) ≡ sum_of (SentOn j) (packets s.tx) + weight_as (SentOn j) status len)
       → (((st : SentReliableStatus) → Fits s st → Fits t st) → Fits t status → SendingSound t) → Sized t.tx → Told s t → Good t
   over-good links acks sums sending sized told =
       let own = row-of s slot ok.at.small in
-      let live : row.live ≡ (rowAt s slot).live = bytes-live m _ ∙ like.live ∙ ap (λ x. x.live) own in
+      let live : row.live ≡ (row_at s slot).live = bytes-live m _ ∙ like.live ∙ ap (λ x. x.live) own in
       let id : row.link_id ≡ (row_of s slot).link_id = bytes-id m _ ∙ like.id in
-      let here : rowAt t slot ≡ row = rw links (row_here s.links slot row (omega (arith, good.shaped.links-full, ok.at.small))) in
+      let here : row_at t slot ≡ row = rw links (row_here s.links slot row (omega (arith, good.shaped.links-full, ok.at.small))) in
       let mine : cond (eqb slot slot) len 0 ≡ len = simp (eq-eqb slot slot refl) in
       let none : (j : ℕ) → (j ≡ slot → ⊥) → cond (eqb slot j) len 0 ≡ 0 = λ j ne. simp (ne_eqb slot j (λ e. ne (sym e))) in
       let old = row-later _ _ s.time t.time ok.later (rows_of s good.sound slot ok.at.small ok.at.live) in

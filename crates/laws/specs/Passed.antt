@@ -6,25 +6,25 @@ use Rattle.refusal.specs.declared.Refusal.{Refusal}
 use Rattle.refusal.specs.declared.verdict.Verdict.{Verdict}
 use Rattle.link.specs.declared.row.Limit.TheVariants.{At}
 use Rattle.link.specs.Row.{fresh_row}
-use Rattle.link.specs.Acks.{oldestAck}
+use Rattle.link.specs.Acks.{oldest_ack}
 use Rattle.engine.specs.declared.state.State.{State}
-use Rattle.engine.specs.Answer.{changedBy}
+use Rattle.engine.specs.Answer.{changed_by}
 use Rattle.engine.specs.Gates.{slot-passed, timed-passed}
 use Rattle.engine.specs.Rows.{row_of}
-use Rattle.engine.specs.Stores.{storeBy}
-use Rattle.engine.specs.Links.{addOf, addedBy, addVerdict, lowestIn, confirmOf, block_of, mark_of, pingOf, pongOf, add-passed}
-use Rattle.engine.specs.Unconfirming.{unconfirmOf, removeOf}
-use Rattle.engine.specs.Sending.{sendOf, sendStore, sentBy, sendVerdict, send-passed}
-use Rattle.engine.specs.Flushing.{flushOf}
-use Rattle.engine.specs.Resending.{resendOf, resentBy, resendVerdict, resentState, resend-passed}
-use Rattle.engine.specs.Acking.{ackOf, ack-passed}
-use Rattle.engine.specs.Receiving.{receiveOf, receiveStore, receiveRecords, receiveVerdict, receive-passed}
-use Rattle.engine.specs.HandingOut.{handOutBy, takeVerdict, takenBy, take_of, recordsBy, takeRecords, taking, takeAckVerdict, ackAs, ackAnswer, takenAckBy, takeAckOf, take-ack-passed}
+use Rattle.engine.specs.Stores.{store_by}
+use Rattle.engine.specs.Links.{add_of, added_by, add_verdict, lowest_in, confirm_of, block_of, mark_of, ping_of, pong_of, add-passed}
+use Rattle.engine.specs.Unconfirming.{unconfirm_of, remove_of}
+use Rattle.engine.specs.Sending.{send_of, send_store, sent_by, send_verdict, send-passed}
+use Rattle.engine.specs.Flushing.{flush_of}
+use Rattle.engine.specs.Resending.{resend_of, resent_by, resend_verdict, resent_state, resend-passed}
+use Rattle.engine.specs.Acking.{ack_of, ack-passed}
+use Rattle.engine.specs.Receiving.{receive_of, receive_store, receive_records, receive_verdict, receive-passed}
+use Rattle.engine.specs.HandingOut.{hand_out_by, take_verdict, taken_by, take_of, records_by, take_records, taking, take_ack_verdict, ack_as, ack_answer, taken_ack_by, take_ack_of, take-ack-passed}
 use Rattle.engine.specs.Fields.{with_row}
 use Rattle.laws.specs.Good.{Good}
-use Rattle.laws.specs.Calls.{Call, Add, Remove, Confirm, Unconfirm, Block, Mark, Ping, Pong, Flush, Send, Resend, Ack, Receive, Show, Take, Due, Close, TakeAck, EarliestConfirmTimeout, Holding, withState, table, again, verdict, values, number, next, Typed, done, Passed}
-use Rattle.engine.specs.Closing.{closeOf}
-use Rattle.refusal.specs.Answers.{toldBy}
+use Rattle.laws.specs.Calls.{Call, Add, Remove, Confirm, Unconfirm, Block, Mark, Ping, Pong, Flush, Send, Resend, Ack, Receive, Show, Take, Due, Close, TakeAck, EarliestConfirmTimeout, Holding, with_state, table, again, verdict, values, number, next, Typed, done, Passed}
+use Rattle.engine.specs.Closing.{close_of}
+use Rattle.refusal.specs.Answers.{told_by}
 use Rattle.laws.specs.ReaderKept.{read-good}
 use borrow.Table.Steps.{cases}
 use Rattle.refusal.specs.declared.verdict.Verdict.TheVariants.{Pass}
@@ -49,15 +49,15 @@ by : (v : Verdict) (left : Verdict → Holding) {d h : Holding} → left verdict
 by verdicts.Pass left kept same = kept
 by (verdicts.No e) left kept same = same e
 
-by-changed : (h : Holding) (v : Verdict) (after : State) → Judges v (withState h (changedBy v h.state after).state) (withState h after) h
-by-changed h v after = by v (λ x. withState h (changedBy x h.state after).state) refl (λ e. refl)
+by-changed : (h : Holding) (v : Verdict) (after : State) → Judges v (with_state h (changed_by v h.state after).state) (with_state h after) h
+by-changed h v after = by v (λ x. with_state h (changed_by x h.state after).state) refl (λ e. refl)
 
 judged : (c : Call) (h : Holding) → Judges (verdict c h) (next c h) (done c h) h
-unfolding addOf removeOf confirmOf unconfirmOf block_of mark_of pingOf pongOf flushOf sendOf sendStore resendOf ackOf receiveOf receiveStore receiveRecords handOutBy take_of takeRecords closeOf ackAnswer takeAckOf
+unfolding add_of remove_of confirm_of unconfirm_of block_of mark_of ping_of pong_of flush_of send_of send_store resend_of ack_of receive_of receive_store receive_records hand_out_by take_of take_records close_of ack_answer take_ack_of
 judged (Add id roundtrip max blocked unconfirmed) h =
     let s = h.state in
-    let after = with_row s (lowestIn s) (fresh_row id roundtrip max blocked unconfirmed) in
-    by (addVerdict s id roundtrip max) (λ v. withState h (addedBy v (lowestIn s) s after).state) refl (λ e. refl)
+    let after = with_row s (lowest_in s) (fresh_row id roundtrip max blocked unconfirmed) in
+    by (add_verdict s id roundtrip max) (λ v. with_state h (added_by v (lowest_in s) s after).state) refl (λ e. refl)
 judged (Remove slot) h = let c = Remove slot in by-changed h (verdict c h) (done c h).state
 judged (Confirm slot) h = let c = Confirm slot in by-changed h (verdict c h) (done c h).state
 judged (Unconfirm slot) h = let c = Unconfirm slot in by-changed h (verdict c h) (done c h).state
@@ -69,36 +69,36 @@ judged (Flush slot time) h = let c = Flush slot time in by-changed h (verdict c 
 judged (Send slot time msg bytes) h =
     let s = h.state in
     let after = done (Send slot time msg bytes) h in
-    by (sendVerdict s (length h.sent) slot time msg (length bytes))
-    (λ v. record { state = (sentBy v s after.state).state; sent = storeBy v h.sent after.sent; received = h.received; records = h.records }) refl (λ e. refl)
+    by (send_verdict s (length h.sent) slot time msg (length bytes))
+    (λ v. record { state = (sent_by v s after.state).state; sent = store_by v h.sent after.sent; received = h.received; records = h.records }) refl (λ e. refl)
 judged (Resend slot time n) h =
     let s = h.state in
-    by (resendVerdict s slot time n) (λ v. withState h (resentBy v s n (resentState s slot time n)).state) refl (λ e. refl)
+    by (resend_verdict s slot time n) (λ v. with_state h (resent_by v s n (resent_state s slot time n)).state) refl (λ e. refl)
 judged (Ack slot time n) h = let c = Ack slot time n in by-changed h (verdict c h) (done c h).state
 judged (Receive slot msg n bytes) h =
     let s = h.state in
     let after = done (Receive slot msg n bytes) h in
-    by (receiveVerdict s (length h.received) h.records slot msg n (length bytes))
+    by (receive_verdict s (length h.received) h.records slot msg n (length bytes))
     (λ v. record {
-      state = (changedBy v s after.state).state;
+      state = (changed_by v s after.state).state;
       sent = h.sent;
-      received = storeBy v h.received after.received;
-      records = storeBy v h.records after.records;
+      received = store_by v h.received after.received;
+      records = store_by v h.records after.records;
     }) refl (λ e. refl)
 judged Show h = by (verdict Show h) (λ v. h) refl (λ e. refl)
 judged Take h =
-    by (takeVerdict h.state h.records)
+    by (take_verdict h.state h.records)
     (λ v. record {
-      state = takenBy (handOutBy v (table h)) h.state h.records;
+      state = taken_by (hand_out_by v (table h)) h.state h.records;
       sent = h.sent;
       received = h.received;
-      records = recordsBy (handOutBy v (table h)) h.state h.records;
+      records = records_by (hand_out_by v (table h)) h.state h.records;
     }) refl (λ e. refl)
 judged Due h = by (verdict Due h) (λ v. h) refl (λ e. refl)
 judged Close h = by-changed h (verdict Close h) (done Close h).state
 judged (TakeAck slot) h =
-    let ack = oldestAck (row_of h.state slot) in
-    by (takeAckVerdict h.state slot) (λ v. withState h (takenAckBy (ackAs v ack) h.state slot)) refl (λ e. refl)
+    let ack = oldest_ack (row_of h.state slot) in
+    by (take_ack_verdict h.state slot) (λ v. with_state h (taken_ack_by (ack_as v ack) h.state slot)) refl (λ e. refl)
 judged (EarliestConfirmTimeout timeout unreliable) h = let c = EarliestConfirmTimeout timeout unreliable in by (verdict c h) (λ v. h) refl (λ e. refl)
 
 module _ (c : Call) (h : Holding) where
@@ -109,7 +109,7 @@ module _ (c : Call) (h : Holding) where
   left-refused r e = subst (λ (v : Verdict). Judges v (next c h) (done c h) h) e (judged c h)
 
   pub number_passed : verdict c h ≡ verdicts.Pass → number c h ≡ 0
-  number_passed e = ap (λ (v : Verdict). (toldBy v (values c h)).number) e
+  number_passed e = ap (λ (v : Verdict). (told_by v (values c h)).number) e
 
   -- what holds before a call and after an accepted one, holds after it
   pub next-keeps : (P : Holding → Type 0) → P h → (verdict c h ≡ verdicts.Pass → P (done c h)) → P (next c h)
@@ -129,7 +129,7 @@ module _ (c : Call) (h : Holding) where
       go (verdicts.No r) e = subst (P (answer (verdict c h))) (sym (left-refused r e)) (subst (λ (v : Verdict). P (answer v) h) (sym e) (left r))
 
 pub passed : (c : Call) (h : Holding) → Typed c → Good h.state → verdict c h ≡ verdicts.Pass → Passed c h
-unfolding handOutBy
+unfolding hand_out_by
 passed (Add id roundtrip max blocked unconfirmed) h t g e = add-passed h.state id roundtrip max e
 passed (Remove slot) h t g e = slot-passed h.state slot e
 passed (Confirm slot) h t g e = slot-passed h.state slot e
@@ -144,7 +144,7 @@ passed (Resend slot time n) h t g e = resend-passed h.state slot time n g.shaped
 passed (Ack slot time n) h t g e = ack-passed h.state slot time n e
 passed (Receive slot msg n bytes) h t g e = receive-passed h.state (length h.received) h.records slot msg n (length bytes) e
 passed Show h t g e = tt
-passed Take h t g e = taking h.state h.records _ _ _ (ap (λ (v : Verdict). handOutBy v (table h)) e)
+passed Take h t g e = taking h.state h.records _ _ _ (ap (λ (v : Verdict). hand_out_by v (table h)) e)
 passed Due h t g e = tt
 passed Close h t g e = tt
 passed (TakeAck slot) h t g e = take-ack-passed h.state slot e

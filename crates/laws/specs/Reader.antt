@@ -7,60 +7,60 @@ use Rattle.std.proofs.Math.Path.{ap}
 use borrow.Table.Steps.{cases}
 use Rattle.refusal.specs.declared.verdict.Verdict.{Verdict}
 use Rattle.refusal.specs.declared.verdict.Verdict.TheVariants.{Pass, No}
-use Rattle.refusal.specs.Answers.{toldBy}
+use Rattle.refusal.specs.Answers.{told_by}
 use Rattle.refusal.specs.Verdicts.{gate}
 use Rattle.link.specs.declared.timeout.AckTimeout.{AckTimeout}
 use Rattle.engine.specs.declared.state.State.{State}
 use Rattle.engine.specs.declared.answer.Changed.{Changed}
 use Rattle.engine.specs.declared.deadlines.FirstSent.{FirstSent}
 use Rattle.engine.specs.declared.deadlines.FirstSent.TheVariants as firsts
-use Rattle.engine.specs.Decide.{soundb, sound, sound-true, recordsb, soundWithb}
-use Rattle.engine.specs.Answer.{changedBy}
-use Rattle.engine.specs.Gates.{slotVerdict, timedVerdict, stateVerdict}
-use Rattle.engine.specs.Rows.{row_of, slotOk, timeOk}
-use Rattle.engine.specs.Links.{addVerdict}
-use Rattle.engine.specs.Unconfirming.{unconfirmedState, removedState}
-use Rattle.engine.specs.Flushing.{flushedState}
-use Rattle.engine.specs.Sending.{sendVerdict, totalsOk, sentState}
-use Rattle.engine.specs.Resending.{resendVerdict, resentState}
-use Rattle.engine.specs.Acking.{ackVerdict, ackedRow, ackedTx, ackedState}
-use Rattle.engine.specs.Receiving.{lengthsOk, messageVerdict, receiveVerdict, repeatedState, effectState, receivedState}
+use Rattle.engine.specs.Decide.{soundb, sound, sound-true, recordsb, sound_withb}
+use Rattle.engine.specs.Answer.{changed_by}
+use Rattle.engine.specs.Gates.{slot_verdict, timed_verdict, state_verdict}
+use Rattle.engine.specs.Rows.{row_of, slot_ok, time_ok}
+use Rattle.engine.specs.Links.{add_verdict}
+use Rattle.engine.specs.Unconfirming.{unconfirmed_state, removed_state}
+use Rattle.engine.specs.Flushing.{flushed_state}
+use Rattle.engine.specs.Sending.{send_verdict, totals_ok, sent_state}
+use Rattle.engine.specs.Resending.{resend_verdict, resent_state}
+use Rattle.engine.specs.Acking.{ack_verdict, acked_row, acked_tx, acked_state}
+use Rattle.engine.specs.Receiving.{lengths_ok, message_verdict, receive_verdict, repeated_state, effect_state, received_state}
 use Rattle.engine.specs.declared.handing_out.HandOut.{HandOut}
-use Rattle.engine.specs.HandingOut.{handOutBy, partAs, placeAs, showVerdict, takeVerdict, takenState, takeAckVerdict, takenAckState, showingOf, shownOf, shownAt}
-use Rattle.engine.specs.Closing.{closedState, closeOf}
-use Rattle.engine.specs.Deadlines.{confirmTimeoutVerdict, firstSent, namedValues, deadlineOf}
+use Rattle.engine.specs.HandingOut.{hand_out_by, part_as, place_as, show_verdict, take_verdict, taken_state, take_ack_verdict, taken_ack_state, showing_of, shown_of, shown_at}
+use Rattle.engine.specs.Closing.{closed_state, close_of}
+use Rattle.engine.specs.Deadlines.{confirm_timeout_verdict, first_sent, named_values, deadline_of}
 use Rattle.engine.specs.Packets.{packets}
 use Rattle.engine.specs.Sizes.{SENT_BYTES}
-use Rattle.engine.specs.Fields.{withReader}
+use Rattle.engine.specs.Fields.{with_reader}
 use Rattle.laws.specs.ReaderKept.{read-sound}
-use Rattle.laws.specs.Calls.{Call, Add, Remove, Confirm, Unconfirm, Block, Mark, Ping, Pong, Flush, Send, Resend, Ack, Receive, Show, Take, Due, Close, TakeAck, EarliestConfirmTimeout, Holding, withState, table, again, verdict, values, told, next, done}
+use Rattle.laws.specs.Calls.{Call, Add, Remove, Confirm, Unconfirm, Block, Mark, Ping, Pong, Flush, Send, Resend, Ack, Receive, Show, Take, Due, Close, TakeAck, EarliestConfirmTimeout, Holding, with_state, table, again, verdict, values, told, next, done}
 use Rattle.laws.specs.Passed.{left_passed, left-refused}
 use Rattle.laws.specs.SoundKept.{after}
 
 -- the same with the reader open or closed
 abbrev pub reading : Bool → Holding → Holding
-reading reads h = withState h (withReader h.state reads)
+reading reads h = with_state h (with_reader h.state reads)
 
 -- ---- what decides a call, what it tells and what it leaves
 
 -- whether a state is sound, and each of its rows: what `is_sound` and `row_of` answer
-pub reader-sound : (s : State) (reads : Bool) → soundb (withReader s reads) ≡ soundb s
+pub reader-sound : (s : State) (reads : Bool) → soundb (with_reader s reads) ≡ soundb s
 reader-sound s reads =
     cases (soundb s)
-    (λ t. sound-true (withReader s reads) (read-sound s reads (sound s t)) ∙ sym t)
-    (λ f. cases (soundb (withReader s reads)) (λ t. t ∙ sym (sound-true s (read-sound (withReader s reads) s.read_open (sound (withReader s reads) t)))) (λ t. t ∙ sym f))
+    (λ t. sound-true (with_reader s reads) (read-sound s reads (sound s t)) ∙ sym t)
+    (λ f. cases (soundb (with_reader s reads)) (λ t. t ∙ sym (sound-true s (read-sound (with_reader s reads) s.read_open (sound (with_reader s reads) t)))) (λ t. t ∙ sym f))
 
-pub reader-row : (s : State) (reads : Bool) (slot : ℕ) → row_of (withReader s reads) slot ≡ row_of s slot
+pub reader-row : (s : State) (reads : Bool) (slot : ℕ) → row_of (with_reader s reads) slot ≡ row_of s slot
 unfolding row_of
 reader-row s reads slot = refl
 
-named-reading : (found : FirstSent) (s : State) (reads : Bool) (timeout : AckTimeout) (unreliable : Bool) → namedValues found (withReader s reads) timeout unreliable ≡ namedValues found s timeout unreliable
-unfolding deadlineOf row_of
+named-reading : (found : FirstSent) (s : State) (reads : Bool) (timeout : AckTimeout) (unreliable : Bool) → named_values found (with_reader s reads) timeout unreliable ≡ named_values found s timeout unreliable
+unfolding deadline_of row_of
 named-reading firsts.Nothing s reads timeout unreliable = refl
 named-reading (firsts.Is flight) s reads timeout unreliable = refl
 
 -- of one state or the other
-one_of : (first : Bool) (s t : State) (reads : Bool) → cond first (withReader s reads) (withReader t reads) ≡ withReader (cond first s t) reads
+one_of : (first : Bool) (s t : State) (reads : Bool) → cond first (with_reader s reads) (with_reader t reads) ≡ with_reader (cond first s t) reads
 one_of true s t reads = refl
 one_of false s t reads = refl
 
@@ -73,12 +73,12 @@ Alike c h reads =
 by-sound : (h : Holding) (reads : Bool) (rest : Verdict) → gate (soundb (reading reads h).state) 1 rest ≡ gate (soundb h.state) 1 rest
 by-sound h reads rest = ap (λ ok. gate ok 1 rest) (reader-sound h.state reads)
 
-by-sound-with : (h : Holding) (reads : Bool) (rest : Verdict) → gate (soundWithb (reading reads h).state h.records) 1 rest ≡ gate (soundWithb h.state h.records) 1 rest
-unfolding soundWithb
+by-sound-with : (h : Holding) (reads : Bool) (rest : Verdict) → gate (sound_withb (reading reads h).state h.records) 1 rest ≡ gate (sound_withb h.state h.records) 1 rest
+unfolding sound_withb
 by-sound-with h reads rest = ap (λ ok. gate (ok && recordsb (table h)) 1 rest) (reader-sound h.state reads)
 
 alike : (c : Call) (h : Holding) (reads : Bool) → Alike c h reads
-unfolding slotVerdict timedVerdict addVerdict sendVerdict totalsOk resendVerdict ackVerdict receiveVerdict messageVerdict showVerdict takeVerdict takeAckVerdict confirmTimeoutVerdict slotOk timeOk row_of unconfirmedState removedState flushedState sentState resentState ackedRow ackedTx ackedState repeatedState effectState receivedState takenState takenAckState
+unfolding slot_verdict timed_verdict add_verdict send_verdict totals_ok resend_verdict ack_verdict receive_verdict message_verdict show_verdict take_verdict take_ack_verdict confirm_timeout_verdict slot_ok time_ok row_of unconfirmed_state removed_state flushed_state sent_state resent_state acked_row acked_tx acked_state repeated_state effect_state received_state taken_state taken_ack_state
 alike (Add id roundtrip max blocked unconfirmed) h reads = (by-sound h reads _, (λ u. refl, λ u. refl))
 alike (Remove slot) h reads = (by-sound h reads _, (λ u. refl, λ u. refl))
 alike (Confirm slot) h reads = (by-sound h reads _, (λ u. refl, λ u. refl))
@@ -93,23 +93,23 @@ alike (Resend slot time n) h reads = (by-sound h reads _, (λ u. refl, λ u. ref
 alike (Ack slot time n) h reads = (by-sound h reads _, (λ u. refl, λ u. refl))
 alike (Receive slot msg n bytes) h reads =
     let s = h.state in
-    let left : State → Holding = withState (done (Receive slot msg n bytes) h) in (
-      ap (λ v. gate (lengthsOk s.rx (length h.received) (length h.records)) 2 v) (by-sound-with h reads _),
-      (λ u. refl, λ u. ap left (one_of (again h n) (repeatedState s slot n) (receivedState s h.records slot msg n (length bytes)) reads)),
+    let left : State → Holding = with_state (done (Receive slot msg n bytes) h) in (
+      ap (λ v. gate (lengths_ok s.rx (length h.received) (length h.records)) 2 v) (by-sound-with h reads _),
+      (λ u. refl, λ u. ap left (one_of (again h n) (repeated_state s slot n) (received_state s h.records slot msg n (length bytes)) reads)),
     )
-alike Show h reads = (ap (λ v. gate (lengthsOk h.state.rx (length h.received) (length h.records)) 2 v) (by-sound-with h reads _), (λ u. refl, λ u. refl))
+alike Show h reads = (ap (λ v. gate (lengths_ok h.state.rx (length h.received) (length h.records)) 2 v) (by-sound-with h reads _), (λ u. refl, λ u. refl))
 alike Take h reads = (ap (λ v. gate (eqb (length h.records) h.state.rx.cells) 2 v) (by-sound-with h reads _), (λ u. refl, λ u. refl))
 alike Due h reads = (by-sound h reads _, (λ u. absurd (u refl), λ u. refl))
 alike Close h reads = (by-sound h reads _, (λ u. refl, λ u. ap (λ b. reading b h) (sym (u refl))))
 alike (TakeAck slot) h reads = (by-sound h reads _, (λ u. refl, λ u. refl))
-alike (EarliestConfirmTimeout timeout unreliable) h reads = (by-sound h reads _, (λ u. named-reading (firstSent (packets h.state.tx)) h.state reads timeout unreliable, λ u. refl))
+alike (EarliestConfirmTimeout timeout unreliable) h reads = (by-sound h reads _, (λ u. named-reading (first_sent (packets h.state.tx)) h.state reads timeout unreliable, λ u. refl))
 
 -- ---- the laws
 
 module _ (c : Call) (h : Holding) (reads : Bool) where
   -- "as before": no answer goes by the reader but whether a Consumed is due
   pub reader-told : c ≢ Due → told c (reading reads h) ≡ told c h
-  reader-told ne = let a = alike c h reads in ap (λ v. toldBy v (values c (reading reads h))) a.0 ∙ ap (toldBy (verdict c h)) (a.1.0 ne)
+  reader-told ne = let a = alike c h reads in ap (λ v. told_by v (values c (reading reads h))) a.0 ∙ ap (told_by (verdict c h)) (a.1.0 ne)
 
   -- a call on a state with its reader closed leaves what it leaves of the open one, with the reader closed; but for the closing call, the other way round too
   pub reader-left : (c ≡ Close → reads ≡ false) → next c (reading reads h) ≡ reading reads (next c h)
@@ -121,24 +121,24 @@ module _ (c : Call) (h : Holding) (reads : Bool) where
 
 -- what is shown, and where it lies
 module _ (h : Holding) (reads : Bool) where
-  showing-reading : showingOf (withReader h.state reads) (length h.received) h.records ≡ showingOf h.state (length h.received) h.records
-  unfolding showingOf
-  showing-reading = ap (λ v. handOutBy v (table h)) (alike Show h reads).0
+  showing-reading : showing_of (with_reader h.state reads) (length h.received) h.records ≡ showing_of h.state (length h.received) h.records
+  unfolding showing_of
+  showing-reading = ap (λ v. hand_out_by v (table h)) (alike Show h reads).0
 
-  pub reader-shown : shownOf (withReader h.state reads) h.received h.records ≡ shownOf h.state h.received h.records
-  unfolding shownOf
-  reader-shown = ap (λ (a : HandOut). partAs h.state.rx.cells a h.received) showing-reading
+  pub reader-shown : shown_of (with_reader h.state reads) h.received h.records ≡ shown_of h.state h.received h.records
+  unfolding shown_of
+  reader-shown = ap (λ (a : HandOut). part_as h.state.rx.cells a h.received) showing-reading
 
-  pub reader-shown-at : (at : ℕ × ℕ) → shownAt (withReader h.state reads) (length h.received) h.records at ≡ shownAt h.state (length h.received) h.records at
-  unfolding shownAt
-  reader-shown-at at = ap (λ (a : HandOut). placeAs h.state.rx.cells a at) showing-reading
+  pub reader-shown-at : (at : ℕ × ℕ) → shown_at (with_reader h.state reads) (length h.received) h.records at ≡ shown_at h.state (length h.received) h.records at
+  unfolding shown_at
+  reader-shown-at at = ap (λ (a : HandOut). place_as h.state.rx.cells a at) showing-reading
 
 -- "for good": only the closing call changes whether the reader is open ..
-abbrev isOpen : Holding → Bool
-isOpen h = h.state.read_open
+abbrev is_open : Holding → Bool
+is_open h = h.state.read_open
 
 pub reader-kept : (c : Call) (h : Holding) → c ≢ Close → (next c h).state.read_open ≡ h.state.read_open
-reader-kept c h ne = ap isOpen (reader-left c h (isOpen h) (λ e. absurd (ne e)))
+reader-kept c h ne = ap is_open (reader-left c h (is_open h) (λ e. absurd (ne e)))
 
 -- .. and no call opens one that has closed, in whatever order they come
 pub reader-closed : (cs : List Call) (h : Holding) → h.state.read_open ≡ false → (after cs h).state.read_open ≡ false
@@ -146,16 +146,16 @@ unfolding after
 reader-closed [] h e = e
 reader-closed (c ∷ cs) h e =
     let shut : h ≡ reading false h = ap (λ b. reading b h) e in
-    reader-closed cs (next c h) (ap (λ k. isOpen (next c k)) shut ∙ ap isOpen (reader-left c h false (λ u. refl)))
+    reader-closed cs (next c h) (ap (λ k. is_open (next c k)) shut ∙ ap is_open (reader-left c h false (λ u. refl)))
 
 -- "closing twice is accepted and changes nothing", and where it is refused, it is refused again
-pub closed-twice : (s : State) → closeOf (closeOf s).state ≡ closeOf s
-unfolding closeOf
-closed-twice s = go (stateVerdict s) refl
+pub closed-twice : (s : State) → close_of (close_of s).state ≡ close_of s
+unfolding close_of
+closed-twice s = go (state_verdict s) refl
   where
-    go : (v : Verdict) → stateVerdict s ≡ v → closeOf (closeOf s).state ≡ closeOf s
+    go : (v : Verdict) → state_verdict s ≡ v → close_of (close_of s).state ≡ close_of s
     go Pass e =
-        let once = ap (λ x. changedBy x s (closedState s)) e in
-        let again : stateVerdict (closedState s) ≡ Pass = ap (λ ok. gate ok 1 Pass) (reader-sound s false) ∙ e in
-        ap (λ (x : Changed). closeOf x.state) once ∙ ap (λ x. changedBy x (closedState s) (closedState s)) again ∙ sym once
-    go (No r) e = ap (λ (x : Changed). closeOf x.state) (ap (λ x. changedBy x s (closedState s)) e)
+        let once = ap (λ x. changed_by x s (closed_state s)) e in
+        let again : state_verdict (closed_state s) ≡ Pass = ap (λ ok. gate ok 1 Pass) (reader-sound s false) ∙ e in
+        ap (λ (x : Changed). close_of x.state) once ∙ ap (λ x. changed_by x (closed_state s) (closed_state s)) again ∙ sym once
+    go (No r) e = ap (λ (x : Changed). close_of x.state) (ap (λ x. changed_by x s (closed_state s)) e)

@@ -6,15 +6,15 @@ use Rattle.refusal.specs.declared.verdict.Verdict.TheVariants.{Pass}
 use Rattle.engine.specs.declared.state.Receiving.{Receiving}
 use Rattle.engine.specs.Received.{table_of}
 use Rattle.engine.specs.Sound.{SoundRecords}
-use Rattle.engine.specs.Starting.{freshVerdict, fresh_of, freshRecords}
-use Rattle.engine.specs.Unconfirming.{unconfirmedState, removedState}
-use Rattle.engine.specs.Flushing.{flushedState}
-use Rattle.engine.specs.Sending.{toldRx, sentState}
-use Rattle.engine.specs.Resending.{resentState}
-use Rattle.engine.specs.Acking.{ackedState}
-use Rattle.engine.specs.Receiving.{repeatedState}
-use Rattle.engine.specs.HandingOut.{takenAckState}
-use Rattle.engine.specs.Fields.{withBytes}
+use Rattle.engine.specs.Starting.{fresh_verdict, fresh_of, fresh_records}
+use Rattle.engine.specs.Unconfirming.{unconfirmed_state, removed_state}
+use Rattle.engine.specs.Flushing.{flushed_state}
+use Rattle.engine.specs.Sending.{told_rx, sent_state}
+use Rattle.engine.specs.Resending.{resent_state}
+use Rattle.engine.specs.Acking.{acked_state}
+use Rattle.engine.specs.Receiving.{repeated_state}
+use Rattle.engine.specs.HandingOut.{taken_ack_state}
+use Rattle.engine.specs.Fields.{with_bytes}
 use Rattle.laws.specs.Good.{Good}
 use Rattle.laws.specs.Calls.{Call, Add, Remove, Confirm, Unconfirm, Block, Mark, Ping, Pong, Flush, Send, Resend, Ack, Receive, Show, Take, Due, Close, TakeAck, EarliestConfirmTimeout, Holding, table, again, next, Typed, done, Passed}
 use Rattle.laws.specs.Passed.{next-keeps, passed}
@@ -24,7 +24,7 @@ use Rattle.laws.specs.TakeKept.{taken-good}
 use Rattle.laws.specs.LinksKept as links
 
 -- whatever is taken and untold
-told-recorded : (rx : Receiving) (untold : ℕ) (records : List ℕ) → SoundRecords (table_of rx records) → SoundRecords (table_of (withBytes rx rx.rxed_reliable_size untold) records)
+told-recorded : (rx : Receiving) (untold : ℕ) (records : List ℕ) → SoundRecords (table_of rx records) → SoundRecords (table_of (with_bytes rx rx.rxed_reliable_size untold) records)
 told-recorded rx untold records r = record {
   long = r.long;
   untaken = r.untaken;
@@ -37,7 +37,7 @@ told-recorded rx untold records r = record {
 }
 
 done-recorded : (c : Call) (h : Holding) → Good h.state → Passed c h → SoundRecords (table h) → SoundRecords (table (done c h))
-unfolding unconfirmedState removedState flushedState sentState toldRx resentState ackedState repeatedState takenAckState
+unfolding unconfirmed_state removed_state flushed_state sent_state told_rx resent_state acked_state repeated_state taken_ack_state
 done-recorded (Add id roundtrip max blocked unconfirmed) h g p r = r
 done-recorded (Remove slot) h g p r = r
 done-recorded (Confirm slot) h g p r = r
@@ -62,8 +62,8 @@ done-recorded (EarliestConfirmTimeout timeout unreliable) h g p r = r
 pub records-kept : (c : Call) (h : Holding) → Typed c → Good h.state → SoundRecords (table h) → SoundRecords (table (next c h))
 records-kept c h t g r = next-keeps c h (λ k. SoundRecords (table k)) r (λ e. done-recorded c h g (passed c h t g e) r)
 
-pub fresh-recorded : (start buffer cells : ℕ) → start < 2 ^ 32 → (records : List ℕ) → freshVerdict buffer cells (length records) ≡ Pass
-    → SoundRecords (table_of (fresh_of start buffer cells (length records)).state.rx (freshRecords buffer cells records))
+pub fresh-recorded : (start buffer cells : ℕ) → start < 2 ^ 32 → (records : List ℕ) → fresh_verdict buffer cells (length records) ≡ Pass
+    → SoundRecords (table_of (fresh_of start buffer cells (length records)).state.rx (fresh_records buffer cells records))
 fresh-recorded = links.fresh-recorded
 
 -- .. and so in any order of calls

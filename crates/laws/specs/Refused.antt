@@ -6,13 +6,13 @@ use Rattle.refusal.specs.declared.verdict.Verdict.{Verdict}
 use Rattle.refusal.specs.declared.verdict.Verdict.TheVariants.{Pass, No}
 use Rattle.msg.specs.declared.link_msg.LinkMsg.{LinkMsg}
 use Rattle.msg.specs.Messages.{bytes_of}
-use Rattle.msg.specs.Writing.{writable, writtenTold, writeOf, bufferOf}
+use Rattle.msg.specs.Writing.{writable, written_told, write_of, buffer_of}
 use Rattle.laws.specs.Calls.{Call, Holding, number, next, verdict}
 use Rattle.laws.specs.Passed.{number_passed, left-refused}
 
 -- of writing, which is given no state
-pub refused-writing : (msg : LinkMsg) (buffer : List ℕ) → (writtenTold (writeOf msg buffer)).number ≢ 0 → bufferOf msg buffer ≡ buffer
-unfolding writeOf bufferOf
+pub refused-writing : (msg : LinkMsg) (buffer : List ℕ) → (written_told (write_of msg buffer)).number ≢ 0 → buffer_of msg buffer ≡ buffer
+unfolding write_of buffer_of
 refused-writing msg buffer told =
     cases (writable msg)
     (λ may.

@@ -6,7 +6,7 @@ use Rattle.std.proofs.Common.{ap, ◌∙◌, arith, length-set, length-append, l
 use Rattle.std.proofs.lemmas.List.{length-replicate}
 use borrow.Table.Steps.{cases}
 use Rattle.seq.specs.declared.Seq.{Seq}
-use Rattle.seq.specs.Numbers.{seqOf}
+use Rattle.seq.specs.Numbers.{seq_of}
 use Rattle.seq.specs.Distance.{before}
 use Rattle.link.specs.declared.row.LinkRow.{LinkRow}
 use Rattle.link.specs.declared.row.MaxPing.{MaxPing}
@@ -14,18 +14,18 @@ use Rattle.link.specs.declared.row.Limit.{Limit}
 use Rattle.link.specs.declared.row.Limit.TheVariants.{Clear, At}
 use Rattle.link.specs.declared.row.Ping.{Ping}
 use Rattle.link.specs.declared.row.Ping.TheVariants.{Idle, Since}
-use Rattle.link.specs.Row.{emptyRow, fresh_row, confirmed, blockedRow, unconfirmedRow, withUnacked}
-use Rattle.link.specs.Limit.{markedRow, markAckedAs, markAcked, markResentAs, markResent}
-use Rattle.link.specs.Roundtrip.{pinged, pongedAs, tripMoved}
-use Rattle.link.specs.Acks.{ackQueued, shifted, ackTaken}
+use Rattle.link.specs.Row.{empty_row, fresh_row, confirmed, blocked_row, unconfirmed_row, with_unacked}
+use Rattle.link.specs.Limit.{marked_row, mark_acked_as, mark_acked, mark_resent_as, mark_resent}
+use Rattle.link.specs.Roundtrip.{pinged, ponged_as, trip_moved}
+use Rattle.link.specs.Acks.{ack_queued, shifted, ack_taken}
 use Rattle.link.specs.Sizes.{ACKS}
 use Rattle.engine.specs.declared.state.SentReliableStatus.{SentReliableStatus}
 use Rattle.engine.specs.declared.state.SentReliableStatus.TheVariants.{Sent, Received, ResendQueued}
 use Rattle.engine.specs.declared.state.State.{State}
-use Rattle.engine.specs.Table.{in_table, lookedAt}
+use Rattle.engine.specs.Table.{in_table, looked_at}
 use Rattle.engine.specs.Rows.{row_of}
 use Rattle.engine.specs.Sound.{Shaped}
-use Rattle.engine.specs.Acking.{settledRowAs, ackedRow}
+use Rattle.engine.specs.Acking.{settled_row_as, acked_row}
 use Rattle.engine.specs.Sizes.{SLOTS}
 use Rattle.laws.specs.RowChanged.{either}
 
@@ -43,95 +43,95 @@ module _ (r : LinkRow) where
   unfolding confirmed
   confirm-acks = record { queue = refl; count = refl }
 
-  pub block-acks : (b : Bool) → SameAcks (blockedRow r b) r
-  unfolding blockedRow
+  pub block-acks : (b : Bool) → SameAcks (blocked_row r b) r
+  unfolding blocked_row
   block-acks b = record { queue = refl; count = refl }
 
-  pub unconfirm-acks : SameAcks (unconfirmedRow r) r
-  unfolding unconfirmedRow
+  pub unconfirm-acks : SameAcks (unconfirmed_row r) r
+  unfolding unconfirmed_row
   unconfirm-acks = record { queue = refl; count = refl }
 
-  pub unacked-acks : (n : ℕ) → SameAcks (withUnacked r n) r
-  unfolding withUnacked
+  pub unacked-acks : (n : ℕ) → SameAcks (with_unacked r n) r
+  unfolding with_unacked
   unacked-acks n = record { queue = refl; count = refl }
 
-  pub mark-acks : (m : Limit) → SameAcks (markedRow r m) r
-  unfolding markedRow
+  pub mark-acks : (m : Limit) → SameAcks (marked_row r m) r
+  unfolding marked_row
   mark-acks m = record { queue = refl; count = refl }
 
   pub ping-acks : (time : ℕ) → SameAcks (pinged r time) r
   unfolding pinged
   ping-acks time = record { queue = refl; count = refl }
 
-  pub pong-acks : (p : Ping) (time : ℕ) → SameAcks (pongedAs p r time) r
-  unfolding pongedAs
+  pub pong-acks : (p : Ping) (time : ℕ) → SameAcks (ponged_as p r time) r
+  unfolding ponged_as
   pong-acks Idle time = record { queue = refl; count = refl }
   pong-acks (Since since) time = record { queue = refl; count = refl }
 
-  trip-acks : (since time : ℕ) → SameAcks (tripMoved r since time) r
-  unfolding tripMoved
+  trip-acks : (since time : ℕ) → SameAcks (trip_moved r since time) r
+  unfolding trip_moved
   trip-acks since time = record { queue = refl; count = refl }
 
-  mark-acked-acks : (m : Limit) (a : ℕ) → SameAcks (markAckedAs m r a) r
-  unfolding markAckedAs markedRow
+  mark-acked-acks : (m : Limit) (a : ℕ) → SameAcks (mark_acked_as m r a) r
+  unfolding mark_acked_as marked_row
   mark-acked-acks Clear a = record { queue = refl; count = refl }
   mark-acked-acks (At m) a =
       either (λ q. SameAcks q r) (before a m.0) _ _ (record { queue = refl; count = refl }) (record { queue = refl; count = refl })
 
-  mark-resent-acks : (m : Limit) (n : ℕ) → SameAcks (markResentAs m r n) r
-  unfolding markResentAs markedRow
+  mark-resent-acks : (m : Limit) (n : ℕ) → SameAcks (mark_resent_as m r n) r
+  unfolding mark_resent_as marked_row
   mark-resent-acks Clear n = record { queue = refl; count = refl }
   mark-resent-acks (At m) n =
       either (λ q. SameAcks q r) (before n m.0) _ _ (record { queue = refl; count = refl }) (record { queue = refl; count = refl })
 
 -- the row that resending leaves
-pub resent-acks : (r : LinkRow) (n bytes : ℕ) → SameAcks (withUnacked (markResent r n) bytes) r
-resent-acks r n bytes = same_then _ (markResent r n) r (unacked-acks (markResent r n) bytes) (mark-resent-acks r r.limit_increased n)
+pub resent-acks : (r : LinkRow) (n bytes : ℕ) → SameAcks (with_unacked (mark_resent r n) bytes) r
+resent-acks r n bytes = same_then _ (mark_resent r n) r (unacked-acks (mark_resent r n) bytes) (mark-resent-acks r r.limit_increased n)
 
 -- .. and an ack
-settled-acks : (row : LinkRow) (len slot time : ℕ) (st : SentReliableStatus) → SameAcks (settledRowAs st row len slot time) row
-unfolding settledRowAs
+settled-acks : (row : LinkRow) (len slot time : ℕ) (st : SentReliableStatus) → SameAcks (settled_row_as st row len slot time) row
+unfolding settled_row_as
 settled-acks row len slot time (Sent flight) =
-    let less = withUnacked row (row.txed_unacked_data - len) in
+    let less = with_unacked row (row.txed_unacked_data - len) in
     cases (eqb flight.slot slot)
     (λ y. simp y (same_then _ less row (trip-acks less flight.sent time) (unacked-acks row (row.txed_unacked_data - len))))
     (λ y. simp y (record { queue = refl; count = refl }))
 settled-acks row len slot time Received = record { queue = refl; count = refl }
 settled-acks row len slot time (ResendQueued link) = record { queue = refl; count = refl }
 
-pub acked-acks : (s : State) (slot time n : ℕ) → SameAcks (ackedRow s slot time n) (row_of s slot)
-unfolding ackedRow
+pub acked-acks : (s : State) (slot time n : ℕ) → SameAcks (acked_row s slot time n) (row_of s slot)
+unfolding acked_row
 acked-acks s slot time n =
     let r = row_of s slot in
-    let p = lookedAt s.tx n in
+    let p = looked_at s.tx n in
     let old = mark-acked-acks r r.limit_increased n in
     cases (in_table s.tx n)
-    (λ y. simp y (same_then _ (markAcked r n) r (settled-acks (markAcked r n) p.len slot time p.status) old))
+    (λ y. simp y (same_then _ (mark_acked r n) r (settled-acks (mark_acked r n) p.len slot time p.status) old))
     (λ y. simp y old)
 
 -- ---- the places of its queue
 
 -- an ack more or less
-pub queued-full : (r : LinkRow) (seq : Seq) → length r.tx_ack_queue ≡ ACKS → length (ackQueued r seq).tx_ack_queue ≡ ACKS
-unfolding ackQueued
+pub queued-full : (r : LinkRow) (seq : Seq) → length r.tx_ack_queue ≡ ACKS → length (ack_queued r seq).tx_ack_queue ≡ ACKS
+unfolding ack_queued
 queued-full r seq full =
     cases (ltb r.ack_count ACKS) (λ t. simp t (length-set r.tx_ack_queue r.ack_count seq ∙ full)) (λ t. simp t full)
 
-pub taken-full : (r : LinkRow) → length r.tx_ack_queue ≡ ACKS → length (ackTaken r).tx_ack_queue ≡ ACKS
-unfolding ackTaken shifted
+pub taken-full : (r : LinkRow) → length r.tx_ack_queue ≡ ACKS → length (ack_taken r).tx_ack_queue ≡ ACKS
+unfolding ack_taken shifted
 taken-full r full =
     let q = r.tx_ack_queue in
     cases (eqb r.ack_count 0) (λ t. simp t full)
     (λ t. simp t (length-append (drop 1 q) (drop 63 q) ∙ omega (arith, full, length-drop 1 q, length-drop 63 q)))
 
 -- an empty slot and a new link
-pub empty-full : length emptyRow.tx_ack_queue ≡ ACKS
-unfolding emptyRow
-empty-full = length-replicate ACKS (seqOf 0)
+pub empty-full : length empty_row.tx_ack_queue ≡ ACKS
+unfolding empty_row
+empty-full = length-replicate ACKS (seq_of 0)
 
 pub fresh-full : (id roundtrip : ℕ) (max : MaxPing) (blocked unconfirmed : Bool) → length (fresh_row id roundtrip max blocked unconfirmed).tx_ack_queue ≡ ACKS
 unfolding fresh_row
-fresh-full id roundtrip max blocked unconfirmed = length-replicate ACKS (seqOf 0)
+fresh-full id roundtrip max blocked unconfirmed = length-replicate ACKS (seq_of 0)
 
 -- the row of any slot, and one that keeps its acks
 module _ (s : State) (slot : ℕ) (shaped : Shaped s) where

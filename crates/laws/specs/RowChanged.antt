@@ -5,10 +5,10 @@ use Rattle.seq.specs.Distance.{before}
 use Rattle.link.specs.declared.row.LinkRow.{LinkRow}
 use Rattle.link.specs.declared.row.Limit.{Limit}
 use Rattle.link.specs.declared.row.Limit.TheVariants.{Clear, At}
-use Rattle.link.specs.Sizes.{maxPingWithin, pingWithin, MAX_TIME}
-use Rattle.link.specs.Row.{withUnacked}
-use Rattle.link.specs.Limit.{markedRow, markAckedAs, markResentAs}
-use Rattle.link.specs.Roundtrip.{tripAfter, tripMoved}
+use Rattle.link.specs.Sizes.{max_ping_within, ping_within, MAX_TIME}
+use Rattle.link.specs.Row.{with_unacked}
+use Rattle.link.specs.Limit.{marked_row, mark_acked_as, mark_resent_as}
+use Rattle.link.specs.Roundtrip.{trip_after, trip_moved}
 use Rattle.engine.specs.DecidedTables.{RowFine}
 
 -- one row is like another in all that Sound reads
@@ -25,8 +25,8 @@ pub like-fine : (new old : LinkRow) (sum time : ℕ) → Like new old → RowFin
 like-fine new old sum time same fine = record {
   sums = same.bytes ∙ fine.sums;
   trip = rw same.trip fine.trip;
-  limit = ap maxPingWithin same.limit ∙ fine.limit;
-  pinged = ap (λ p. pingWithin p time) same.pinged ∙ fine.pinged;
+  limit = ap max_ping_within same.limit ∙ fine.limit;
+  pinged = ap (λ p. ping_within p time) same.pinged ∙ fine.pinged;
   acks = rw same.acks fine.acks;
 }
 
@@ -35,16 +35,16 @@ either P true x y h g = h
 either P false x y h g = g
 
 -- the mark
-pub mark-acked : (m : Limit) (r : LinkRow) (a : ℕ) → Like (markAckedAs m r a) r
-unfolding markAckedAs markedRow
+pub mark-acked : (m : Limit) (r : LinkRow) (a : ℕ) → Like (mark_acked_as m r a) r
+unfolding mark_acked_as marked_row
 mark-acked Clear r a = record { live = refl; id = refl; bytes = refl; trip = refl; limit = refl; pinged = refl; acks = refl }
 mark-acked (At m) r a =
     either (λ q. Like q r) (before a m.0) _ _
     (record { live = refl; id = refl; bytes = refl; trip = refl; limit = refl; pinged = refl; acks = refl })
     (record { live = refl; id = refl; bytes = refl; trip = refl; limit = refl; pinged = refl; acks = refl })
 
-pub mark-resent : (m : Limit) (r : LinkRow) (n : ℕ) → Like (markResentAs m r n) r
-unfolding markResentAs markedRow
+pub mark-resent : (m : Limit) (r : LinkRow) (n : ℕ) → Like (mark_resent_as m r n) r
+unfolding mark_resent_as marked_row
 mark-resent Clear r n = record { live = refl; id = refl; bytes = refl; trip = refl; limit = refl; pinged = refl; acks = refl }
 mark-resent (At m) r n =
     either (λ q. Like q r) (before n m.0) _ _
@@ -52,21 +52,21 @@ mark-resent (At m) r n =
     (record { live = refl; id = refl; bytes = refl; trip = refl; limit = refl; pinged = refl; acks = refl })
 
 -- the unacked bytes
-pub bytes-fine : (r : LinkRow) (old new sum time : ℕ) → new ≡ sum → RowFine r old time → RowFine (withUnacked r new) sum time
-unfolding withUnacked
+pub bytes-fine : (r : LinkRow) (old new sum time : ℕ) → new ≡ sum → RowFine r old time → RowFine (with_unacked r new) sum time
+unfolding with_unacked
 bytes-fine r old new sum time e fine = record { sums = e; trip = fine.trip; limit = fine.limit; pinged = fine.pinged; acks = fine.acks }
 
-pub bytes-live : (r : LinkRow) (n : ℕ) → (withUnacked r n).live ≡ r.live
-unfolding withUnacked
+pub bytes-live : (r : LinkRow) (n : ℕ) → (with_unacked r n).live ≡ r.live
+unfolding with_unacked
 bytes-live r n = refl
 
-pub bytes-id : (r : LinkRow) (n : ℕ) → (withUnacked r n).link_id ≡ r.link_id
-unfolding withUnacked
+pub bytes-id : (r : LinkRow) (n : ℕ) → (with_unacked r n).link_id ≡ r.link_id
+unfolding with_unacked
 bytes-id r n = refl
 
 -- the round trip
-trip-small : (flag : Bool) (r e : ℕ) → r ≤ MAX_TIME → e ≤ MAX_TIME → tripAfter flag r e ≤ MAX_TIME
-unfolding tripAfter
+trip-small : (flag : Bool) (r e : ℕ) → r ≤ MAX_TIME → e ≤ MAX_TIME → trip_after flag r e ≤ MAX_TIME
+unfolding trip_after
 trip-small true r e hr he = he
 trip-small false r e hr he = among (ltb r e)
   where
@@ -74,8 +74,8 @@ trip-small false r e hr he = among (ltb r e)
     among true = omega arith
     among false = omega arith
 
-pub trip-fine : (r : LinkRow) (sum since time : ℕ) → time ≤ MAX_TIME → RowFine r sum time → RowFine (tripMoved r since time) sum time
-unfolding tripMoved
+pub trip-fine : (r : LinkRow) (sum since time : ℕ) → time ≤ MAX_TIME → RowFine r sum time → RowFine (trip_moved r since time) sum time
+unfolding trip_moved
 trip-fine r sum since time top fine = record {
   sums = fine.sums;
   trip = trip-small r.zero_estimate r.roundtrip (time - since) fine.trip (omega arith);
@@ -84,10 +84,10 @@ trip-fine r sum since time top fine = record {
   acks = fine.acks;
 }
 
-pub trip-live : (r : LinkRow) (since time : ℕ) → (tripMoved r since time).live ≡ r.live
-unfolding tripMoved
+pub trip-live : (r : LinkRow) (since time : ℕ) → (trip_moved r since time).live ≡ r.live
+unfolding trip_moved
 trip-live r since time = refl
 
-pub trip-id : (r : LinkRow) (since time : ℕ) → (tripMoved r since time).link_id ≡ r.link_id
-unfolding tripMoved
+pub trip-id : (r : LinkRow) (since time : ℕ) → (trip_moved r since time).link_id ≡ r.link_id
+unfolding trip_moved
 trip-id r since time = refl

@@ -5,7 +5,7 @@ use Rattle.std.proofs.Math.Decide.{ℕ_discrete}
 use Rattle.link.specs.declared.row.LinkRow.{LinkRow}
 use Rattle.link.specs.declared.row.Ping.{Ping}
 use Rattle.link.specs.declared.row.Ping.TheVariants.{Idle, Since}
-use Rattle.link.specs.Sizes.{pingWithin, MAX_TIME, ACKS}
+use Rattle.link.specs.Sizes.{ping_within, MAX_TIME, ACKS}
 use Rattle.link.specs.Row.{no_row}
 use Rattle.engine.specs.declared.state.Flushed.{Flushed}
 use Rattle.engine.specs.declared.state.Flushed.TheVariants.{Unflushed, FlushedAt}
@@ -13,11 +13,11 @@ use Rattle.engine.specs.declared.state.SentReliableStatus.{SentReliableStatus}
 use Rattle.engine.specs.declared.state.SentReliableStatus.TheVariants.{Sent, Received, ResendQueued}
 use Rattle.engine.specs.declared.state.SentReliable.{SentReliable}
 use Rattle.engine.specs.declared.state.State.{State}
-use Rattle.engine.specs.Packets.{noPacket, packets, SentOn, weightAs, sum_of}
+use Rattle.engine.specs.Packets.{no_packet, packets, SentOn, weight_as, sum_of}
 use Rattle.engine.specs.DecidedTables.{RowFine}
 use Rattle.engine.specs.Rows.{row_of, row-of}
-use Rattle.engine.specs.Sound.{Sound, Shaped, rowAt, packetAt, SentHere, SentBy, FlushedBy}
-use Rattle.engine.specs.Fields.{with_row, withTime, withParts, withReader}
+use Rattle.engine.specs.Sound.{Sound, Shaped, row_at, packet_at, SentHere, SentBy, FlushedBy}
+use Rattle.engine.specs.Fields.{with_row, with_time, with_parts, with_reader}
 use Rattle.engine.specs.Sizes.{SLOTS}
 use Rattle.refusal.specs.Tests.{false-true}
 
@@ -53,22 +53,22 @@ rows_of s sound j h l = record {
   acks = sound.ack-count j h l;
 }
 
-pub own_row : (s : State) → Sound s → (j : ℕ) → j < SLOTS → (rowAt s j).live ≡ true → RowFine (rowAt s j) (rowAt s j).txed_unacked_data s.time
+pub own_row : (s : State) → Sound s → (j : ℕ) → j < SLOTS → (row_at s j).live ≡ true → RowFine (row_at s j) (row_at s j).txed_unacked_data s.time
 own_row s sound j h l = let f = rows_of s sound j h l in record { sums = refl; trip = f.trip; limit = f.limit; pinged = f.pinged; acks = f.acks }
 
 -- no packet is Sent on a slot without a link ..
-pub dead-elsewhere : (s : State) (slot : ℕ) → (rowAt s slot).live ≡ false → (st : SentReliableStatus) → SentHere s st → Elsewhere slot st
-dead-elsewhere s slot dead (Sent flight) h = λ e. false-true (sym dead ∙ ap (λ k. (rowAt s k).live) (sym e) ∙ h.1)
+pub dead-elsewhere : (s : State) (slot : ℕ) → (row_at s slot).live ≡ false → (st : SentReliableStatus) → SentHere s st → Elsewhere slot st
+dead-elsewhere s slot dead (Sent flight) h = λ e. false-true (sym dead ∙ ap (λ k. (row_at s k).live) (sym e) ∙ h.1)
 dead-elsewhere s slot dead Received h = tt
 dead-elsewhere s slot dead (ResendQueued link) h = tt
 
 -- .. and where none is, no byte is unacked
-weight-elsewhere : (slot len : ℕ) (st : SentReliableStatus) → Elsewhere slot st → weightAs (SentOn slot) st len ≡ 0
+weight-elsewhere : (slot len : ℕ) (st : SentReliableStatus) → Elsewhere slot st → weight_as (SentOn slot) st len ≡ 0
 weight-elsewhere slot len (Sent flight) h = simp (ne_eqb flight.slot slot h)
 weight-elsewhere slot len Received h = refl
 weight-elsewhere slot len (ResendQueued link) h = refl
 
-pub sum-elsewhere : (slot : ℕ) (ps : List SentReliable) → ((i : ℕ) → i < length ps → Elsewhere slot (get_or ps i noPacket).status) → sum_of (SentOn slot) ps ≡ 0
+pub sum-elsewhere : (slot : ℕ) (ps : List SentReliable) → ((i : ℕ) → i < length ps → Elsewhere slot (get_or ps i no_packet).status) → sum_of (SentOn slot) ps ≡ 0
 unfolding sum_of
 sum-elsewhere slot [] f = refl
 sum-elsewhere slot (p ∷ ps) f =
@@ -76,7 +76,7 @@ sum-elsewhere slot (p ∷ ps) f =
 
 -- ---- a later time
 
-pub ping-later : (p : Ping) (time later : ℕ) → time ≤ later → pingWithin p time ≡ true → pingWithin p later ≡ true
+pub ping-later : (p : Ping) (time later : ℕ) → time ≤ later → ping_within p time ≡ true → ping_within p later ≡ true
 ping-later Idle time later h e = refl
 ping-later (Since since) time later h e = le-leb since later (omega (arith, leb-true since time e))
 
@@ -166,7 +166,7 @@ module _ (links : List LinkRow) (slot : ℕ) (row : LinkRow) where
 
 -- who lives where a packet was Sent, still lives there
 pub here-kept : (s t : State) (st : SentReliableStatus)
-    → ((j : ℕ) → j < SLOTS → (rowAt s j).live ≡ true → ((rowAt t j).live ≡ true) × ((rowAt t j).link_id ≡ (rowAt s j).link_id))
+    → ((j : ℕ) → j < SLOTS → (row_at s j).live ≡ true → ((row_at t j).live ≡ true) × ((row_at t j).link_id ≡ (row_at s j).link_id))
     → SentHere s st → SentHere t st
 here-kept s t (Sent flight) f h = (h.0, (f flight.slot h.0 h.1).0, (f flight.slot h.0 h.1).1 ∙ h.2)
 here-kept s t Received f h = tt
@@ -174,19 +174,19 @@ here-kept s t (ResendQueued link) f h = tt
 
 module _ (s t : State) (slot : ℕ) (row : LinkRow) (at : t.links ≡ set s.links slot row) (small : slot < length s.links) where
   -- the row keeps who lives there
-  pub here-same : row.live ≡ (rowAt s slot).live → row.link_id ≡ (rowAt s slot).link_id → (st : SentReliableStatus) → SentHere s st → SentHere t st
+  pub here-same : row.live ≡ (row_at s slot).live → row.link_id ≡ (row_at s slot).link_id → (st : SentReliableStatus) → SentHere s st → SentHere t st
   here-same live id st =
       here-kept s t st
-      (λ j l lj. rw at (each_row s.links slot row (λ k r. k ≡ j → (r.live ≡ true) × (r.link_id ≡ (rowAt s j).link_id)) small
-      (λ e. (live ∙ ap (λ k. (rowAt s k).live) e ∙ lj, id ∙ ap (λ k. (rowAt s k).link_id) e))
-      (λ k lk ne e. (ap (λ i. (rowAt s i).live) e ∙ lj, ap (λ i. (rowAt s i).link_id) e)) j l refl))
+      (λ j l lj. rw at (each_row s.links slot row (λ k r. k ≡ j → (r.live ≡ true) × (r.link_id ≡ (row_at s j).link_id)) small
+      (λ e. (live ∙ ap (λ k. (row_at s k).live) e ∙ lj, id ∙ ap (λ k. (row_at s k).link_id) e))
+      (λ k lk ne e. (ap (λ i. (row_at s i).live) e ∙ lj, ap (λ i. (row_at s i).link_id) e)) j l refl))
 
   -- nobody lived there
-  pub here-added : (rowAt s slot).live ≡ false → (st : SentReliableStatus) → SentHere s st → SentHere t st
+  pub here-added : (row_at s slot).live ≡ false → (st : SentReliableStatus) → SentHere s st → SentHere t st
   here-added dead st =
       here-kept s t st
       (λ j l lj.
-      let ne : j ≡ slot → ⊥ = λ e. false-true (sym dead ∙ ap (λ k. (rowAt s k).live) (sym e) ∙ lj) in
+      let ne : j ≡ slot → ⊥ = λ e. false-true (sym dead ∙ ap (λ k. (row_at s k).live) (sym e) ∙ lj) in
       rw at (rw (row-there s.links slot row j ne) (lj, refl)))
 
   -- the packet is not Sent there
@@ -198,8 +198,8 @@ module _ (s t : State) (slot : ℕ) (row : LinkRow) (at : t.links ≡ set s.link
 -- ---- the whole state
 
 -- other rows, another time and a reader that is open or not, and both halves as they were
-abbrev pub withLinks : State → List LinkRow → ℕ → Bool → State
-withLinks s links time reads = withReader (withParts s links s.tx s.rx time) reads
+abbrev pub with_links : State → List LinkRow → ℕ → Bool → State
+with_links s links time reads = with_reader (with_parts s links s.tx s.rx time) reads
 
 -- one row is replaced by another with as many places for acks
 pub links-set : (s : State) (slot : ℕ) (row : LinkRow) → Shaped s → length row.tx_ack_queue ≡ ACKS → LinksShaped (set s.links slot row)
@@ -212,7 +212,7 @@ links-set s slot row shaped full = record {
 }
 
 module _ (s : State) (links : List LinkRow) (time : ℕ) (reads : Bool) where
-  pub links-shaped : LinksShaped links → time < 2 ^ 64 → Shaped s → Shaped (withLinks s links time reads)
+  pub links-shaped : LinksShaped links → time < 2 ^ 64 → Shaped s → Shaped (with_links s links time reads)
   links-shaped rows timed shaped = record {
     links-full = rows.full;
     queues = rows.queues;
@@ -236,11 +236,11 @@ module _ (s : State) (links : List LinkRow) (time : ℕ) (reads : Bool) where
   }
 
   pub links-sound : Sound s → s.time ≤ time → time ≤ MAX_TIME → RowsFine links (λ j. sum_of (SentOn j) (packets s.tx)) time → Apart links
-      → ((st : SentReliableStatus) → SentHere s st → SentHere (withLinks s links time reads) st) → Sound (withLinks s links time reads)
+      → ((st : SentReliableStatus) → SentHere s st → SentHere (with_links s links time reads) st) → Sound (with_links s links time reads)
   links-sound sound later top fine apart here = record {
     consecutive = sound.consecutive;
     first = sound.first;
-    sent = λ i h. here (packetAt s i).status (sound.sent i h);
+    sent = λ i h. here (packet_at s i).status (sound.sent i h);
     queued = sound.queued;
     link-unacked = λ j h l. (fine j h l).sums;
     unacked = sound.unacked;
@@ -249,7 +249,7 @@ module _ (s : State) (links : List LinkRow) (time : ℕ) (reads : Bool) where
     identities = apart;
     near = sound.near;
     used = sound.used;
-    sent-by = λ i h. sent-later (packetAt s i).status s.time time later (sound.sent-by i h);
+    sent-by = λ i h. sent-later (packet_at s i).status s.time time later (sound.sent-by i h);
     pinged-by = λ j h l. (fine j h l).pinged;
     packet-count = sound.packet-count;
     queue-count = sound.queue-count;
@@ -265,11 +265,11 @@ module _ (s : State) (links : List LinkRow) (time : ℕ) (reads : Bool) where
 
 -- one row changes, and perhaps the time: the row is as Sound asks, and keeps who lives there and the link's unacked bytes
 module _ (s : State) (slot : ℕ) (row : LinkRow) (time : ℕ) (shaped : Shaped s) where
-  pub row-shaped : length row.tx_ack_queue ≡ ACKS → time < 2 ^ 64 → Shaped (withTime (with_row s slot row) time)
+  pub row-shaped : length row.tx_ack_queue ≡ ACKS → time < 2 ^ 64 → Shaped (with_time (with_row s slot row) time)
   row-shaped full timed = links-shaped s (set s.links slot row) time s.read_open (links-set s slot row shaped full) timed shaped
 
-  pub row-sound : Sound s → slot < SLOTS → (rowAt s slot).live ≡ true → s.time ≤ time → time ≤ MAX_TIME → row.live ≡ (rowAt s slot).live → row.link_id ≡ (rowAt s slot).link_id
-      → RowFine row (rowAt s slot).txed_unacked_data time → Sound (withTime (with_row s slot row) time)
+  pub row-sound : Sound s → slot < SLOTS → (row_at s slot).live ≡ true → s.time ≤ time → time ≤ MAX_TIME → row.live ≡ (row_at s slot).live → row.link_id ≡ (row_at s slot).link_id
+      → RowFine row (row_at s slot).txed_unacked_data time → Sound (with_time (with_row s slot row) time)
   row-sound sound small lives later top live id new =
       let inside : slot < length s.links = omega (arith, shaped.links-full) in
       let sums : ℕ → ℕ = λ j. sum_of (SentOn j) (packets s.tx) in
@@ -277,15 +277,15 @@ module _ (s : State) (slot : ℕ) (row : LinkRow) (time : ℕ) (shaped : Shaped 
       links-sound s (set s.links slot row) time s.read_open sound later top
       (rows-set s.links slot row sums sums s.time time inside later (rows_of s sound) (λ l. fits) (λ j l ne. refl))
       (apart-kept s.links slot row inside small live id sound.identities)
-      (here-same s (withTime (with_row s slot row) time) slot row refl inside live id)
+      (here-same s (with_time (with_row s slot row) time) slot row refl inside live id)
 
 -- .. a change of the row that the slot has
-pub row_kept : (s : State) (slot : ℕ) (f : LinkRow → LinkRow) (time : ℕ) → Shaped s → Sound s → slot < SLOTS → (rowAt s slot).live ≡ true → s.time ≤ time → time ≤ MAX_TIME
+pub row_kept : (s : State) (slot : ℕ) (f : LinkRow → LinkRow) (time : ℕ) → Shaped s → Sound s → slot < SLOTS → (row_at s slot).live ≡ true → s.time ≤ time → time ≤ MAX_TIME
     → ((r : LinkRow) → ((f r).live ≡ r.live) × ((f r).link_id ≡ r.link_id))
     → ((r : LinkRow) (sum : ℕ) → RowFine r sum time → RowFine (f r) sum time)
-    → Sound (withTime (with_row s slot (f (row_of s slot))) time)
+    → Sound (with_time (with_row s slot (f (row_of s slot))) time)
 row_kept s slot f time shaped sound small lives later top who fine =
-    let r = rowAt s slot in
+    let r = row_at s slot in
     rw (row-of s slot small)
     (row-sound s slot (f r) time shaped sound small lives later top (who r).0 (who r).1
     (fine r r.txed_unacked_data (row-later r r.txed_unacked_data s.time time later (own_row s sound slot small lives))))

@@ -2,7 +2,7 @@
 -- of the single calls are in the files *Kept. Assumes nothing.
 use Rattle.std.specs.Prelude.{◌≡◌, List, [], ◌∷◌, ℕ, ◌^◌, ◌<◌, length}
 use Rattle.refusal.specs.declared.verdict.Verdict.TheVariants.{Pass}
-use Rattle.engine.specs.Starting.{freshVerdict, fresh_of}
+use Rattle.engine.specs.Starting.{fresh_verdict, fresh_of}
 use Rattle.laws.specs.Good.{Good}
 use Rattle.laws.specs.Calls.{Call, Holding, next, Typed}
 use Rattle.laws.specs.Passed.{next-keeps, passed, done-good}
@@ -12,7 +12,7 @@ pub kept : (c : Call) (h : Holding) → Typed c → Good h.state → Good (next 
 kept c h t g = next-keeps c h (λ k. Good k.state) g (λ e. done-good c h t g (passed c h t g e))
 
 -- a fresh state is sound, and so is every state that calls make of it, in any order and with any arguments
-pub fresh-good : (start buffer cells : ℕ) → start < 2 ^ 32 → (records : List ℕ) → freshVerdict buffer cells (length records) ≡ Pass
+pub fresh-good : (start buffer cells : ℕ) → start < 2 ^ 32 → (records : List ℕ) → fresh_verdict buffer cells (length records) ≡ Pass
     → Good (fresh_of start buffer cells (length records)).state
 fresh-good = links.fresh-good
 

@@ -18,10 +18,10 @@ use Rattle.engine.specs.declared.answer.Changed.{Changed}
 use Rattle.engine.specs.declared.sending.SendResult.{SendResult}
 use Rattle.engine.specs.declared.handing_out.HandOut.{HandOut}
 use Rattle.engine.specs.declared.handing_out.TakeResult.{TakeResult}
-use Rattle.engine.specs.HandingOut.{shownAt}
+use Rattle.engine.specs.HandingOut.{shown_at}
 use Rattle.engine.specs.declared.slowness.SlowAnswer.{SlowAnswer}
-use Rattle.engine.specs.Slowness.{slowSlots, slowVerdict, slowTold, slowLinksOf}
-use Rattle.refusal.specs.Answers.{toldBy}
+use Rattle.engine.specs.Slowness.{slow_slots, slow_verdict, slow_told, slow_links_of}
+use Rattle.refusal.specs.Answers.{told_by}
 use Rattle.refusal.proofs as refusal
 use Rattle.seq.proofs as seq
 use Rattle.msg.proofs as msg
@@ -245,7 +245,7 @@ pub show : (κs κs' : Lfts 2) (s : State) (store records : List ℕ) (i i' j j'
     → engine.handing_out.show.Reads.Learnt κs (s, (lent i store, (lent j records, tt))) r e
     → engine.handing_out.show.Reads.Learnt κs' (s, (lent i' store, (lent j' records, tt))) r' e'
     → (r.now ≡ r'.now) × (i.ptr ≡ i'.ptr → r.ref_ptr ≡ r'.ref_ptr)
-show κs κs' s store records i i' j j' r r' e e' p q = (p.0 ∙ sym q.0, λ same. p.1 ∙ ap (shownAt s (length store) records) same ∙ sym q.1)
+show κs κs' s store records i i' j j' r r' e e' p q = (p.0 ∙ sym q.0, λ same. p.1 ∙ ap (shown_at s (length store) records) same ∙ sym q.1)
 
 pub take : (κs κs' : Lfts 1) (s : State) (records : List ℕ) (i i' : Place) (r r' : TakeResult) (e : _) (e' : _)
     → engine.handing_out.take.Reads.Learnt κs (s, (lent i records, tt)) r e
@@ -257,8 +257,8 @@ take κs κs' s records i i' r r' e e' p q = (p.0 ∙ sym q.0, p.1.1 ∙ sym q.1
 -- of the source, `ensures-1`, and `slow-says` holds what is quoted of it in `slow` to that clause
 pub slow-says : {M : Type 1} (𝓤 : _) (H : _) (κs : _) (A : _) (mem : _) (run : _) (given rows : _) (r : SlowAnswer)
     → engine.slowness.slow.ensures-1 {M = M} 𝓤 H κs A mem run given rows r
-    ≡ fact 𝓤 ((r ≡ slowLinksOf rows.entry.now) × (slowTold r ≡ toldBy (slowVerdict rows.entry.now) (slowSlots rows.entry.now)))
+    ≡ fact 𝓤 ((r ≡ slow_links_of rows.entry.now) × (slow_told r ≡ told_by (slow_verdict rows.entry.now) (slow_slots rows.entry.now)))
 slow-says 𝓤 H κs A mem run given rows r = refl
 
-pub slow : (rows : List LinkRow) (r r' : SlowAnswer) → r ≡ slowLinksOf rows → r' ≡ slowLinksOf rows → r ≡ r'
+pub slow : (rows : List LinkRow) (r r' : SlowAnswer) → r ≡ slow_links_of rows → r' ≡ slow_links_of rows → r ≡ r'
 slow rows r r' p q = p ∙ sym q

@@ -2,11 +2,11 @@
 -- Assumes nothing.
 use Rattle.std.specs.Prelude.{cond, List, ◌++◌, ◌+◌, ◌-◌, ltb, eqb, get_or, set, take, drop}
 use Rattle.seq.specs.declared.Seq.{Seq}
-use Rattle.seq.specs.Numbers.{seqOf}
+use Rattle.seq.specs.Numbers.{seq_of}
 use Rattle.link.specs.declared.row.LinkRow.{LinkRow}
 use Rattle.link.specs.declared.acks.OldestAck.{OldestAck}
 use Rattle.link.specs.declared.acks.OldestAck.TheVariants.{Nothing, Number}
-use Rattle.link.specs.Fields.{withAcks}
+use Rattle.link.specs.Fields.{with_acks}
 use Rattle.link.specs.Sizes.{ACKS}
 
 -- the waiting acks, oldest first
@@ -14,17 +14,17 @@ unfoldable pub waiting : LinkRow → List Seq
 waiting r = take r.ack_count r.tx_ack_queue
 
 -- one ack more behind the others; a link has at most ACKS waiting
-unfoldable pub ackQueued : LinkRow → Seq → LinkRow
-ackQueued r seq = cond (ltb r.ack_count ACKS) (withAcks r (set r.tx_ack_queue r.ack_count seq) (r.ack_count + 1)) r
+unfoldable pub ack_queued : LinkRow → Seq → LinkRow
+ack_queued r seq = cond (ltb r.ack_count ACKS) (with_acks r (set r.tx_ack_queue r.ack_count seq) (r.ack_count + 1)) r
 
-unfoldable pub oldestAck : LinkRow → OldestAck
-oldestAck r = cond (eqb r.ack_count 0) Nothing (Number (get_or r.tx_ack_queue 0 (seqOf 0)))
+unfoldable pub oldest_ack : LinkRow → OldestAck
+oldest_ack r = cond (eqb r.ack_count 0) Nothing (Number (get_or r.tx_ack_queue 0 (seq_of 0)))
 
 -- the places moved one to the front; what stands in the last is not looked at any more
 unfoldable pub shifted : List Seq → List Seq
 shifted acks = drop 1 acks ++ drop (ACKS - 1) acks
 
 -- "Taking an ack removes the link's oldest."
-unfoldable pub ackTaken : LinkRow → LinkRow
+unfoldable pub ack_taken : LinkRow → LinkRow
 unfolding shifted
-ackTaken r = cond (eqb r.ack_count 0) r (withAcks r (shifted r.tx_ack_queue) (r.ack_count - 1))
+ack_taken r = cond (eqb r.ack_count 0) r (with_acks r (shifted r.tx_ack_queue) (r.ack_count - 1))

@@ -23,8 +23,8 @@ with_flags r b u = record {
 }
 
 -- the round trip, its flag and the outstanding ping
-abbrev pub withTrip : LinkRow → (roundtrip : ℕ) (zero : Bool) (ping : Ping) → LinkRow
-withTrip r t z p = record {
+abbrev pub with_trip : LinkRow → (roundtrip : ℕ) (zero : Bool) (ping : Ping) → LinkRow
+with_trip r t z p = record {
   live = r.live;
   link_id = r.link_id;
   roundtrip = t;
@@ -40,8 +40,8 @@ withTrip r t z p = record {
 }
 
 -- the mark and the unacked bytes
-abbrev pub withSending : LinkRow → (mark : Limit) (unacked : ℕ) → LinkRow
-withSending r m n = record {
+abbrev pub with_sending : LinkRow → (mark : Limit) (unacked : ℕ) → LinkRow
+with_sending r m n = record {
   live = r.live;
   link_id = r.link_id;
   roundtrip = r.roundtrip;
@@ -57,8 +57,8 @@ withSending r m n = record {
 }
 
 -- the waiting acks
-abbrev pub withAcks : LinkRow → List Seq → ℕ → LinkRow
-withAcks r acks n = record {
+abbrev pub with_acks : LinkRow → List Seq → ℕ → LinkRow
+with_acks r acks n = record {
   live = r.live;
   link_id = r.link_id;
   roundtrip = r.roundtrip;

@@ -3,49 +3,49 @@ use Rattle.std.specs.Prelude.{◌≡◌, true, false, cond, ◌||◌, ℕ, ◌^�
 use Rattle.std.proofs.Common.{sym, ◌∙◌}
 use borrow.Table.Steps.{cases}
 use Rattle.seq.specs.declared.Seq.{Seq}
-use Rattle.seq.specs.Numbers.{seqOf}
+use Rattle.seq.specs.Numbers.{seq_of}
 use Rattle.seq.specs.Distance.{near, before, far-unordered, far-turned, near-ordered}
 use Rattle.link.specs.declared.row.LinkRow.{LinkRow}
 use Rattle.link.specs.declared.row.Limit.{Limit}
 use Rattle.link.specs.declared.row.Limit.TheVariants.{Clear, At}
-use Rattle.link.specs.Fields.{withTrip, withSending}
+use Rattle.link.specs.Fields.{with_trip, with_sending}
 
 -- "setting the limit mark to any number": a plain change of a row
-unfoldable pub markedRow : LinkRow → Limit → LinkRow
-markedRow r m = withSending r m r.txed_unacked_data
+unfoldable pub marked_row : LinkRow → Limit → LinkRow
+marked_row r m = with_sending r m r.txed_unacked_data
 
 -- "First, a mark at or before a is cleared; any other mark makes the zero-estimate flag true."; 02 [5]: "A mark that is far from the ack is
 -- cleared without setting the flag": any other is one that a is before
-unfoldable pub markAckedAs : Limit → LinkRow → ℕ → LinkRow
-unfolding markedRow
-markAckedAs Clear r a = r
-markAckedAs (At m) r a = cond (before a m.0) (withTrip r r.roundtrip true r.current_ping_sent) (markedRow r Clear)
+unfoldable pub mark_acked_as : Limit → LinkRow → ℕ → LinkRow
+unfolding marked_row
+mark_acked_as Clear r a = r
+mark_acked_as (At m) r a = cond (before a m.0) (with_trip r r.roundtrip true r.current_ping_sent) (marked_row r Clear)
 
-abbrev pub markAcked : LinkRow → ℕ → LinkRow
-markAcked r a = markAckedAs r.limit_increased r a
+abbrev pub mark_acked : LinkRow → ℕ → LinkRow
+mark_acked r a = mark_acked_as r.limit_increased r a
 
 -- "If the number is before the mark, the mark becomes the number."; 02 [5]: a mark "far from a resent number is kept"
-unfoldable pub markResentAs : Limit → LinkRow → ℕ → LinkRow
-unfolding markedRow
-markResentAs Clear r n = r
-markResentAs (At m) r n = cond (before n m.0) (markedRow r (At (seqOf n))) r
+unfoldable pub mark_resent_as : Limit → LinkRow → ℕ → LinkRow
+unfolding marked_row
+mark_resent_as Clear r n = r
+mark_resent_as (At m) r n = cond (before n m.0) (marked_row r (At (seq_of n))) r
 
-abbrev pub markResent : LinkRow → ℕ → LinkRow
-markResent r n = markResentAs r.limit_increased r n
+abbrev pub mark_resent : LinkRow → ℕ → LinkRow
+mark_resent r n = mark_resent_as r.limit_increased r n
 
 -- ---- laws
 
 -- the two rules of an ack in the paper's words, and what a mark that is far from the number is to each
 module _ (m : Seq) (r : LinkRow) (a : ℕ) (hm : m.0 < 2 ^ 32) (ha : a < 2 ^ 32) where
   pub mark-acked-near : near m.0 a ≡ true
-      → markAckedAs (At m) r a ≡ cond (eqb m.0 a || before m.0 a) (markedRow r Clear) (withTrip r r.roundtrip true r.current_ping_sent)
-  unfolding markAckedAs
+      → mark_acked_as (At m) r a ≡ cond (eqb m.0 a || before m.0 a) (marked_row r Clear) (with_trip r r.roundtrip true r.current_ping_sent)
+  unfolding mark_acked_as
   mark-acked-near t = cases (eqb m.0 a || before m.0 a) (λ x. simp (near-ordered m.0 a hm ha t, x)) (λ x. simp (near-ordered m.0 a hm ha t, x))
 
-  pub mark-acked-far : near m.0 a ≡ false → markAckedAs (At m) r a ≡ markedRow r Clear
-  unfolding markAckedAs
+  pub mark-acked-far : near m.0 a ≡ false → mark_acked_as (At m) r a ≡ marked_row r Clear
+  unfolding mark_acked_as
   mark-acked-far f = simp (far-unordered a m.0 (sym (far-turned m.0 a hm ha) ∙ f))
 
-  pub mark-resent-far : near m.0 a ≡ false → markResentAs (At m) r a ≡ r
-  unfolding markResentAs
+  pub mark-resent-far : near m.0 a ≡ false → mark_resent_as (At m) r a ≡ r
+  unfolding mark_resent_as
   mark-resent-far f = simp (far-unordered a m.0 (sym (far-turned m.0 a hm ha) ∙ f))

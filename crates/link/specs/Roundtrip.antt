@@ -3,28 +3,28 @@ use Rattle.std.specs.Prelude.{Bool, false, cond, ℕ, ◌+◌, ◌-◌, ◌*◌,
 use Rattle.link.specs.declared.row.LinkRow.{LinkRow}
 use Rattle.link.specs.declared.row.Ping.{Ping}
 use Rattle.link.specs.declared.row.Ping.TheVariants.{Idle, Since}
-use Rattle.link.specs.Fields.{withTrip}
+use Rattle.link.specs.Fields.{with_trip}
 
 -- "the round trip r by elapsed e: the flag set gives e; e > r gives (r + 3e)/4; else (99r + e)/100, rounded down"
-unfoldable pub tripAfter : Bool → ℕ → ℕ → ℕ
-tripAfter flag r e = cond flag e (cond (ltb r e) ((r + 3 * e) / 4) ((99 * r + e) / 100))
+unfoldable pub trip_after : Bool → ℕ → ℕ → ℕ
+trip_after flag r e = cond flag e (cond (ltb r e) ((r + 3 * e) / 4) ((99 * r + e) / 100))
 
-abbrev pub withPing : LinkRow → Ping → LinkRow
-withPing r p = withTrip r r.roundtrip r.zero_estimate p
+abbrev pub with_ping : LinkRow → Ping → LinkRow
+with_ping r p = with_trip r r.roundtrip r.zero_estimate p
 
 -- "noting a ping"
 unfoldable pub pinged : LinkRow → ℕ → LinkRow
-pinged r time = withPing r (Since time)
+pinged r time = with_ping r (Since time)
 
 -- "With a ping outstanding: the round trip is its age, flag and ping are cleared. With none, it is accepted"
-unfoldable pub pongedAs : Ping → LinkRow → ℕ → LinkRow
-pongedAs Idle r time = r
-pongedAs (Since since) r time = withTrip r (time - since) false Idle
+unfoldable pub ponged_as : Ping → LinkRow → ℕ → LinkRow
+ponged_as Idle r time = r
+ponged_as (Since since) r time = with_trip r (time - since) false Idle
 
 abbrev pub ponged : LinkRow → ℕ → LinkRow
-ponged r time = pongedAs r.current_ping_sent r time
+ponged r time = ponged_as r.current_ping_sent r time
 
 -- "Only the first case moves the round trip r by elapsed e ..; then the flag is cleared (P)." Elapsed is the time given less
 -- the time of the last sending.
-unfoldable pub tripMoved : LinkRow → ℕ → ℕ → LinkRow
-tripMoved r since time = withTrip r (tripAfter r.zero_estimate r.roundtrip (time - since)) false r.current_ping_sent
+unfoldable pub trip_moved : LinkRow → ℕ → ℕ → LinkRow
+trip_moved r since time = with_trip r (trip_after r.zero_estimate r.roundtrip (time - since)) false r.current_ping_sent

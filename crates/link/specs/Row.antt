@@ -1,13 +1,13 @@
 -- Document 01, "What each call does", "Links" and "Unconfirm": a link's row when it is added, removed, confirmed,
 -- unconfirmed and blocked. Assumes nothing.
 use Rattle.std.specs.Prelude.{Bool, true, false, ℕ, replicate, []}
-use Rattle.seq.specs.Numbers.{seqOf}
+use Rattle.seq.specs.Numbers.{seq_of}
 use Rattle.link.specs.declared.row.LinkRow.{LinkRow}
 use Rattle.link.specs.declared.row.MaxPing.{MaxPing}
 use Rattle.link.specs.declared.row.MaxPing.TheVariants.{Unlimited}
 use Rattle.link.specs.declared.row.Limit.TheVariants.{Clear}
 use Rattle.link.specs.declared.row.Ping.TheVariants.{Idle}
-use Rattle.link.specs.Fields.{with_flags, withSending, withAcks}
+use Rattle.link.specs.Fields.{with_flags, with_sending, with_acks}
 use Rattle.link.specs.Sizes.{ACKS}
 
 -- "Its round trip, `max_ping` or none, blocked and unconfirmed flags are given; all else starts empty, the zero-estimate
@@ -24,7 +24,7 @@ fresh_row id roundtrip max blocked unconfirmed = record {
   limit_increased = Clear;
   current_ping_sent = Idle;
   txed_unacked_data = 0;
-  tx_ack_queue = replicate ACKS (seqOf 0);
+  tx_ack_queue = replicate ACKS (seq_of 0);
   ack_count = 0;
 }
 
@@ -46,21 +46,21 @@ no_row = record {
 }
 
 -- an empty slot: "all else empty, zero or false"
-unfoldable pub emptyRow : LinkRow
-emptyRow = withAcks no_row (replicate ACKS (seqOf 0)) 0
+unfoldable pub empty_row : LinkRow
+empty_row = with_acks no_row (replicate ACKS (seq_of 0)) 0
 
 -- "Confirming, blocking .. are plain changes of a row (P)."
 unfoldable pub confirmed : LinkRow → LinkRow
 confirmed r = with_flags r r.blocked false
 
-unfoldable pub blockedRow : LinkRow → Bool → LinkRow
-blockedRow r b = with_flags r b r.unconfirmed
+unfoldable pub blocked_row : LinkRow → Bool → LinkRow
+blocked_row r b = with_flags r b r.unconfirmed
 
 -- "The link becomes unconfirmed; its mark is cleared, its round trip and flag kept (P). Its Sent packets become
 -- ResendQueued", so that none of its bytes is unacked
-unfoldable pub unconfirmedRow : LinkRow → LinkRow
-unconfirmedRow r = with_flags (withSending r Clear 0) r.blocked true
+unfoldable pub unconfirmed_row : LinkRow → LinkRow
+unconfirmed_row r = with_flags (with_sending r Clear 0) r.blocked true
 
 -- the link's unacked bytes, which the engine counts
-unfoldable pub withUnacked : LinkRow → ℕ → LinkRow
-withUnacked r n = withSending r r.limit_increased n
+unfoldable pub with_unacked : LinkRow → ℕ → LinkRow
+with_unacked r n = with_sending r r.limit_increased n

@@ -18,15 +18,15 @@ ACKS = 64
 abbrev pub MAX_FACTOR : ℕ
 MAX_FACTOR = 1000
 
-abbrev pub maxPingWithin : MaxPing → Bool
-maxPingWithin Unlimited = true
-maxPingWithin (UpTo limit) = leb limit MAX_TIME
+abbrev pub max_ping_within : MaxPing → Bool
+max_ping_within Unlimited = true
+max_ping_within (UpTo limit) = leb limit MAX_TIME
 
-abbrev pub pingWithin : Ping → ℕ → Bool
-pingWithin Idle time = true
-pingWithin (Since since) time = leb since time
+abbrev pub ping_within : Ping → ℕ → Bool
+ping_within Idle time = true
+ping_within (Since since) time = leb since time
 
-unfoldable pub rowWithin : LinkRow → ℕ → Bool
-rowWithin r time =
+unfoldable pub row_within : LinkRow → ℕ → Bool
+row_within r time =
     leb r.roundtrip MAX_TIME
-    && (maxPingWithin r.max_ping && (pingWithin r.current_ping_sent time && leb r.ack_count ACKS))
+    && (max_ping_within r.max_ping && (ping_within r.current_ping_sent time && leb r.ack_count ACKS))

@@ -5,8 +5,8 @@ use Rattle.link.specs.declared.row.MaxPing.{MaxPing}
 use Rattle.link.specs.declared.row.MaxPing.TheVariants.{Unlimited, UpTo}
 
 -- "live and confirmed"
-unfoldable pub confirmedLink : LinkRow → Bool
-confirmedLink r = r.live && not r.unconfirmed
+unfoldable pub confirmed_link : LinkRow → Bool
+confirmed_link r = r.live && not r.unconfirmed
 
 abbrev pub above : MaxPing → ℕ → Bool
 above Unlimited trip = false
@@ -17,9 +17,9 @@ without Unlimited = true
 without (UpTo limit) = false
 
 -- "with round trip above `max_ping`"
-unfoldable pub aboveMaxPing : LinkRow → Bool
-aboveMaxPing r = above r.max_ping r.roundtrip
+unfoldable pub above_max_ping : LinkRow → Bool
+above_max_ping r = above r.max_ping r.roundtrip
 
 -- "Slow here means blocked, or without `max_ping`, or above it."
-unfoldable pub slowRow : LinkRow → Bool
-slowRow r = r.blocked || without r.max_ping || above r.max_ping r.roundtrip
+unfoldable pub slow_row : LinkRow → Bool
+slow_row r = r.blocked || without r.max_ping || above r.max_ping r.roundtrip

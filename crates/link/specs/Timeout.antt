@@ -10,16 +10,16 @@ use Rattle.link.specs.declared.timeout.AckTimeout.{AckTimeout}
 use Rattle.link.specs.Sizes.{MAX_TIME, MAX_FACTOR}
 
 -- "Factors are 1 to 1,000"
-unfoldable pub factorOk : ℕ → Bool
-factorOk factor = leb 1 factor && leb factor MAX_FACTOR
+unfoldable pub factor_ok : ℕ → Bool
+factor_ok factor = leb 1 factor && leb factor MAX_FACTOR
 
 -- not "bad factors or bounds, a bound above 2^56 among them" (21)
-unfoldable pub timeoutWithin : AckTimeout → Bool
-unfolding factorOk
-timeoutWithin t =
-    factorOk t.roundtrip_factor
-    && (factorOk t.resent_factor
-    && (factorOk t.unreliable_factor && (leb t.min t.max && (leb t.min MAX_TIME && leb t.max MAX_TIME))))
+unfoldable pub timeout_within : AckTimeout → Bool
+unfolding factor_ok
+timeout_within t =
+    factor_ok t.roundtrip_factor
+    && (factor_ok t.resent_factor
+    && (factor_ok t.unreliable_factor && (leb t.min t.max && (leb t.min MAX_TIME && leb t.max MAX_TIME))))
 
 -- "round trip times the round-trip factor, times the resent factor if resent, times the unreliable factor if the host says so"
 abbrev pub product : AckTimeout → (roundtrip : ℕ) (resent unreliable : Bool) → ℕ
@@ -33,8 +33,8 @@ counted product most = cond (ltb product (2 ^ 64)) product most
 abbrev pub clamped : (least most n : ℕ) → ℕ
 clamped least most n = max least (min n most)
 
-unfoldable pub durationOf : AckTimeout → (roundtrip : ℕ) (resent unreliable : Bool) → ℕ
-durationOf t roundtrip resent unreliable = clamped t.min t.max (counted (product t roundtrip resent unreliable) t.max)
+unfoldable pub duration_of : AckTimeout → (roundtrip : ℕ) (resent unreliable : Bool) → ℕ
+duration_of t roundtrip resent unreliable = clamped t.min t.max (counted (product t roundtrip resent unreliable) t.max)
 
 -- ---- laws
 
@@ -58,8 +58,8 @@ bound-again a (suc f) most =
 
 -- with a maximum of 64 bits a product that passes them is past it: whole numbers, clamped
 pub duration-whole : (t : AckTimeout) (roundtrip : ℕ) (resent unreliable : Bool) → t.max < 2 ^ 64
-    → durationOf t roundtrip resent unreliable ≡ clamped t.min t.max (product t roundtrip resent unreliable)
-unfolding durationOf
+    → duration_of t roundtrip resent unreliable ≡ clamped t.min t.max (product t roundtrip resent unreliable)
+unfolding duration_of
 duration-whole t roundtrip resent unreliable fits =
     let p = product t roundtrip resent unreliable in
     cases (ltb p (2 ^ 64))
@@ -70,7 +70,7 @@ duration-whole t roundtrip resent unreliable fits =
 
 -- .. factor by factor, within the maximum at each
 pub duration-steps : (t : AckTimeout) (roundtrip : ℕ) (resent unreliable : Bool) → t.max < 2 ^ 64
-    → durationOf t roundtrip resent unreliable
+    → duration_of t roundtrip resent unreliable
     ≡ max t.min (min (min (min (roundtrip * t.roundtrip_factor) t.max * cond resent t.resent_factor 1) t.max * cond unreliable t.unreliable_factor 1) t.max)
 duration-steps t roundtrip resent unreliable fits =
     let a = roundtrip * t.roundtrip_factor in
@@ -84,20 +84,20 @@ pub record Bounded (t : AckTimeout) : Type 0 where
   pub ordered : t.min ≤ t.max
   pub within : t.max ≤ MAX_TIME
 
-pub bounded : (t : AckTimeout) → timeoutWithin t ≡ true → Bounded t
-unfolding timeoutWithin
+pub bounded : (t : AckTimeout) → timeout_within t ≡ true → Bounded t
+unfolding timeout_within
 bounded t e =
-    let e1 = split (factorOk t.roundtrip_factor) _ e in
-    let e2 = split (factorOk t.resent_factor) _ e1.1 in
-    let e3 = split (factorOk t.unreliable_factor) _ e2.1 in
+    let e1 = split (factor_ok t.roundtrip_factor) _ e in
+    let e2 = split (factor_ok t.resent_factor) _ e1.1 in
+    let e3 = split (factor_ok t.unreliable_factor) _ e2.1 in
     let e4 = split (leb t.min t.max) _ e3.1 in
     let e5 = split (leb t.min MAX_TIME) _ e4.1 in
     record { ordered = leb-true t.min t.max e4.0; within = leb-true t.max MAX_TIME e5.1 }
 
 -- the duration lies between the bounds ..
 pub duration-between : (t : AckTimeout) (roundtrip : ℕ) (resent unreliable : Bool) → t.min ≤ t.max
-    → (t.min ≤ durationOf t roundtrip resent unreliable) × (durationOf t roundtrip resent unreliable ≤ t.max)
-unfolding durationOf
+    → (t.min ≤ duration_of t roundtrip resent unreliable) × (duration_of t roundtrip resent unreliable ≤ t.max)
+unfolding duration_of
 duration-between t roundtrip resent unreliable ordered =
     let n = counted (product t roundtrip resent unreliable) t.max in
     (le-max_left t.min (min n t.max), max-le ordered (min-le_right n t.max))
@@ -108,7 +108,7 @@ clamped-grows least most {m} {n} h =
     max-le (le-max_left least (min n most)) (le_trans (le-min (le_trans (min-le_left m most) h) (min-le_right m most)) (le-max_right least (min n most)))
 
 pub duration-grows : (t : AckTimeout) {roundtrip later : ℕ} (resent unreliable : Bool) → t.max < 2 ^ 64 → roundtrip ≤ later
-    → durationOf t roundtrip resent unreliable ≤ durationOf t later resent unreliable
+    → duration_of t roundtrip resent unreliable ≤ duration_of t later resent unreliable
 duration-grows t {roundtrip} {later} resent unreliable fits h =
     let r = cond resent t.resent_factor 1 in
     let u = cond unreliable t.unreliable_factor 1 in

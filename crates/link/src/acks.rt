@@ -1,6 +1,6 @@
 // The waiting acks of a link, oldest first.
 ghost use Rattle.std.specs.Prelude.{◌≡◌};
-ghost use Rattle.link.specs.Acks.{shifted, ackQueued, oldestAck, ackTaken};
+ghost use Rattle.link.specs.Acks.{shifted, ack_queued, oldest_ack, ack_taken};
 
 use crate::row::LinkRow;
 use crate::sizes::ACKS;
@@ -10,7 +10,7 @@ use seq::Seq;
 const LAST: usize = ACKS - 1;
 
 // The oldest waiting ack.
-#[derive(Drop)]
+#[derive(Clone, Copy)]
 pub enum OldestAck {
     Nothing,
     Number(Seq),
@@ -33,7 +33,7 @@ fn shift(acks: [Seq; ACKS]) -> [Seq; ACKS]
 impl LinkRow {
     // Adds an ack; a full queue stays as it is.
     pub fn queue_ack(self, seq: Seq) -> LinkRow
-        ensures { result ≡ ackQueued self seq }
+        ensures { result ≡ ack_queued self seq }
     {
         let n = self.ack_count;
         if ACKS <= n {
@@ -46,7 +46,7 @@ impl LinkRow {
     }
 
     pub fn oldest_ack(self) -> OldestAck
-        ensures { result ≡ oldestAck self }
+        ensures { result ≡ oldest_ack self }
     {
         if self.ack_count == 0 {
             return OldestAck::Nothing;
@@ -57,7 +57,7 @@ impl LinkRow {
 
     // The row without its oldest ack; with none waiting it stays as it is.
     pub fn take_ack(self) -> LinkRow
-        ensures { result ≡ ackTaken self }
+        ensures { result ≡ ack_taken self }
     {
         let n = self.ack_count;
         if n == 0 {

@@ -1,6 +1,6 @@
 // The limit mark: what setting it, an ack and a resend do to it.
 ghost use Rattle.std.specs.Prelude.{◌≡◌};
-ghost use Rattle.link.specs.Limit.{markedRow, markAcked, markResent};
+ghost use Rattle.link.specs.Limit.{marked_row, mark_acked, mark_resent};
 
 use crate::row::{Limit, LinkRow};
 use seq::Seq;
@@ -8,7 +8,7 @@ use seq::Seq;
 impl LinkRow {
     // Sets the limit mark.
     pub fn mark(self, limit: Limit) -> LinkRow
-        ensures { result ≡ markedRow self limit }
+        ensures { result ≡ marked_row self limit }
     {
         let max_ping = self.max_ping;
         let current_ping_sent = self.current_ping_sent;
@@ -31,7 +31,7 @@ impl LinkRow {
 
     // What an ack of a number does to the mark: one that is far from the number is cleared too.
     pub fn mark_acked(self, received: Seq) -> LinkRow
-        ensures { result ≡ markAcked self received.0 }
+        ensures { result ≡ mark_acked self received.0 }
     {
         let limit = self.limit_increased;
         match limit {
@@ -49,7 +49,7 @@ impl LinkRow {
 
     // What a resend of a number over this link does to the mark: one that is far from the number is kept.
     pub fn mark_resent(self, seq: Seq) -> LinkRow
-        ensures { result ≡ markResent self seq.0 }
+        ensures { result ≡ mark_resent self seq.0 }
     {
         let limit = self.limit_increased;
         match limit {

@@ -1,6 +1,6 @@
 // The round trip: how a ping, its pong and an acknowledged packet move it.
 ghost use Rattle.std.specs.Prelude.{◌≡◌, ◌+◌, ◌-◌, ◌*◌, ◌/◌};
-ghost use Rattle.link.specs.Roundtrip.{tripAfter, withPing, pinged, ponged, tripMoved};
+ghost use Rattle.link.specs.Roundtrip.{trip_after, with_ping, pinged, ponged, trip_moved};
 
 use crate::row::{LinkRow, Ping};
 
@@ -27,7 +27,7 @@ fn smoother(r: u64, e: u64) -> u64
 
 // The round trip r after a packet was acknowledged in the time e.
 pub fn trip_after(zero_estimate: bool, r: u64, e: u64) -> u64
-    ensures { result ≡ tripAfter zero_estimate r e }
+    ensures { result ≡ trip_after zero_estimate r e }
 {
     if zero_estimate {
         e
@@ -40,7 +40,7 @@ pub fn trip_after(zero_estimate: bool, r: u64, e: u64) -> u64
 
 impl LinkRow {
     fn with_ping(self, ping: Ping) -> LinkRow
-        ensures { result ≡ withPing self ping }
+        ensures { result ≡ with_ping self ping }
     {
         let max_ping = self.max_ping;
         let limit_increased = self.limit_increased;
@@ -86,7 +86,7 @@ impl LinkRow {
 
     // A packet that was sent at `since` is acknowledged.
     pub fn trip(self, since: u64, time: u64) -> LinkRow
-        ensures { result ≡ tripMoved self since time }
+        ensures { result ≡ trip_moved self since time }
     {
         let mut out = self;
         out.roundtrip = trip_after(self.zero_estimate, self.roundtrip, less(time, since));

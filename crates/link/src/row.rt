@@ -1,33 +1,33 @@
 // The row itself, and the plain changes of it.
 ghost use Rattle.std.specs.Prelude.{◌≡◌};
-ghost use Rattle.link.specs.Row.{emptyRow, fresh_row, confirmed, unconfirmedRow, blockedRow, withUnacked};
+ghost use Rattle.link.specs.Row.{empty_row, fresh_row, confirmed, unconfirmed_row, blocked_row, with_unacked};
 
 use crate::sizes::ACKS;
 use seq::Seq;
 
 // The longest round trip that a link may have, in nanoseconds.
-#[derive(Drop)]
+#[derive(Clone, Copy)]
 pub enum MaxPing {
     Unlimited,
     UpTo(u64),
 }
 
 // The limit mark: the number at which the link's send limit was last increased.
-#[derive(Drop)]
+#[derive(Clone, Copy)]
 pub enum Limit {
     Clear,
     At(Seq),
 }
 
 // The outstanding ping: when it was sent.
-#[derive(Drop)]
+#[derive(Clone, Copy)]
 pub enum Ping {
     Idle,
     Since(u64),
 }
 
 // A link slot. Times are nanoseconds.
-#[derive(Drop)]
+#[derive(Clone, Copy)]
 pub struct LinkRow {
     // whether the slot holds a link
     pub live: bool,
@@ -53,7 +53,7 @@ pub struct LinkRow {
 impl LinkRow {
     // A slot without a link.
     pub fn empty() -> LinkRow
-        ensures { result ≡ emptyRow }
+        ensures { result ≡ empty_row }
     {
         LinkRow {
             live: false,
@@ -107,7 +107,7 @@ impl LinkRow {
 
     // The row's part of unconfirming: none of its packets stays Sent.
     pub fn unconfirm(self) -> LinkRow
-        ensures { result ≡ unconfirmedRow self }
+        ensures { result ≡ unconfirmed_row self }
     {
         let max_ping = self.max_ping;
         let current_ping_sent = self.current_ping_sent;
@@ -129,7 +129,7 @@ impl LinkRow {
     }
 
     pub fn block(self, blocked: bool) -> LinkRow
-        ensures { result ≡ blockedRow self blocked }
+        ensures { result ≡ blocked_row self blocked }
     {
         let mut out = self;
         out.blocked = blocked;
@@ -137,7 +137,7 @@ impl LinkRow {
     }
 
     pub fn with_unacked(self, bytes: u32) -> LinkRow
-        ensures { result ≡ withUnacked self bytes }
+        ensures { result ≡ with_unacked self bytes }
     {
         let mut out = self;
         out.txed_unacked_data = bytes;

@@ -1,6 +1,6 @@
 // What Sound asks of a row by itself: counts and times within their sizes.
 ghost use Rattle.std.specs.Prelude.{◌≡◌};
-ghost use Rattle.link.specs.Sizes.{maxPingWithin, pingWithin, rowWithin};
+ghost use Rattle.link.specs.Sizes.{max_ping_within, ping_within, row_within};
 
 use crate::row::{LinkRow, MaxPing, Ping};
 use refusal::both;
@@ -15,7 +15,7 @@ pub const MAX_TIME: u64 = 0x100_0000_0000_0000;
 pub const MAX_FACTOR: u64 = 1000;
 
 pub fn max_ping_within(max_ping: MaxPing) -> bool
-    ensures { result ≡ maxPingWithin max_ping }
+    ensures { result ≡ max_ping_within max_ping }
 {
     match max_ping {
         MaxPing::Unlimited => true,
@@ -24,7 +24,7 @@ pub fn max_ping_within(max_ping: MaxPing) -> bool
 }
 
 fn ping_within(ping: Ping, time: u64) -> bool
-    ensures { result ≡ pingWithin ping time }
+    ensures { result ≡ ping_within ping time }
 {
     match ping {
         Ping::Idle => true,
@@ -35,7 +35,7 @@ fn ping_within(ping: Ping, time: u64) -> bool
 impl LinkRow {
     // Whether the row's counts and times are within their sizes, time being the last accepted one.
     pub fn is_within(self, time: u64) -> bool
-        ensures { result ≡ rowWithin self time }
+        ensures { result ≡ row_within self time }
     {
         let max_ping = self.max_ping;
         let ping = self.current_ping_sent;

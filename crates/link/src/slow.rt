@@ -1,18 +1,18 @@
 // The per-row tests of "Slow links".
 ghost use Rattle.std.specs.Prelude.{◌≡◌};
-ghost use Rattle.link.specs.Slow.{confirmedLink, aboveMaxPing, slowRow};
+ghost use Rattle.link.specs.Slow.{confirmed_link, above_max_ping, slow_row};
 
 use crate::row::{LinkRow, MaxPing};
 
 impl LinkRow {
     pub fn is_confirmed(self) -> bool
-        ensures { result ≡ confirmedLink self }
+        ensures { result ≡ confirmed_link self }
     {
         if self.live { !self.unconfirmed } else { false }
     }
 
     pub fn is_above_max_ping(self) -> bool
-        ensures { result ≡ aboveMaxPing self }
+        ensures { result ≡ above_max_ping self }
     {
         let max = self.max_ping;
         match max {
@@ -22,7 +22,7 @@ impl LinkRow {
     }
 
     pub fn is_slow(self) -> bool
-        ensures { result ≡ slowRow self }
+        ensures { result ≡ slow_row self }
     {
         if self.blocked {
             return true;

@@ -1,12 +1,12 @@
 // How long an acknowledgement may be in coming over a link (request [1] of document 02). Times are nanoseconds.
 ghost use Rattle.std.specs.Prelude.{◌≡◌, cond, ◌*◌, min};
-ghost use Rattle.link.specs.Timeout.{factorOk, timeoutWithin, durationOf};
+ghost use Rattle.link.specs.Timeout.{factor_ok, timeout_within, duration_of};
 
 use crate::sizes::{MAX_FACTOR, MAX_TIME};
 use refusal::both;
 
 // A host's settings, by their names in the original without `ack_timeout`.
-#[derive(Drop)]
+#[derive(Clone, Copy)]
 pub struct AckTimeout {
     // of the round trip
     pub roundtrip_factor: u64,
@@ -19,7 +19,7 @@ pub struct AckTimeout {
 }
 
 fn factor_ok(factor: u64) -> bool
-    ensures { result ≡ factorOk factor }
+    ensures { result ≡ factor_ok factor }
 {
     both(1 <= factor, factor <= MAX_FACTOR)
 }
@@ -44,7 +44,7 @@ fn times(a: u64, factor: u64, most: u64) -> u64
 impl AckTimeout {
     // Whether factors and bounds are within their sizes.
     pub fn is_within(self) -> bool
-        ensures { result ≡ timeoutWithin self }
+        ensures { result ≡ timeout_within self }
     {
         let roundtrip = factor_ok(self.roundtrip_factor);
         let resent = factor_ok(self.resent_factor);
@@ -56,7 +56,7 @@ impl AckTimeout {
 
     // How long after a packet was definitely sent its acknowledgement may be in coming.
     pub fn duration(self, roundtrip: u64, resent: bool, unreliable: bool) -> u64
-        ensures { result ≡ durationOf self roundtrip resent unreliable }
+        ensures { result ≡ duration_of self roundtrip resent unreliable }
     {
         let most = self.max;
         let a = times(roundtrip, self.roundtrip_factor, most);

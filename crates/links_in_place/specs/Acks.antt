@@ -3,46 +3,46 @@ use Rattle.std.specs.Prelude.{◌≡◌, true, false, List, ℕ, ◌-◌, ◌<�
 use Rattle.std.proofs.Common.{ap, ◌∙◌, arith, get_or-set_same}
 use borrow.Author.Tests.{eq-eqb, ne_eqb}
 use Rattle.refusal.specs.declared.Refusal.TheVariants.{Slot, Nothing}
-use Rattle.seq.specs.Numbers.{seqOf}
+use Rattle.seq.specs.Numbers.{seq_of}
 use Rattle.link.specs.declared.row.LinkRow.{LinkRow}
-use Rattle.link.specs.Acks.{shifted, oldestAck, ackTaken}
-use Rattle.link.specs.Fields.{withAcks}
+use Rattle.link.specs.Acks.{shifted, oldest_ack, ack_taken}
+use Rattle.link.specs.Fields.{with_acks}
 use Rattle.link.specs.Row.{no_row}
 use Rattle.engine.specs.declared.state.State.{State}
 use Rattle.engine.specs.declared.handing_out.TakeAck.TheVariants.{Number, No}
 use Rattle.engine.specs.Decide.{soundb}
 use Rattle.engine.specs.Fields.{with_row}
-use Rattle.engine.specs.HandingOut.{takeAckVerdict, ackAnswer, takenAckState, takeAckOf}
-use Rattle.engine.specs.Rows.{row_of, slotOk, row-of}
+use Rattle.engine.specs.HandingOut.{take_ack_verdict, ack_answer, taken_ack_state, take_ack_of}
+use Rattle.engine.specs.Rows.{row_of, slot_ok, row-of}
 use Rattle.engine.specs.Sizes.{SLOTS}
-use Rattle.engine.specs.Sound.{rowAt}
+use Rattle.engine.specs.Sound.{row_at}
 use Rattle.words.specs.Acks.{put-twice}
-use Rattle.words.specs.Layout.{WORDS, rowStart}
-use Rattle.words.specs.Meaning.{row_of as row_in, acksIn, linksIn, decoded, state_of, stated}
+use Rattle.words.specs.Layout.{WORDS, row_start}
+use Rattle.words.specs.Meaning.{row_of as row_in, acks_in, links_in, decoded, state_of, stated}
 use Rattle.words.specs.Parts.{part, entries-length}
 use Rattle.links_in_place.specs.Gated.{slot_small}
 
 -- a row with another count of acks
 abbrev pub counted : LinkRow → ℕ → LinkRow
-counted r n = withAcks r r.tx_ack_queue n
+counted r n = with_acks r r.tx_ack_queue n
 
 -- the words say eight rows
 pub links-long : (w : List ℕ) → length w ≡ WORDS → length (state_of w).links ≡ SLOTS
-unfolding decoded linksIn
-links-long w long = ap (λ (s : State). length s.links) (stated w long) ∙ entries-length (λ k. row_in (part (rowStart k) 14 w) (acksIn w k)) 8
+unfolding decoded links_in
+links-long w long = ap (λ (s : State). length s.links) (stated w long) ∙ entries-length (λ k. row_in (part (row_start k) 14 w) (acks_in w k)) 8
 
 -- a row that was put is there
-pub row_put : (s : State) (slot : ℕ) → slot < length s.links → (q : LinkRow) → rowAt (with_row s slot q) slot ≡ q
+pub row_put : (s : State) (slot : ℕ) → slot < length s.links → (q : LinkRow) → row_at (with_row s slot q) slot ≡ q
 row_put s slot h q = get_or-set_same s.links slot q no_row h
 
-pub acks-dropped : (s : State) (slot n : ℕ) → slot < length s.links → n ≡ (rowAt s slot).ack_count → 0 < n
-    → with_row (with_row s slot (withAcks (rowAt s slot) (shifted (rowAt s slot).tx_ack_queue) (rowAt s slot).ack_count)) slot
-    (counted (rowAt (with_row s slot (withAcks (rowAt s slot) (shifted (rowAt s slot).tx_ack_queue) (rowAt s slot).ack_count)) slot) (n - 1))
-    ≡ with_row s slot (ackTaken (rowAt s slot))
-unfolding ackTaken
+pub acks-dropped : (s : State) (slot n : ℕ) → slot < length s.links → n ≡ (row_at s slot).ack_count → 0 < n
+    → with_row (with_row s slot (with_acks (row_at s slot) (shifted (row_at s slot).tx_ack_queue) (row_at s slot).ack_count)) slot
+    (counted (row_at (with_row s slot (with_acks (row_at s slot) (shifted (row_at s slot).tx_ack_queue) (row_at s slot).ack_count)) slot) (n - 1))
+    ≡ with_row s slot (ack_taken (row_at s slot))
+unfolding ack_taken
 acks-dropped s slot n h e pos =
-    let r = rowAt s slot in
-    let q = withAcks r (shifted r.tx_ack_queue) r.ack_count in
+    let r = row_at s slot in
+    let q = with_acks r (shifted r.tx_ack_queue) r.ack_count in
     let some : eqb r.ack_count 0 ≡ false = ne_eqb r.ack_count 0 (λ z. omega arith) in
     ap (λ x. with_row (with_row s slot q) slot (counted x (n - 1))) (row_put s slot h q)
     ∙ put-twice s slot q (counted q (n - 1))
@@ -50,19 +50,19 @@ acks-dropped s slot n h e pos =
     ∙ simp some
 
 module _ (s : State) (judged : soundb s ≡ true) (slot : ℕ) where
-  pub ack-no-slot : slotOk s slot ≡ false → takeAckOf s slot ≡ record { answer = No Slot; state = s }
-  unfolding takeAckOf ackAnswer takeAckVerdict
+  pub ack-no-slot : slot_ok s slot ≡ false → take_ack_of s slot ≡ record { answer = No Slot; state = s }
+  unfolding take_ack_of ack_answer take_ack_verdict
   ack-no-slot e = simp (judged, e)
 
-  module _ (here : slotOk s slot ≡ true) where
-    at_row : row_of s slot ≡ rowAt s slot
+  module _ (here : slot_ok s slot ≡ true) where
+    at_row : row_of s slot ≡ row_at s slot
     at_row = row-of s slot (slot_small s judged slot here)
 
-    pub ack-none : (rowAt s slot).ack_count ≡ 0 → takeAckOf s slot ≡ record { answer = No Nothing; state = s }
-    unfolding takeAckOf ackAnswer takeAckVerdict oldestAck
+    pub ack-none : (row_at s slot).ack_count ≡ 0 → take_ack_of s slot ≡ record { answer = No Nothing; state = s }
+    unfolding take_ack_of ack_answer take_ack_verdict oldest_ack
     ack-none e = simp (judged, here, at_row, eq-eqb _ _ e)
 
-    pub ack-taken : ((rowAt s slot).ack_count ≡ 0 → ⊥)
-        → takeAckOf s slot ≡ record { answer = Number (get_or (rowAt s slot).tx_ack_queue 0 (seqOf 0)); state = with_row s slot (ackTaken (rowAt s slot)) }
-    unfolding takeAckOf ackAnswer takeAckVerdict oldestAck takenAckState
+    pub ack-taken : ((row_at s slot).ack_count ≡ 0 → ⊥)
+        → take_ack_of s slot ≡ record { answer = Number (get_or (row_at s slot).tx_ack_queue 0 (seq_of 0)); state = with_row s slot (ack_taken (row_at s slot)) }
+    unfolding take_ack_of ack_answer take_ack_verdict oldest_ack taken_ack_state
     ack-taken ne = simp (judged, here, at_row, ne_eqb _ _ ne)

@@ -5,31 +5,31 @@ use Rattle.refusal.specs.declared.verdict.Verdict.{Verdict}
 use Rattle.refusal.specs.declared.verdict.Verdict.TheVariants.{Pass, No}
 use Rattle.engine.specs.declared.state.State.{State}
 use Rattle.engine.specs.Decide.{soundb}
-use Rattle.engine.specs.Gates.{slotVerdict, timedVerdict, slot_ok}
-use Rattle.engine.specs.Rows.{slotOk, timeOk}
+use Rattle.engine.specs.Gates.{slot_verdict, timed_verdict, slot-ok}
+use Rattle.engine.specs.Rows.{slot_ok, time_ok}
 use Rattle.engine.specs.Sizes.{SLOTS}
 
 module _ (s : State) (judged : soundb s ≡ true) (slot : ℕ) where
-  pub slot_small : slotOk s slot ≡ true → slot < SLOTS
-  slot_small e = (slot_ok s slot judged e).small
+  pub slot_small : slot_ok s slot ≡ true → slot < SLOTS
+  slot_small e = (slot-ok s slot judged e).small
 
-  pub slot-here : slotOk s slot ≡ true → slotVerdict s slot ≡ Pass
-  unfolding slotVerdict
+  pub slot-here : slot_ok s slot ≡ true → slot_verdict s slot ≡ Pass
+  unfolding slot_verdict
   slot-here e = simp (judged, e)
 
-  pub slot-not : slotOk s slot ≡ false → slotVerdict s slot ≡ No Slot
-  unfolding slotVerdict
+  pub slot-not : slot_ok s slot ≡ false → slot_verdict s slot ≡ No Slot
+  unfolding slot_verdict
   slot-not e = simp (judged, e)
 
   module _ (time : ℕ) (rest : Verdict) where
-    pub timed-here : timeOk s time ≡ true → slotOk s slot ≡ true → timedVerdict s slot time rest ≡ rest
-    unfolding timedVerdict
+    pub timed-here : time_ok s time ≡ true → slot_ok s slot ≡ true → timed_verdict s slot time rest ≡ rest
+    unfolding timed_verdict
     timed-here t e = simp (judged, t, e)
 
-    pub timed-no-slot : timeOk s time ≡ true → slotOk s slot ≡ false → timedVerdict s slot time rest ≡ No Slot
-    unfolding timedVerdict
+    pub timed-no-slot : time_ok s time ≡ true → slot_ok s slot ≡ false → timed_verdict s slot time rest ≡ No Slot
+    unfolding timed_verdict
     timed-no-slot t e = simp (judged, t, e)
 
-    pub timed-no-time : timeOk s time ≡ false → timedVerdict s slot time rest ≡ No Time
-    unfolding timedVerdict
+    pub timed-no-time : time_ok s time ≡ false → timed_verdict s slot time rest ≡ No Time
+    unfolding timed_verdict
     timed-no-time t = simp (judged, t)

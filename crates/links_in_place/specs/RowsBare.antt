@@ -10,76 +10,76 @@ use Rattle.link.specs.declared.row.Limit.{Limit}
 use Rattle.link.specs.declared.row.Limit.TheVariants.{Clear, At}
 use Rattle.link.specs.declared.row.Ping.{Ping}
 use Rattle.link.specs.declared.row.Ping.TheVariants.{Idle, Since}
-use Rattle.link.specs.Fields.{withAcks}
-use Rattle.link.specs.Row.{confirmed, blockedRow, unconfirmedRow, withUnacked}
-use Rattle.link.specs.Limit.{markedRow, markAckedAs, markAcked, markResentAs, markResent}
-use Rattle.link.specs.Roundtrip.{pinged, pongedAs, ponged, tripMoved}
+use Rattle.link.specs.Fields.{with_acks}
+use Rattle.link.specs.Row.{confirmed, blocked_row, unconfirmed_row, with_unacked}
+use Rattle.link.specs.Limit.{marked_row, mark_acked_as, mark_acked, mark_resent_as, mark_resent}
+use Rattle.link.specs.Roundtrip.{pinged, ponged_as, ponged, trip_moved}
 use Rattle.engine.specs.declared.state.State.{State}
 use Rattle.engine.specs.Fields.{with_row}
 use Rattle.engine.specs.Rows.{row_of, row-of}
 use Rattle.engine.specs.Sizes.{SLOTS}
-use Rattle.engine.specs.Sound.{rowAt}
+use Rattle.engine.specs.Sound.{row_at}
 use Rattle.words.specs.Encoded.{bare}
 
 -- a row that was changed bare, written over r
 abbrev pub over : LinkRow → LinkRow → LinkRow
-over r q = withAcks q r.tx_ack_queue q.ack_count
+over r q = with_acks q r.tx_ack_queue q.ack_count
 
 module _ (r : LinkRow) where
   pub bare-confirmed : over r (confirmed (bare r)) ≡ confirmed r
   unfolding confirmed
   bare-confirmed = refl
 
-  pub bare-blocked : (b : Bool) → over r (blockedRow (bare r) b) ≡ blockedRow r b
-  unfolding blockedRow
+  pub bare-blocked : (b : Bool) → over r (blocked_row (bare r) b) ≡ blocked_row r b
+  unfolding blocked_row
   bare-blocked b = refl
 
-  pub bare-unconfirmed : over r (unconfirmedRow (bare r)) ≡ unconfirmedRow r
-  unfolding unconfirmedRow
+  pub bare-unconfirmed : over r (unconfirmed_row (bare r)) ≡ unconfirmed_row r
+  unfolding unconfirmed_row
   bare-unconfirmed = refl
 
-  pub bare-unacked : (n : ℕ) → over r (withUnacked (bare r) n) ≡ withUnacked r n
-  unfolding withUnacked
+  pub bare-unacked : (n : ℕ) → over r (with_unacked (bare r) n) ≡ with_unacked r n
+  unfolding with_unacked
   bare-unacked n = refl
 
-  pub bare-marked : (m : Limit) → over r (markedRow (bare r) m) ≡ markedRow r m
-  unfolding markedRow
+  pub bare-marked : (m : Limit) → over r (marked_row (bare r) m) ≡ marked_row r m
+  unfolding marked_row
   bare-marked m = refl
 
   pub bare-pinged : (t : ℕ) → over r (pinged (bare r) t) ≡ pinged r t
   unfolding pinged
   bare-pinged t = refl
 
-  pub bare-trip : (since t : ℕ) → over r (tripMoved (bare r) since t) ≡ tripMoved r since t
-  unfolding tripMoved
+  pub bare-trip : (since t : ℕ) → over r (trip_moved (bare r) since t) ≡ trip_moved r since t
+  unfolding trip_moved
   bare-trip since t = refl
 
-  ponged-as : (p : Ping) (t : ℕ) → over r (pongedAs p (bare r) t) ≡ pongedAs p r t
-  unfolding pongedAs
+  ponged-as : (p : Ping) (t : ℕ) → over r (ponged_as p (bare r) t) ≡ ponged_as p r t
+  unfolding ponged_as
   ponged-as Idle t = refl
   ponged-as (Since since) t = refl
 
   pub bare-ponged : (t : ℕ) → over r (ponged (bare r) t) ≡ ponged r t
   bare-ponged t = ponged-as r.current_ping_sent t
 
-  pub acked-as : (m : Limit) (a : ℕ) → over r (markAckedAs m (bare r) a) ≡ markAckedAs m r a
-  unfolding markAckedAs
+  pub acked-as : (m : Limit) (a : ℕ) → over r (mark_acked_as m (bare r) a) ≡ mark_acked_as m r a
+  unfolding mark_acked_as
   acked-as Clear a = refl
   acked-as (At m) a = cases (before a m.0) (λ t. simp t) (λ t. simp t)
 
-  pub bare-acked : (a : ℕ) → over r (markAcked (bare r) a) ≡ markAcked r a
+  pub bare-acked : (a : ℕ) → over r (mark_acked (bare r) a) ≡ mark_acked r a
   bare-acked a = acked-as r.limit_increased a
 
-  pub resent-as : (m : Limit) (n : ℕ) → over r (markResentAs m (bare r) n) ≡ markResentAs m r n
-  unfolding markResentAs
+  pub resent-as : (m : Limit) (n : ℕ) → over r (mark_resent_as m (bare r) n) ≡ mark_resent_as m r n
+  unfolding mark_resent_as
   resent-as Clear n = refl
   resent-as (At m) n = cases (before n m.0) (λ t. simp t) (λ t. simp t)
 
-  pub bare-resent : (n : ℕ) → over r (markResent (bare r) n) ≡ markResent r n
+  pub bare-resent : (n : ℕ) → over r (mark_resent (bare r) n) ≡ mark_resent r n
   bare-resent n = resent-as r.limit_increased n
 
 -- a slot's row, read bare, changed and written: q is the changed row as the code has it
-pub row-changed : (s : State) (slot : ℕ) (F : LinkRow → LinkRow) (q : LinkRow) → slot < SLOTS → over (rowAt s slot) (F (bare (rowAt s slot))) ≡ F (rowAt s slot) → q ≡ F (bare (rowAt s slot))
-    → with_row s slot (over (rowAt s slot) q) ≡ with_row s slot (F (row_of s slot))
+pub row-changed : (s : State) (slot : ℕ) (F : LinkRow → LinkRow) (q : LinkRow) → slot < SLOTS → over (row_at s slot) (F (bare (row_at s slot))) ≡ F (row_at s slot) → q ≡ F (bare (row_at s slot))
+    → with_row s slot (over (row_at s slot) q) ≡ with_row s slot (F (row_of s slot))
 row-changed s slot F q h law e =
-    ap (λ (x : LinkRow). with_row s slot (over (rowAt s slot) x)) e ∙ ap (with_row s slot) (law ∙ ap F (sym (row-of s slot h)))
+    ap (λ (x : LinkRow). with_row s slot (over (row_at s slot) x)) e ∙ ap (with_row s slot) (law ∙ ap F (sym (row-of s slot h)))

@@ -7,17 +7,17 @@ use Prim.Native.Nat.{ℕ, zero, suc, ◌+◌, ◌≤◌, ◌<◌}
 use Rattle.std.proofs.Math.ListN.{get_or, replicate}
 use Rattle.std.proofs.lemmas.List.{length-replicate, get_or-replicate}
 use Rattle.seq.specs.declared.Seq.{Seq}
-use Rattle.seq.specs.Numbers.{seqOf}
-use Rattle.link.specs.Row.{emptyRow}
+use Rattle.seq.specs.Numbers.{seq_of}
+use Rattle.link.specs.Row.{empty_row}
 use Rattle.engine.specs.declared.state.SentReliable.{SentReliable}
 use Rattle.engine.specs.declared.state.State.{State}
-use Rattle.engine.specs.Fields.{withTx, withRx, withReader, withPackets, withQueue}
-use Rattle.engine.specs.Packets.{noPacket}
+use Rattle.engine.specs.Fields.{with_tx, with_rx, with_reader, with_packets, with_queue}
+use Rattle.engine.specs.Packets.{no_packet}
 use Rattle.engine.specs.Sizes.{SLOTS, PACKETS}
-use Rattle.engine.specs.Starting.{freshTx, freshRx, freshState}
-use Rattle.words.specs.Encoded.{numbersOf, withCounts}
-use Rattle.words.specs.Layout.{WORDS, TIME, rowStart, acksStart, headAt, packetStart, QUEUE}
-use Rattle.words.specs.Meaning.{seqWord, row_of, packetOf, acksIn, linksIn, packetsIn, queueIn, txOf, decoded, state_of, stated}
+use Rattle.engine.specs.Starting.{fresh_tx, fresh_rx, fresh_state}
+use Rattle.words.specs.Encoded.{numbers_of, with_counts}
+use Rattle.words.specs.Layout.{WORDS, TIME, row_start, acks_start, head_at, packet_start, QUEUE}
+use Rattle.words.specs.Meaning.{seq_word, row_of, packet_of, acks_in, links_in, packets_in, queue_in, tx_of, decoded, state_of, stated}
 use Rattle.words.specs.Parts.{part, entries-length, same_entries}
 use Rattle.words.specs.Read.{time-read, queue-read}
 use Rattle.words.specs.Ring.{turned, turned-zeros}
@@ -27,8 +27,8 @@ use Rattle.links_in_place.specs.Adding.{zero-numbers}
 
 -- the words say 64 packets
 pub packets-long : (w : List ℕ) → length w ≡ WORDS → length (state_of w).tx.txed_packets ≡ PACKETS
-unfolding decoded packetsIn txOf
-packets-long w h = ap (λ (s : State). length s.tx.txed_packets) (stated w h) ∙ entries-length (λ k. packetOf (part (packetStart k) 8 w)) 64
+unfolding decoded packets_in tx_of
+packets-long w h = ap (λ (s : State). length s.tx.txed_packets) (stated w h) ∙ entries-length (λ k. packet_of (part (packet_start k) 8 w)) 64
 
 fill_suc : (n : ℕ) (v : SentReliable) (d : List SentReliable) → n < length d → set (replicate n v ++ drop n d) n v ≡ replicate (suc n) v ++ drop (suc n) d
 fill_suc n v [] h = absurd (omega arith)
@@ -37,21 +37,21 @@ fill_suc (suc n) v (x ∷ d) h = ap (λ (l : List SentReliable). v ∷ l) (fill_
 
 -- the first of its cells are empty
 abbrev pub emptied : State → ℕ → State
-emptied s at = withTx s (withPackets s.tx (replicate at noPacket ++ drop at s.tx.txed_packets))
+emptied s at = with_tx s (with_packets s.tx (replicate at no_packet ++ drop at s.tx.txed_packets))
 
 module _ (s : State) where
   pub none-emptied : s ≡ emptied s 0
   none-emptied = refl
 
   pub more-emptied : (at : ℕ) → at < length s.tx.txed_packets
-      → withTx s (withPackets s.tx (set (replicate at noPacket ++ drop at s.tx.txed_packets) at noPacket)) ≡ emptied s (at + 1)
-  more-emptied at h = ap (λ (l : List SentReliable). withTx s (withPackets s.tx l)) (fill_suc at noPacket s.tx.txed_packets h ∙ ap (λ n. replicate n noPacket ++ drop n s.tx.txed_packets) (sym (add-one at)))
+      → with_tx s (with_packets s.tx (set (replicate at no_packet ++ drop at s.tx.txed_packets) at no_packet)) ≡ emptied s (at + 1)
+  more-emptied at h = ap (λ (l : List SentReliable). with_tx s (with_packets s.tx l)) (fill_suc at no_packet s.tx.txed_packets h ∙ ap (λ n. replicate n no_packet ++ drop n s.tx.txed_packets) (sym (add-one at)))
 
-  pub all-emptied : length s.tx.txed_packets ≡ 64 → emptied s 64 ≡ withTx s (withPackets s.tx (replicate PACKETS noPacket))
+  pub all-emptied : length s.tx.txed_packets ≡ 64 → emptied s 64 ≡ with_tx s (with_packets s.tx (replicate PACKETS no_packet))
   all-emptied e =
       let none : drop 64 s.tx.txed_packets ≡ [] = drop_of_length-le s.tx.txed_packets {i = 64} (omega arith) in
-      ap (λ (l : List SentReliable). withTx s (withPackets s.tx (replicate 64 noPacket ++ l))) none
-      ∙ ap (λ (l : List SentReliable). withTx s (withPackets s.tx l)) (append-nil (replicate 64 noPacket))
+      ap (λ (l : List SentReliable). with_tx s (with_packets s.tx (replicate 64 no_packet ++ l))) none
+      ∙ ap (λ (l : List SentReliable). with_tx s (with_packets s.tx l)) (append-nil (replicate 64 no_packet))
 
 -- ---- words that are all 0
 
@@ -66,40 +66,40 @@ module _ (N : ℕ) (e : N ≡ WORDS) where
   long : length {A = ℕ} (replicate N 0) ≡ WORDS
   long = length-replicate N 0 ∙ e
 
-  acks-zeros : (j : ℕ) → j < 8 → acksIn (replicate N 0) j ≡ replicate 64 (seqOf 0)
-  unfolding acksIn
+  acks-zeros : (j : ℕ) → j < 8 → acks_in (replicate N 0) j ≡ replicate 64 (seq_of 0)
+  unfolding acks_in
   acks-zeros j lt =
-      let head = get_or {A = ℕ} (replicate N 0) (headAt j) 0 in
-      ap (λ (l : List ℕ). map seqWord (turned head l)) (part-zeros N (acksStart j) 64 (omega arith)) ∙ ap (map seqWord) (turned-zeros head) ∙ zero-numbers 64
+      let head = get_or {A = ℕ} (replicate N 0) (head_at j) 0 in
+      ap (λ (l : List ℕ). map seq_word (turned head l)) (part-zeros N (acks_start j) 64 (omega arith)) ∙ ap (map seq_word) (turned-zeros head) ∙ zero-numbers 64
 
-  links-zeros : (state_of (replicate N 0)).links ≡ replicate SLOTS emptyRow
-  unfolding decoded linksIn row_of emptyRow
+  links-zeros : (state_of (replicate N 0)).links ≡ replicate SLOTS empty_row
+  unfolding decoded links_in row_of empty_row
   links-zeros =
       let w : List ℕ = replicate N 0 in
       ap (λ (s : State). s.links) (stated w long)
-      ∙ same_entries (λ k. emptyRow) (λ k. row_of (part (rowStart k) 14 w) (acksIn w k)) 8
-      (λ k lt. ap₂ row_of (part-zeros N (rowStart k) 14 (omega arith)) (acks-zeros k lt))
+      ∙ same_entries (λ k. empty_row) (λ k. row_of (part (row_start k) 14 w) (acks_in w k)) 8
+      (λ k lt. ap₂ row_of (part-zeros N (row_start k) 14 (omega arith)) (acks-zeros k lt))
 
-  queue-zeros : (state_of (replicate N 0)).tx.resend_queue ≡ replicate PACKETS (seqOf 0)
-  unfolding queueIn
-  queue-zeros = queue-read (replicate N 0) long ∙ ap (map seqWord) (part-zeros N QUEUE 64 (omega arith)) ∙ zero-numbers 64
+  queue-zeros : (state_of (replicate N 0)).tx.resend_queue ≡ replicate PACKETS (seq_of 0)
+  unfolding queue_in
+  queue-zeros = queue-read (replicate N 0) long ∙ ap (map seq_word) (part-zeros N QUEUE 64 (omega arith)) ∙ zero-numbers 64
 
   time-zeros : (state_of (replicate N 0)).time ≡ 0
   time-zeros = time-read (replicate N 0) long ∙ get_or-replicate N TIME 0 0 (omega arith)
 
   -- what is put over them
   pub fresh-put : (start : Seq) (buffer cells : ℕ) →
-      withReader
-      (withRx
-      (withTx (state_of (replicate N 0)) (withCounts (withPackets (state_of (replicate N 0)).tx (replicate PACKETS noPacket)) (numbersOf (freshTx start.0))))
-      (freshRx start.0 buffer cells))
+      with_reader
+      (with_rx
+      (with_tx (state_of (replicate N 0)) (with_counts (with_packets (state_of (replicate N 0)).tx (replicate PACKETS no_packet)) (numbers_of (fresh_tx start.0))))
+      (fresh_rx start.0 buffer cells))
       true
-      ≡ freshState start.0 buffer cells
-  unfolding freshState freshTx
+      ≡ fresh_state start.0 buffer cells
+  unfolding fresh_state fresh_tx
   fresh-put start buffer cells = λ i. record {
     links = links-zeros i;
-    tx = withCounts (withQueue (freshTx start.0) (queue-zeros i) 0) (numbersOf (freshTx start.0));
-    rx = freshRx start.0 buffer cells;
+    tx = with_counts (with_queue (fresh_tx start.0) (queue-zeros i) 0) (numbers_of (fresh_tx start.0));
+    rx = fresh_rx start.0 buffer cells;
     time = time-zeros i;
     read_open = true;
   }

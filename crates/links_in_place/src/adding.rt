@@ -1,11 +1,11 @@
 // Adding a link.
 ghost use Rattle.std.specs.Prelude.{◌≡◌, ◌&&◌, ◌<◌, ◌≤◌, eqb, length};
-ghost use Rattle.link.specs.Fields.{withAcks};
+ghost use Rattle.link.specs.Fields.{with_acks};
 ghost use Rattle.engine.specs.Fields.{with_row};
-ghost use Rattle.engine.specs.Links.{lowestIn, is_taken, addOf, addTold};
+ghost use Rattle.engine.specs.Links.{lowest_in, is_taken, add_of, add_told};
 ghost use Rattle.engine.specs.Sizes.{SLOTS};
-ghost use Rattle.engine.specs.Sound.{rowAt};
-ghost use Rattle.words.specs.Encoded.{noAcks};
+ghost use Rattle.engine.specs.Sound.{row_at};
+ghost use Rattle.words.specs.Encoded.{no_acks};
 ghost use Rattle.words.specs.Layout.{WORDS};
 ghost use Rattle.words.specs.Meaning.{state_of};
 ghost use Rattle.words.specs.Ready.{Ready, Left};
@@ -26,7 +26,7 @@ const IDENTITY: usize = ROWS + 1;
 // The lowest slot without a link, or SLOTS.
 fn lowest_empty(words: &[u64]) -> u8
     requires { length words.now ≡ WORDS }
-    ensures value { result ≡ lowestIn (state_of words.now) }
+    ensures value { result ≡ lowest_in (state_of words.now) }
     ensures upper_bound { result ≤ SLOTS }
 {
     let mut j: u8 = 0;
@@ -42,7 +42,7 @@ fn lowest_empty(words: &[u64]) -> u8
 // Whether a slot has a live link with the identity.
 fn lives(words: &[u64], slot: u8, link_id: u64) -> bool
     requires { (length words.now ≡ WORDS) × (slot < SLOTS) }
-    ensures { result ≡ ((rowAt (state_of words.now) slot).live && eqb (rowAt (state_of words.now) slot).link_id link_id) }
+    ensures { result ≡ ((row_at (state_of words.now) slot).live && eqb (row_at (state_of words.now) slot).link_id link_id) }
 {
     let j = slot as usize;
     let live = slot_ok(words, slot);
@@ -67,7 +67,7 @@ fn is_taken(words: &[u64], link_id: u64) -> bool
 // A slot's acks, all 0.
 fn clear_acks(words: &mut [u64], slot: usize)
     requires { (length words.old ≡ WORDS) × (slot < 8) }
-    ensures { state_of words.new ≡ with_row (state_of words.old) slot (withAcks (rowAt (state_of words.old) slot) noAcks (rowAt (state_of words.old) slot).ack_count) }
+    ensures { state_of words.new ≡ with_row (state_of words.old) slot (with_acks (row_at (state_of words.old) slot) no_acks (row_at (state_of words.old) slot).ack_count) }
 {
     let start = ACKS_START + slot * ACKS;
     let end = start + ACKS;
@@ -77,7 +77,7 @@ fn clear_acks(words: &mut [u64], slot: usize)
 // A row with no ack in a slot.
 pub fn put_new(words: &mut [u64], slot: usize, row: LinkRow)
     requires { (length words.old ≡ WORDS) × (slot < 8) }
-    ensures { state_of words.new ≡ with_row (state_of words.old) slot (withAcks row noAcks row.ack_count) }
+    ensures { state_of words.new ≡ with_row (state_of words.old) slot (with_acks row no_acks row.ack_count) }
 {
     clear_acks(words, slot);
     put_row(words, slot, row);
@@ -93,9 +93,9 @@ pub fn add(
     unconfirmed: bool,
 ) -> AddAnswer
     requires { Ready words.old }
-    ensures value { result ≡ (addOf (state_of words.old) link_id roundtrip max_ping blocked unconfirmed).answer }
-    ensures words_after { state_of words.new ≡ (addOf (state_of words.old) link_id roundtrip max_ping blocked unconfirmed).state }
-    ensures left { Left (addTold result).number words.old words.new }
+    ensures value { result ≡ (add_of (state_of words.old) link_id roundtrip max_ping blocked unconfirmed).answer }
+    ensures words_after { state_of words.new ≡ (add_of (state_of words.old) link_id roundtrip max_ping blocked unconfirmed).state }
+    ensures left { Left (add_told result).number words.old words.new }
 {
     if !both(roundtrip <= MAX_TIME, max_ping_within(max_ping)) {
         return AddAnswer::No(Refusal::Time);

@@ -1,10 +1,10 @@
 // The fresh state.
 ghost use Rattle.std.specs.Prelude.{◌≡◌, length, replicate};
-ghost use Rattle.engine.specs.Fields.{withTx, withPackets};
-ghost use Rattle.engine.specs.Packets.{noPacket};
+ghost use Rattle.engine.specs.Fields.{with_tx, with_packets};
+ghost use Rattle.engine.specs.Packets.{no_packet};
 ghost use Rattle.engine.specs.Sizes.{PACKETS};
-ghost use Rattle.engine.specs.Starting.{freshTx, freshRx, freshState};
-ghost use Rattle.words.specs.Encoded.{numbersOf};
+ghost use Rattle.engine.specs.Starting.{fresh_tx, fresh_rx, fresh_state};
+ghost use Rattle.words.specs.Encoded.{numbers_of};
 ghost use Rattle.words.specs.Layout.{WORDS};
 ghost use Rattle.words.specs.Meaning.{state_of};
 
@@ -20,7 +20,7 @@ use words::sending::{SendingNumbers, put_tx};
 
 // What an empty cell of the packet table holds.
 fn no_packet() -> SentReliable
-    ensures { result ≡ noPacket }
+    ensures { result ≡ no_packet }
 {
     let status = SentReliableStatus::Sent(InFlight::new(0, 0, 0, false));
     SentReliable::new(Seq::ZERO, ReliableMsg::Data, 0, status)
@@ -29,7 +29,7 @@ fn no_packet() -> SentReliable
 // Empties every cell of the packet table.
 fn put_packets(words: &mut [u64])
     requires { length words.old ≡ WORDS }
-    ensures { state_of words.new ≡ withTx (state_of words.old) (withPackets (state_of words.old).tx (replicate PACKETS noPacket)) }
+    ensures { state_of words.new ≡ with_tx (state_of words.old) (with_packets (state_of words.old).tx (replicate PACKETS no_packet)) }
 {
     let none = no_packet();
     let mut at: usize = 0;
@@ -40,7 +40,7 @@ fn put_packets(words: &mut [u64])
 }
 
 fn fresh_numbers(start: Seq) -> SendingNumbers
-    ensures { result ≡ numbersOf (freshTx start.0) }
+    ensures { result ≡ numbers_of (fresh_tx start.0) }
 {
     SendingNumbers {
         tx_seq: start,
@@ -56,7 +56,7 @@ fn fresh_numbers(start: Seq) -> SendingNumbers
 }
 
 fn fresh_rx(start: Seq, recv_buffer: u32, cells: u32) -> Receiving
-    ensures { result ≡ freshRx start.0 recv_buffer cells }
+    ensures { result ≡ fresh_rx start.0 recv_buffer cells }
 {
     Receiving {
         rx_seq: start,
@@ -72,7 +72,7 @@ fn fresh_rx(start: Seq, recv_buffer: u32, cells: u32) -> Receiving
 // The words of a fresh state; words that are all 0 say its rows, its queue and its time.
 pub fn put_fresh(words: &mut [u64], start: Seq, recv_buffer: u32, cells: u32)
     requires { length words.old ≡ WORDS }
-    ensures { state_of words.new ≡ freshState start.0 recv_buffer cells }
+    ensures { state_of words.new ≡ fresh_state start.0 recv_buffer cells }
 {
     empty_records(words);
     put_packets(words);

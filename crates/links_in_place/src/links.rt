@@ -1,9 +1,9 @@
 // The plain changes of a row.
 ghost use Rattle.std.specs.Prelude.{◌≡◌};
-ghost use Rattle.engine.specs.Links.{confirmOf, block_of, mark_of, pingOf, pongOf};
+ghost use Rattle.engine.specs.Links.{confirm_of, block_of, mark_of, ping_of, pong_of};
 ghost use Rattle.words.specs.Meaning.{state_of};
 ghost use Rattle.words.specs.Ready.{Ready, Left};
-ghost use Rattle.engine.specs.Answer.{outcomeTold};
+ghost use Rattle.engine.specs.Answer.{outcome_told};
 
 use engine::Outcome;
 use link::Limit;
@@ -15,9 +15,9 @@ use words::row::{put_row, row_at};
 
 pub fn confirm(words: &mut [u64], slot: u8) -> Outcome
     requires { Ready words.old }
-    ensures value { result ≡ (confirmOf (state_of words.old) slot).outcome }
-    ensures words_after { state_of words.new ≡ (confirmOf (state_of words.old) slot).state }
-    ensures left { Left (outcomeTold result).number words.old words.new }
+    ensures value { result ≡ (confirm_of (state_of words.old) slot).outcome }
+    ensures words_after { state_of words.new ≡ (confirm_of (state_of words.old) slot).state }
+    ensures left { Left (outcome_told result).number words.old words.new }
 {
     if !slot_ok(words, slot) {
         return Outcome::No(Refusal::Slot);
@@ -32,7 +32,7 @@ pub fn block(words: &mut [u64], slot: u8, blocked: bool) -> Outcome
     requires { Ready words.old }
     ensures value { result ≡ (block_of (state_of words.old) slot blocked).outcome }
     ensures words_after { state_of words.new ≡ (block_of (state_of words.old) slot blocked).state }
-    ensures left { Left (outcomeTold result).number words.old words.new }
+    ensures left { Left (outcome_told result).number words.old words.new }
 {
     if !slot_ok(words, slot) {
         return Outcome::No(Refusal::Slot);
@@ -48,7 +48,7 @@ pub fn mark(words: &mut [u64], slot: u8, seq: Seq) -> Outcome
     requires { Ready words.old }
     ensures value { result ≡ (mark_of (state_of words.old) slot seq).outcome }
     ensures words_after { state_of words.new ≡ (mark_of (state_of words.old) slot seq).state }
-    ensures left { Left (outcomeTold result).number words.old words.new }
+    ensures left { Left (outcome_told result).number words.old words.new }
 {
     if !slot_ok(words, slot) {
         return Outcome::No(Refusal::Slot);
@@ -62,9 +62,9 @@ pub fn mark(words: &mut [u64], slot: u8, seq: Seq) -> Outcome
 // Notes that a ping was sent.
 pub fn ping(words: &mut [u64], slot: u8, time: u64) -> Outcome
     requires { Ready words.old }
-    ensures value { result ≡ (pingOf (state_of words.old) slot time).outcome }
-    ensures words_after { state_of words.new ≡ (pingOf (state_of words.old) slot time).state }
-    ensures left { Left (outcomeTold result).number words.old words.new }
+    ensures value { result ≡ (ping_of (state_of words.old) slot time).outcome }
+    ensures words_after { state_of words.new ≡ (ping_of (state_of words.old) slot time).state }
+    ensures left { Left (outcome_told result).number words.old words.new }
 {
     if !time_ok(words, time) {
         return Outcome::No(Refusal::Time);
@@ -82,9 +82,9 @@ pub fn ping(words: &mut [u64], slot: u8, time: u64) -> Outcome
 // A pong arrived.
 pub fn pong(words: &mut [u64], slot: u8, time: u64) -> Outcome
     requires { Ready words.old }
-    ensures value { result ≡ (pongOf (state_of words.old) slot time).outcome }
-    ensures words_after { state_of words.new ≡ (pongOf (state_of words.old) slot time).state }
-    ensures left { Left (outcomeTold result).number words.old words.new }
+    ensures value { result ≡ (pong_of (state_of words.old) slot time).outcome }
+    ensures words_after { state_of words.new ≡ (pong_of (state_of words.old) slot time).state }
+    ensures left { Left (outcome_told result).number words.old words.new }
 {
     if !time_ok(words, time) {
         return Outcome::No(Refusal::Time);

@@ -1,10 +1,10 @@
 // The reader, and what it has taken.
 ghost use Rattle.std.specs.Prelude.{◌≡◌, cond, ◌/◌};
-ghost use Rattle.engine.specs.Closing.{closeOf};
-ghost use Rattle.engine.specs.HandingOut.{dueOf};
+ghost use Rattle.engine.specs.Closing.{close_of};
+ghost use Rattle.engine.specs.HandingOut.{due_of};
 ghost use Rattle.words.specs.Meaning.{state_of};
 ghost use Rattle.words.specs.Ready.{Ready, Left};
-ghost use Rattle.engine.specs.Answer.{outcomeTold};
+ghost use Rattle.engine.specs.Answer.{outcome_told};
 
 use engine::{Due, Outcome};
 use words::clock::{put_read_open, read_open};
@@ -13,9 +13,9 @@ use words::receiving::rx_of;
 // Closes the reader for good; one that has closed stays so.
 pub fn close_reader(words: &mut [u64]) -> Outcome
     requires { Ready words.old }
-    ensures value { result ≡ (closeOf (state_of words.old)).outcome }
-    ensures words_after { state_of words.new ≡ (closeOf (state_of words.old)).state }
-    ensures left { Left (outcomeTold result).number words.old words.new }
+    ensures value { result ≡ (close_of (state_of words.old)).outcome }
+    ensures words_after { state_of words.new ≡ (close_of (state_of words.old)).state }
+    ensures left { Left (outcome_told result).number words.old words.new }
 {
     put_read_open(words, false);
     Outcome::Done
@@ -31,7 +31,7 @@ fn due_above(reads: bool, recv_buffer: u32) -> u32
 // Whether the other end is to be told what was taken.
 pub fn is_consume_ack_required(words: &[u64]) -> Due
     requires { Ready words.now }
-    ensures { result ≡ dueOf (state_of words.now) }
+    ensures { result ≡ due_of (state_of words.now) }
 {
     let rx = rx_of(words);
     let above = due_above(read_open(words), rx.recv_buffer);

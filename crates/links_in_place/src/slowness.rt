@@ -1,6 +1,6 @@
 // The slow links.
 ghost use Rattle.std.specs.Prelude.{◌≡◌, length};
-ghost use Rattle.engine.specs.Slowness.{slowOf};
+ghost use Rattle.engine.specs.Slowness.{slow_of};
 ghost use Rattle.words.specs.Layout.{WORDS};
 ghost use Rattle.words.specs.Meaning.{state_of};
 
@@ -11,7 +11,7 @@ use words::row::row_at;
 // None of a row's acks is asked for.
 pub fn slow(words: &[u64]) -> SlowLinks
     requires { length words.now ≡ WORDS }
-    ensures { result ≡ slowOf (state_of words.now).links }
+    ensures { result ≡ slow_of (state_of words.now).links }
 {
     let rows = [
         row_at(words, 0),

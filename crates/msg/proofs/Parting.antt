@@ -15,7 +15,7 @@ use Rattle.msg.specs.declared.writing.Written.TheVariants.{Bytes, No}
 use Rattle.msg.specs.declared.writing.Parts.{Parts}
 use Rattle.msg.specs.Messages.{pattern, bytes_of}
 use Rattle.msg.specs.RoundTrip.{length-pattern}
-use Rattle.msg.specs.Writing.{writable, head_of, size_of, writeOf, bufferOf, Parted}
+use Rattle.msg.specs.Writing.{writable, head_of, size_of, write_of, buffer_of, Parted}
 
 pub bytes-parted : (msg : LinkMsg) → bytes_of msg ≡ head_of msg ++ pattern (size_of msg)
 unfolding pattern
@@ -79,8 +79,8 @@ module _ (msg : LinkMsg) (parts : Parts) (p : Parted (writable msg) (head_of msg
 
   module _ (buffer : List ℕ) where
     -- a message that may not be written
-    pub write-refused : parts.ok ≡ false → (No (refuse 20 tt) ≡ writeOf msg buffer) × (buffer ≡ bufferOf msg buffer)
-    unfolding writeOf bufferOf
+    pub write-refused : parts.ok ≡ false → (No (refuse 20 tt) ≡ write_of msg buffer) × (buffer ≡ buffer_of msg buffer)
+    unfolding write_of buffer_of
     write-refused w = let v : writable msg ≡ false = sym p.may ∙ w in (simp v, simp v)
 
     module _ (w : parts.ok ≡ true) where
@@ -94,8 +94,8 @@ module _ (msg : LinkMsg) (parts : Parts) (p : Parted (writable msg) (head_of msg
       end-small = omega (arith, p.test, size_small msg v)
 
       -- a buffer too short for it
-      pub write-short : length buffer < parts.len + parts.size → (No (refuse 7 tt) ≡ writeOf msg buffer) × (buffer ≡ bufferOf msg buffer)
-      unfolding writeOf bufferOf
+      pub write-short : length buffer < parts.len + parts.size → (No (refuse 7 tt) ≡ write_of msg buffer) × (buffer ≡ buffer_of msg buffer)
+      unfolding write_of buffer_of
       write-short h =
           let e = lt-leb (length (bytes_of msg)) (length buffer) (omega (arith, whole)) in
           (simp (v, e), simp (v, e))
@@ -106,9 +106,9 @@ module _ (msg : LinkMsg) (parts : Parts) (p : Parted (writable msg) (head_of msg
           → copied ≡ take (length (take parts.len parts.bytes)) (take parts.len parts.bytes) ++ drop (length (take parts.len parts.bytes)) (take parts.len buffer)
           → filled ≡ pattern (length (take k (drop parts.len (copied ++ drop parts.len buffer))))
           → k ≡ parts.size
-          → (Bytes (parts.len + parts.size) ≡ writeOf msg buffer)
-          × (take parts.len (copied ++ drop parts.len buffer) ++ (filled ++ drop k (drop parts.len (copied ++ drop parts.len buffer))) ≡ bufferOf msg buffer)
-      unfolding writeOf bufferOf
+          → (Bytes (parts.len + parts.size) ≡ write_of msg buffer)
+          × (take parts.len (copied ++ drop parts.len buffer) ++ (filled ++ drop k (drop parts.len (copied ++ drop parts.len buffer))) ≡ buffer_of msg buffer)
+      unfolding write_of buffer_of
       write_done h copied filled k ec ef ek =
           let e = le-leb (length (bytes_of msg)) (length buffer) (omega (arith, whole)) in
           let head : copied ≡ head_of msg =

@@ -4,7 +4,7 @@ use Rattle.std.specs.Prelude.{◌≡◌, refl, Bool, true, false, cond, ◌&&◌
 use Rattle.std.proofs.Common.{sym, ap, ap₂, subst, ◌∙◌, append-nil, arith, drop_of_length-le, drop-cons, eqb-true, le-leb}
 use Rattle.refusal.specs.Tests.{false-true, split}
 use Rattle.seq.specs.declared.Seq.{Seq}
-use Rattle.seq.specs.Numbers.{seqOf}
+use Rattle.seq.specs.Numbers.{seq_of}
 use Rattle.msg.specs.declared.link_msg.RefusedReason.{RefusedReason}
 use Rattle.msg.specs.declared.link_msg.RefusedReason.TheVariants.{Closed, NotListening, ConnectionRefused, LinkRefused}
 use Rattle.msg.specs.declared.link_msg.LinkMsg.{LinkMsg}
@@ -12,9 +12,9 @@ use Rattle.msg.specs.declared.link_msg.LinkMsg.TheVariants.{Welcome, Connect, Ac
 use Rattle.msg.specs.declared.reading.Reading.{Reading}
 use Rattle.msg.specs.declared.reading.Reading.TheVariants as reading
 use Rattle.msg.specs.declared.writing.Written.TheVariants as written
-use Rattle.msg.specs.Messages.{be32, pattern, kind_of, reasonByte, blockByte, body_of, bytes_of, handshake}
-use Rattle.msg.specs.Reading.{bad, number_at, exactly, opensWith, magic, reasons, blocks, readHandshake, readAlone, readRefused, readNumbered, readConsumed, readTestData, readSetBlock, readNone, readers, readKind, read_of}
-use Rattle.msg.specs.Writing.{writable, writeOf, bufferOf}
+use Rattle.msg.specs.Messages.{be32, pattern, kind_of, reason_byte, block_byte, body_of, bytes_of, handshake}
+use Rattle.msg.specs.Reading.{bad, number_at, exactly, opens_with, magic, reasons, blocks, read_handshake, read_alone, read_refused, read_numbered, read_consumed, read_test_data, read_set_block, read_none, readers, read_kind, read_of}
+use Rattle.msg.specs.Writing.{writable, write_of, buffer_of}
 use Rattle.msg.specs.RoundTrip.{Ranged, length-pattern, reads-back}
 
 -- a run of bytes, as every lent run of u8 is
@@ -60,13 +60,13 @@ last-number bytes at small e =
     ∙ number-back bytes at small (omega arith)
 
 -- a head as long as the bytes that it opens is all of them
-opens-whole : (head bytes : List ℕ) → length head ≡ length bytes → opensWith head bytes ≡ true → head ≡ bytes
-unfolding opensWith
+opens-whole : (head bytes : List ℕ) → length head ≡ length bytes → opens_with head bytes ≡ true → head ≡ bytes
+unfolding opens_with
 opens-whole [] [] e o = refl
 opens-whole [] (y ∷ bytes) e o = absurd (omega arith)
 opens-whole (x ∷ head) [] e o = absurd (omega arith)
 opens-whole (x ∷ head) (y ∷ bytes) e o =
-    let both = split (eqb y x) (opensWith head bytes) o in
+    let both = split (eqb y x) (opens_with head bytes) o in
     ap₂ (λ (b : ℕ) (l : List ℕ). b ∷ l) (sym (eqb-true y x both.0)) (opens-whole head bytes (omega arith) both.1)
 
 -- ---- what each kind reads
@@ -93,16 +93,16 @@ at_each P (x ∷ l) d (suc i) all last = at_each (λ k. P (suc k)) l d i all.1 (
 abbrev Reads : ℕ → (List ℕ → Reading) → Type 0
 Reads kind reader = (body : List ℕ) → Answers (kind ∷ body) (reader body)
 
-none : (kind : ℕ) → Reads kind readNone
+none : (kind : ℕ) → Reads kind read_none
 none kind body = refl
 
-handshakes : (kind : ℕ) (msg : LinkMsg) → Ranged msg → handshake msg ≡ true → Reads kind (readHandshake msg)
-unfolding readHandshake
+handshakes : (kind : ℕ) (msg : LinkMsg) → Ranged msg → handshake msg ≡ true → Reads kind (read_handshake msg)
+unfolding read_handshake
 handshakes kind msg r h body =
-    either (kind ∷ body) (opensWith magic body && eqb (get_or body 5 0) 4) (reading.Message msg) (λ e small. (r, λ other-kind. false-true (sym other-kind ∙ h)))
+    either (kind ∷ body) (opens_with magic body && eqb (get_or body 5 0) 4) (reading.Message msg) (λ e small. (r, λ other-kind. false-true (sym other-kind ∙ h)))
 
-alone : (kind : ℕ) (msg : LinkMsg) → Ranged msg → writable msg ≡ true → bytes_of msg ≡ kind ∷ [] → Reads kind (readAlone msg)
-unfolding readAlone
+alone : (kind : ℕ) (msg : LinkMsg) → Ranged msg → writable msg ≡ true → bytes_of msg ≡ kind ∷ [] → Reads kind (read_alone msg)
+unfolding read_alone
 alone kind msg r w b body =
     whole kind 0 body (reading.Message msg)
     (λ e small. (r, λ other-kind. (w, b ∙ ap (λ (l : List ℕ). kind ∷ l) (sym (drop_of_length-le body {i = 0} (omega arith))))))
@@ -116,38 +116,38 @@ one_byte kind table all body =
     let one : b ∷ [] ≡ body = sym (byte-apart body 0 1 (omega arith) refl ∙ ap (λ (l : List ℕ). b ∷ l) (drop_of_length-le body {i = 1} (omega arith))) in
     subst (λ (l : List ℕ). Answers (kind ∷ l) (get_or table b bad)) one (at_each (λ k. Answers (kind ∷ k ∷ [])) table bad b all (λ k. refl)))
 
-refusals : Reads 4 readRefused
-unfolding readRefused
+refusals : Reads 4 read_refused
+unfolding read_refused
 refusals = one_byte 4 reasons (refl, (λ small. (tt, λ other-kind. (refl, refl)), (λ small. (tt, λ other-kind. (refl, refl)), (λ small. (tt, λ other-kind. (refl, refl)), (λ small. (tt, λ other-kind. (refl, refl)), tt)))))
 
-blocked : Reads 14 readSetBlock
-unfolding readSetBlock
+blocked : Reads 14 read_set_block
+unfolding read_set_block
 blocked = one_byte 14 blocks (λ small. (tt, λ other-kind. (refl, refl)), (λ small. (tt, λ other-kind. (refl, refl)), tt))
 
-numbered : (kind : ℕ) (msg : Seq → LinkMsg) → ((n : ℕ) → n < 2 ^ 32 → Ranged (msg (seqOf n)) × (writable (msg (seqOf n)) ≡ true) × (bytes_of (msg (seqOf n)) ≡ kind ∷ be32 n)) → Reads kind (readNumbered msg)
-unfolding readNumbered
+numbered : (kind : ℕ) (msg : Seq → LinkMsg) → ((n : ℕ) → n < 2 ^ 32 → Ranged (msg (seq_of n)) × (writable (msg (seq_of n)) ≡ true) × (bytes_of (msg (seq_of n)) ≡ kind ∷ be32 n)) → Reads kind (read_numbered msg)
+unfolding read_numbered
 numbered kind msg says body =
     let n = number_at body 0 in
-    whole kind 4 body (reading.Message (msg (seqOf n)))
+    whole kind 4 body (reading.Message (msg (seq_of n)))
     (λ e small.
     let bytes : Bytes body = λ k. small (suc k) in
     let said = says n (number_small body 0 bytes) in
     (said.0, λ other-kind. (said.1, said.2 ∙ ap (λ (l : List ℕ). kind ∷ l) (last-number body 0 bytes e))))
 
-consumed : Reads 9 readConsumed
-unfolding readConsumed
+consumed : Reads 9 read_consumed
+unfolding read_consumed
 consumed body =
-    whole 9 8 body (reading.Message (Consumed (seqOf (number_at body 0)) (number_at body 4)))
+    whole 9 8 body (reading.Message (Consumed (seq_of (number_at body 0)) (number_at body 4)))
     (λ e small.
     let bytes : Bytes body = λ k. small (suc k) in
     let back = ap (λ (l : List ℕ). be32 (number_at body 0) ++ l) (last-number body 4 bytes e) ∙ number-back body 0 bytes (omega arith) in
     ((number_small body 0 bytes, number_small body 4 bytes), λ other-kind. (refl, ap (λ (l : List ℕ). 9 ∷ l) back)))
 
-tested : Reads 13 readTestData
-unfolding readTestData
+tested : Reads 13 read_test_data
+unfolding read_test_data
 tested body =
-    either (13 ∷ body) (leb (length body) 1024) (cond (opensWith (pattern (length body)) body) (reading.Message (TestData (length body))) bad)
-    (λ fits. either (13 ∷ body) (opensWith (pattern (length body)) body) (reading.Message (TestData (length body)))
+    either (13 ∷ body) (leb (length body) 1024) (cond (opens_with (pattern (length body)) body) (reading.Message (TestData (length body))) bad)
+    (λ fits. either (13 ∷ body) (opens_with (pattern (length body)) body) (reading.Message (TestData (length body)))
     (λ on small. (tt, λ other-kind. (fits, ap (λ (l : List ℕ). 13 ∷ l) (opens-whole (pattern (length body)) body (length-pattern (length body)) on)))))
 
 each-reader : Each Reads readers
@@ -155,9 +155,9 @@ each-reader =
     (none 0, (handshakes 1 Welcome tt refl, (handshakes 2 Connect tt refl, (alone 3 Accepted tt refl refl, (refusals, (alone 5 Ping tt refl refl, (alone 6 Pong tt refl refl, (numbered 7 Data (λ n h. (h, refl, refl)), (numbered 8 Ack (λ n h. (h, refl, refl)), (consumed, (numbered 10 SendFinish (λ n h. (h, refl, refl)), (numbered 11 ReceiveClose (λ n h. (h, refl, refl)), (numbered 12 ReceiveFinish (λ n h. (h, refl, refl)), (tested, (blocked, (alone 15 Goodbye tt refl refl, (alone 16 Terminate tt refl refl, tt)))))))))))))))))
 
 pub answers : (bytes : List ℕ) → Answers bytes (read_of bytes)
-unfolding read_of readKind
+unfolding read_of read_kind
 answers [] = refl
-answers (kind ∷ body) = at_each Reads readers readNone kind each-reader none body
+answers (kind ∷ body) = at_each Reads readers read_none kind each-reader none body
 
 -- ---- a message's bytes are a run of bytes
 
@@ -185,13 +185,13 @@ unfolding pattern
 bytes-pattern zero = bytes-nil
 bytes-pattern (suc n) = bytes-append (pattern n) (n % 256 ∷ []) (bytes-pattern n) (bytes-cons (n % 256) [] (omega arith) bytes-nil)
 
-bytes-reason : (reason : RefusedReason) → reasonByte reason < 256
+bytes-reason : (reason : RefusedReason) → reason_byte reason < 256
 bytes-reason Closed = omega arith
 bytes-reason NotListening = omega arith
 bytes-reason ConnectionRefused = omega arith
 bytes-reason LinkRefused = omega arith
 
-bytes-block : (blocked : Bool) → blockByte blocked < 256
+bytes-block : (blocked : Bool) → block_byte blocked < 256
 bytes-block false = omega arith
 bytes-block true = omega arith
 
@@ -203,7 +203,7 @@ bytes-of : (msg : LinkMsg) → Bytes (bytes_of msg)
 bytes-of Welcome = of-kind Welcome (omega arith) bytes-nil
 bytes-of Connect = of-kind Connect (omega arith) bytes-nil
 bytes-of Accepted = of-kind Accepted (omega arith) bytes-nil
-bytes-of (Refused reason) = of-kind (Refused reason) (omega arith) (bytes-cons (reasonByte reason) [] (bytes-reason reason) bytes-nil)
+bytes-of (Refused reason) = of-kind (Refused reason) (omega arith) (bytes-cons (reason_byte reason) [] (bytes-reason reason) bytes-nil)
 bytes-of Ping = of-kind Ping (omega arith) bytes-nil
 bytes-of Pong = of-kind Pong (omega arith) bytes-nil
 bytes-of (Data seq) = of-kind (Data seq) (omega arith) (bytes-number seq.0)
@@ -213,7 +213,7 @@ bytes-of (SendFinish seq) = of-kind (SendFinish seq) (omega arith) (bytes-number
 bytes-of (ReceiveClose seq) = of-kind (ReceiveClose seq) (omega arith) (bytes-number seq.0)
 bytes-of (ReceiveFinish seq) = of-kind (ReceiveFinish seq) (omega arith) (bytes-number seq.0)
 bytes-of (TestData size) = of-kind (TestData size) (omega arith) (bytes-pattern size)
-bytes-of (SetBlock blocked) = of-kind (SetBlock blocked) (omega arith) (bytes-cons (blockByte blocked) [] (bytes-block blocked) bytes-nil)
+bytes-of (SetBlock blocked) = of-kind (SetBlock blocked) (omega arith) (bytes-cons (block_byte blocked) [] (bytes-block blocked) bytes-nil)
 bytes-of Goodbye = of-kind Goodbye (omega arith) bytes-nil
 bytes-of Terminate = of-kind Terminate (omega arith) bytes-nil
 
@@ -247,10 +247,10 @@ read_alike msg bytes other small small-other other-kind e e-other = sym (read-is
 -- same the other way about
 pub read-writes-back : (msg : LinkMsg) (bytes buffer : List ℕ) → Bytes bytes → handshake msg ≡ false → read_of bytes ≡ reading.Message msg
     → length bytes ≤ length buffer
-    → (writeOf msg buffer ≡ written.Bytes (length bytes)) × (bufferOf msg buffer ≡ bytes ++ drop (length bytes) buffer)
-unfolding writeOf bufferOf
+    → (write_of msg buffer ≡ written.Bytes (length bytes)) × (buffer_of msg buffer ≡ bytes ++ drop (length bytes) buffer)
+unfolding write_of buffer_of
 read-writes-back msg bytes buffer small other-kind e room =
     let same = read-is-written msg bytes small other-kind e in
     let fits = le-leb (length (bytes_of msg)) (length buffer) (subst (λ (l : List ℕ). length l ≤ length buffer) (sym same.1) room) in
-    subst (λ (l : List ℕ). (writeOf msg buffer ≡ written.Bytes (length l)) × (bufferOf msg buffer ≡ l ++ drop (length l) buffer)) same.1
+    subst (λ (l : List ℕ). (write_of msg buffer ≡ written.Bytes (length l)) × (buffer_of msg buffer ≡ l ++ drop (length l) buffer)) same.1
     (simp (same.0, fits), simp (same.0, fits))

@@ -30,16 +30,16 @@ kind_of Goodbye = 15
 kind_of Terminate = 16
 
 -- "a reason byte 1 to 4 (Closed, NotListening, ConnectionRefused, LinkRefused; only 4 is shown)"
-abbrev pub reasonByte : RefusedReason → ℕ
-reasonByte Closed = 1
-reasonByte NotListening = 2
-reasonByte ConnectionRefused = 3
-reasonByte LinkRefused = 4
+abbrev pub reason_byte : RefusedReason → ℕ
+reason_byte Closed = 1
+reason_byte NotListening = 2
+reason_byte ConnectionRefused = 3
+reason_byte LinkRefused = 4
 
 -- "SetBlock, 0 or 1"
-abbrev pub blockByte : Bool → ℕ
-blockByte false = 0
-blockByte true = 1
+abbrev pub block_byte : Bool → ℕ
+block_byte false = 0
+block_byte true = 1
 
 -- "TestData .., bytes 0, 1, 2 .. each modulo 256"
 unfoldable pub pattern : ℕ → List ℕ
@@ -52,7 +52,7 @@ abbrev pub body_of : LinkMsg → List ℕ
 body_of Welcome = []
 body_of Connect = []
 body_of Accepted = []
-body_of (Refused reason) = reasonByte reason ∷ []
+body_of (Refused reason) = reason_byte reason ∷ []
 body_of Ping = []
 body_of Pong = []
 body_of (Data seq) = be32 seq.0
@@ -62,7 +62,7 @@ body_of (SendFinish seq) = be32 seq.0
 body_of (ReceiveClose seq) = be32 seq.0
 body_of (ReceiveFinish seq) = be32 seq.0
 body_of (TestData size) = pattern size
-body_of (SetBlock blocked) = blockByte blocked ∷ []
+body_of (SetBlock blocked) = block_byte blocked ∷ []
 body_of Goodbye = []
 body_of Terminate = []
 
@@ -74,7 +74,7 @@ abbrev pub values_of : LinkMsg → List ℕ
 values_of Welcome = 1 ∷ []
 values_of Connect = 2 ∷ []
 values_of Accepted = 3 ∷ []
-values_of (Refused reason) = 4 ∷ reasonByte reason ∷ []
+values_of (Refused reason) = 4 ∷ reason_byte reason ∷ []
 values_of Ping = 5 ∷ []
 values_of Pong = 6 ∷ []
 values_of (Data seq) = 7 ∷ seq.0 ∷ []
@@ -84,7 +84,7 @@ values_of (SendFinish seq) = 10 ∷ seq.0 ∷ []
 values_of (ReceiveClose seq) = 11 ∷ seq.0 ∷ []
 values_of (ReceiveFinish seq) = 12 ∷ seq.0 ∷ []
 values_of (TestData size) = 13 ∷ size ∷ []
-values_of (SetBlock blocked) = 14 ∷ blockByte blocked ∷ []
+values_of (SetBlock blocked) = 14 ∷ block_byte blocked ∷ []
 values_of Goodbye = 15 ∷ []
 values_of Terminate = 16 ∷ []
 

@@ -31,8 +31,8 @@ kind_of SendFinish = MSG_SEND_FINISH
 kind_of ReceiveClose = MSG_RECEIVE_CLOSE
 kind_of ReceiveFinish = MSG_RECEIVE_FINISH
 
-abbrev pub isKind : ℕ → ReliableMsg → Bool
-isKind kind msg = eqb (kind_of msg) kind
+abbrev pub is_kind : ℕ → ReliableMsg → Bool
+is_kind kind msg = eqb (kind_of msg) kind
 
 -- what a Consumed tells; 0 for any other
 abbrev pub count_of : ReliableMsg → ℕ
@@ -43,34 +43,34 @@ count_of ReceiveClose = 0
 count_of ReceiveFinish = 0
 
 -- the link message that carries a reliable message under a number
-abbrev pub toLink : ReliableMsg → Seq → LinkMsg
-toLink Data seq = links.Data seq
-toLink (Consumed n) seq = links.Consumed seq n
-toLink SendFinish seq = links.SendFinish seq
-toLink ReceiveClose seq = links.ReceiveClose seq
-toLink ReceiveFinish seq = links.ReceiveFinish seq
+abbrev pub to_link : ReliableMsg → Seq → LinkMsg
+to_link Data seq = links.Data seq
+to_link (Consumed n) seq = links.Consumed seq n
+to_link SendFinish seq = links.SendFinish seq
+to_link ReceiveClose seq = links.ReceiveClose seq
+to_link ReceiveFinish seq = links.ReceiveFinish seq
 
 -- the reliable message and the number that a link message carries, where it carries one
-abbrev pub fromLink : LinkMsg → FromLink
-fromLink links.Welcome = Other
-fromLink links.Connect = Other
-fromLink links.Accepted = Other
-fromLink (links.Refused reason) = Other
-fromLink links.Ping = Other
-fromLink links.Pong = Other
-fromLink (links.Data seq) = Reliable Data seq
-fromLink (links.Ack received) = Other
-fromLink (links.Consumed seq n) = Reliable (Consumed n) seq
-fromLink (links.SendFinish seq) = Reliable SendFinish seq
-fromLink (links.ReceiveClose seq) = Reliable ReceiveClose seq
-fromLink (links.ReceiveFinish seq) = Reliable ReceiveFinish seq
-fromLink (links.TestData size) = Other
-fromLink (links.SetBlock blocked) = Other
-fromLink links.Goodbye = Other
-fromLink links.Terminate = Other
+abbrev pub from_link : LinkMsg → FromLink
+from_link links.Welcome = Other
+from_link links.Connect = Other
+from_link links.Accepted = Other
+from_link (links.Refused reason) = Other
+from_link links.Ping = Other
+from_link links.Pong = Other
+from_link (links.Data seq) = Reliable Data seq
+from_link (links.Ack received) = Other
+from_link (links.Consumed seq n) = Reliable (Consumed n) seq
+from_link (links.SendFinish seq) = Reliable SendFinish seq
+from_link (links.ReceiveClose seq) = Reliable ReceiveClose seq
+from_link (links.ReceiveFinish seq) = Reliable ReceiveFinish seq
+from_link (links.TestData size) = Other
+from_link (links.SetBlock blocked) = Other
+from_link links.Goodbye = Other
+from_link links.Terminate = Other
 
 -- the way there and back
-pub from-to : (msg : ReliableMsg) (seq : Seq) → fromLink (toLink msg seq) ≡ Reliable msg seq
+pub from-to : (msg : ReliableMsg) (seq : Seq) → from_link (to_link msg seq) ≡ Reliable msg seq
 from-to Data seq = refl
 from-to (Consumed n) seq = refl
 from-to SendFinish seq = refl

@@ -6,15 +6,15 @@ use Rattle.std.proofs.Math.ListN.{get_or-append}
 use Rattle.std.proofs.lemmas.List.{get_or_at}
 use borrow.Table.Steps.{cases}
 use Rattle.seq.specs.declared.Seq.{Seq}
-use Rattle.seq.specs.Numbers.{seqOf}
+use Rattle.seq.specs.Numbers.{seq_of}
 use Rattle.msg.specs.declared.link_msg.RefusedReason.{RefusedReason}
 use Rattle.msg.specs.declared.link_msg.RefusedReason.TheVariants.{Closed, NotListening, ConnectionRefused, LinkRefused}
 use Rattle.msg.specs.declared.link_msg.LinkMsg.{LinkMsg}
 use Rattle.msg.specs.declared.link_msg.LinkMsg.TheVariants.{Welcome, Connect, Accepted, Refused, Ping, Pong, Data, Ack, Consumed, SendFinish, ReceiveClose, ReceiveFinish, TestData, SetBlock, Goodbye, Terminate}
 use Rattle.msg.specs.declared.reading.Reading.TheVariants.{Message}
 use Rattle.msg.specs.Messages.{be32, pattern, bytes_of, handshake}
-use Rattle.msg.specs.Reading.{bad, number_at, exactly, opensWith, readAlone, readRefused, readNumbered, readConsumed, readTestData, readSetBlock, readKind, read_of}
-use Rattle.msg.specs.Writing.{writable, bufferOf}
+use Rattle.msg.specs.Reading.{bad, number_at, exactly, opens_with, read_alone, read_refused, read_numbered, read_consumed, read_test_data, read_set_block, read_kind, read_of}
+use Rattle.msg.specs.Writing.{writable, buffer_of}
 use Rattle.refusal.specs.Tests.{false-true}
 
 -- the numbers of a message are u32, as its type says
@@ -49,9 +49,9 @@ four_bytes n h =
     (mod-eq_of_lt (omega arith))
 
 -- a number alone is the whole body
-numbered-back : (msg : Seq → LinkMsg) (seq : Seq) → seq.0 < 2 ^ 32 → readNumbered msg (be32 seq.0) ≡ Message (msg seq)
-unfolding readNumbered exactly be32 number_at
-numbered-back msg seq h = ap (λ (n : ℕ). Message (msg (seqOf n))) (four_bytes seq.0 h)
+numbered-back : (msg : Seq → LinkMsg) (seq : Seq) → seq.0 < 2 ^ 32 → read_numbered msg (be32 seq.0) ≡ Message (msg seq)
+unfolding read_numbered exactly be32 number_at
+numbered-back msg seq h = ap (λ (n : ℕ). Message (msg (seq_of n))) (four_bytes seq.0 h)
 
 pub length-pattern : (n : ℕ) → length (pattern n) ≡ n
 unfolding pattern
@@ -68,30 +68,30 @@ pattern-at (suc n) i h =
     (λ t. let last : i ≡ n = omega (arith, ltb-false i n t) in get_or_at (pattern n) (n % 256) [] 0 i (length-pattern n ∙ sym last) ∙ ap (λ k. k % 256) (sym last))
 
 -- bytes open with themselves
-opens-itself : (bytes : List ℕ) → opensWith bytes bytes ≡ true
-unfolding opensWith
+opens-itself : (bytes : List ℕ) → opens_with bytes bytes ≡ true
+unfolding opens_with
 opens-itself [] = refl
 opens-itself (b ∷ bytes) = simp (eq-eqb b b refl) (opens-itself bytes)
 
-consumed-back : (seq : Seq) (consumed : ℕ) → (seq.0 < 2 ^ 32) × (consumed < 2 ^ 32) → readConsumed (be32 seq.0 ++ be32 consumed) ≡ Message (Consumed seq consumed)
-unfolding readConsumed exactly be32 number_at
+consumed-back : (seq : Seq) (consumed : ℕ) → (seq.0 < 2 ^ 32) × (consumed < 2 ^ 32) → read_consumed (be32 seq.0 ++ be32 consumed) ≡ Message (Consumed seq consumed)
+unfolding read_consumed exactly be32 number_at
 consumed-back seq consumed r = simp (four_bytes seq.0 r.0, four_bytes consumed r.1)
 
 refused-back : (reason : RefusedReason) → read_of (bytes_of (Refused reason)) ≡ Message (Refused reason)
-unfolding read_of readKind readRefused exactly
+unfolding read_of read_kind read_refused exactly
 refused-back Closed = refl
 refused-back NotListening = refl
 refused-back ConnectionRefused = refl
 refused-back LinkRefused = refl
 
 block_back : (blocked : Bool) → read_of (bytes_of (SetBlock blocked)) ≡ Message (SetBlock blocked)
-unfolding read_of readKind readSetBlock exactly
+unfolding read_of read_kind read_set_block exactly
 block_back false = refl
 block_back true = refl
 
 -- what may be written reads back as it was written
 pub reads-back : (msg : LinkMsg) → Ranged msg → writable msg ≡ true → read_of (bytes_of msg) ≡ Message msg
-unfolding read_of readKind readAlone readTestData exactly
+unfolding read_of read_kind read_alone read_test_data exactly
 reads-back Welcome r w = false-true w
 reads-back Connect r w = false-true w
 reads-back Accepted r w = refl
@@ -111,7 +111,7 @@ reads-back Terminate r w = refl
 
 -- what writing refuses with 20 is the handshake pair and "what reading refuses"
 pub unwritable-is-unreadable : (msg : LinkMsg) → handshake msg ≡ false → writable msg ≡ false → read_of (bytes_of msg) ≡ bad
-unfolding read_of readKind readTestData
+unfolding read_of read_kind read_test_data
 unwritable-is-unreadable Welcome n w = false-true (sym n)
 unwritable-is-unreadable Connect n w = false-true (sym n)
 unwritable-is-unreadable Accepted n w = false-true (sym w)
@@ -131,8 +131,8 @@ unwritable-is-unreadable Terminate n w = false-true (sym w)
 
 -- the bytes that an accepted writing leaves at the buffer's start read back as the message
 pub written-reads-back : (msg : LinkMsg) (buffer : List ℕ) → Ranged msg → writable msg ≡ true → length (bytes_of msg) ≤ length buffer
-    → read_of (take (length (bytes_of msg)) (bufferOf msg buffer)) ≡ Message msg
-unfolding bufferOf
+    → read_of (take (length (bytes_of msg)) (buffer_of msg buffer)) ≡ Message msg
+unfolding buffer_of
 written-reads-back msg buffer r w h =
     simp (w, le-leb (length (bytes_of msg)) (length buffer) h, take_at (bytes_of msg) (drop (length (bytes_of msg)) buffer) (length (bytes_of msg)) refl)
     (reads-back msg r w)

@@ -1,7 +1,7 @@
 -- Document 01, "Message bytes (002)": what writing answers, and what the lent buffer holds afterwards. Assumes nothing.
 use Rattle.std.specs.Prelude.{Bool, true, false, cond, not, ◌&&◌, ◌||◌, ◌≡◌, List, [], ◌∷◌, ◌++◌, ℕ, ◌≤◌, leb, length, take, drop}
 use Rattle.refusal.specs.Refusals.{refuse}
-use Rattle.refusal.specs.Answers.{Told, success, refused, toldBy}
+use Rattle.refusal.specs.Answers.{Told, success, refused, told_by}
 use Rattle.refusal.specs.Verdicts.{gate}
 use Rattle.refusal.specs.declared.verdict.Verdict.{Verdict}
 use Rattle.refusal.specs.declared.verdict.Verdict.TheVariants.{Pass}
@@ -34,16 +34,16 @@ writable Goodbye = true
 writable Terminate = true
 
 -- the paper's number for an answer, and how many bytes were written
-abbrev pub writtenTold : Written → Told
-writtenTold (Bytes n) = success (n ∷ [])
-writtenTold (No e) = refused e
+abbrev pub written_told : Written → Told
+written_told (Bytes n) = success (n ∷ [])
+written_told (No e) = refused e
 
 -- "an output buffer too short" gives 7, but 20 is given "whatever the buffer"
-unfoldable pub writeVerdict : LinkMsg → ℕ → Verdict
-writeVerdict msg room = gate (not (writable msg) || leb (length (bytes_of msg)) room) 7 (gate (writable msg) 20 Pass)
+unfoldable pub write_verdict : LinkMsg → ℕ → Verdict
+write_verdict msg room = gate (not (writable msg) || leb (length (bytes_of msg)) room) 7 (gate (writable msg) 20 Pass)
 
-unfoldable pub writeOf : LinkMsg → List ℕ → Written
-writeOf msg buffer =
+unfoldable pub write_of : LinkMsg → List ℕ → Written
+write_of msg buffer =
     cond (writable msg)
     (cond (leb (length (bytes_of msg)) (length buffer))
     (Bytes (length (bytes_of msg)))
@@ -51,14 +51,14 @@ writeOf msg buffer =
     (No (refuse 20 tt))
 
 -- "Writing touches only the message's own bytes": they stand at the buffer's start, and a refusal leaves all as it came
-unfoldable pub bufferOf : LinkMsg → List ℕ → List ℕ
-bufferOf msg buffer =
+unfoldable pub buffer_of : LinkMsg → List ℕ → List ℕ
+buffer_of msg buffer =
     cond (writable msg && leb (length (bytes_of msg)) (length buffer))
     (bytes_of msg ++ drop (length (bytes_of msg)) buffer)
     buffer
 
-pub write-told : (msg : LinkMsg) (buffer : List ℕ) → writtenTold (writeOf msg buffer) ≡ toldBy (writeVerdict msg (length buffer)) (length (bytes_of msg) ∷ [])
-unfolding writeOf writeVerdict
+pub write-told : (msg : LinkMsg) (buffer : List ℕ) → written_told (write_of msg buffer) ≡ told_by (write_verdict msg (length buffer)) (length (bytes_of msg) ∷ [])
+unfolding write_of write_verdict
 write-told msg buffer =
     cases (writable msg)
     (λ t. cases (leb (length (bytes_of msg)) (length buffer)) (λ u. simp (t, u)) (λ u. simp (t, u)))

@@ -1,4 +1,6 @@
 // Messages (002, msg.rs): what travels over a link, read from bytes and written to them.
+#![tactic(auto)]
+
 pub mod link_msg;
 pub mod reading;
 pub mod reliable;

@@ -1,15 +1,15 @@
 // Reading a message from bytes.
 ghost use Rattle.std.specs.Prelude.{◌≡◌, ◌≤◌, length, get_or};
-ghost use Rattle.seq.specs.Numbers.{seqOf};
+ghost use Rattle.seq.specs.Numbers.{seq_of};
 ghost use Rattle.msg.specs.Messages.{pattern};
-ghost use Rattle.msg.specs.Reading.{bad, reasons, blocks, number_at, exactly, opensWith, readHandshake, readAlone, readRefused, readConsumed, readTestData, readSetBlock, readKind, read_of, readingTold, readTold};
+ghost use Rattle.msg.specs.Reading.{bad, reasons, blocks, number_at, exactly, opens_with, read_handshake, read_alone, read_refused, read_consumed, read_test_data, read_set_block, read_kind, read_of, reading_told, read_told};
 
 use crate::link_msg::{LinkMsg, RefusedReason};
 use refusal::Refusal;
 use seq::Seq;
 
 // What reading answers.
-#[derive(Drop)]
+#[derive(Clone, Copy)]
 pub enum Reading {
     Message(LinkMsg),
     No(Refusal),
@@ -36,7 +36,7 @@ fn number_at(bytes: &[u8], at: usize) -> u32
 
 // The sequence number that a body starts with.
 fn seq_of(body: &[u8]) -> Seq
-    ensures { result ≡ seqOf (number_at body.now 0) }
+    ensures { result ≡ seq_of (number_at body.now 0) }
 {
     Seq(number_at(body, 0))
 }
@@ -52,7 +52,7 @@ fn exactly(n: usize, body: &[u8], reading: Reading) -> Reading
 }
 
 fn opens_with(head: &[u8], bytes: &[u8]) -> bool
-    ensures { result ≡ opensWith head.now bytes.now }
+    ensures { result ≡ opens_with head.now bytes.now }
 {
     let mut i = 0;
     while i < head.len() {
@@ -68,7 +68,7 @@ fn opens_with(head: &[u8], bytes: &[u8]) -> bool
 }
 
 fn handshake(msg: LinkMsg, body: &[u8]) -> Reading
-    ensures { result ≡ readHandshake msg body.now }
+    ensures { result ≡ read_handshake msg body.now }
 {
     let opens = opens_with(b"LIAG\0", body);
     let version = byte_at(body, LinkMsg::LEN_MAGIC);
@@ -103,13 +103,13 @@ fn reason(byte: u8) -> Reading
 }
 
 fn refused(body: &[u8]) -> Reading
-    ensures { result ≡ readRefused body.now }
+    ensures { result ≡ read_refused body.now }
 {
     exactly(LinkMsg::LEN_BYTE, body, reason(byte_at(body, 0)))
 }
 
 fn consumed(body: &[u8]) -> Reading
-    ensures { result ≡ readConsumed body.now }
+    ensures { result ≡ read_consumed body.now }
 {
     let seq = seq_of(body);
     let consumed = number_at(body, LinkMsg::LEN_NUMBER);
@@ -124,7 +124,7 @@ fn consumed(body: &[u8]) -> Reading
 // what the size limit lets through, so that nobody can call it before the size is judged.
 fn is_pattern(bytes: &[u8]) -> bool
     requires { length bytes.now ≤ 1024 }
-    ensures { result ≡ opensWith (pattern (length bytes.now)) bytes.now }
+    ensures { result ≡ opens_with (pattern (length bytes.now)) bytes.now }
 {
     let mut i = 0;
     let mut next: u8 = 0;
@@ -140,7 +140,7 @@ fn is_pattern(bytes: &[u8]) -> bool
 
 // The size is judged first, so that no byte past the limit is looked at.
 fn test_data(body: &[u8]) -> Reading
-    ensures { result ≡ readTestData body.now }
+    ensures { result ≡ read_test_data body.now }
 {
     let size = body.len();
     if size > LinkMsg::MAX_TEST_DATA {
@@ -164,13 +164,13 @@ fn block(byte: u8) -> Reading
 }
 
 fn set_block(body: &[u8]) -> Reading
-    ensures { result ≡ readSetBlock body.now }
+    ensures { result ≡ read_set_block body.now }
 {
     exactly(LinkMsg::LEN_BYTE, body, block(byte_at(body, 0)))
 }
 
 fn alone(msg: LinkMsg, body: &[u8]) -> Reading
-    ensures { result ≡ readAlone msg body.now }
+    ensures { result ≡ read_alone msg body.now }
 {
     exactly(0, body, Reading::Message(msg))
 }
@@ -183,7 +183,7 @@ fn numbered(msg: LinkMsg, body: &[u8]) -> Reading
 
 // Reads what follows a kind byte.
 fn read_kind(kind: u8, body: &[u8]) -> Reading
-    ensures { result ≡ readKind kind body.now }
+    ensures { result ≡ read_kind kind body.now }
 {
     let seq = seq_of(body);
     match kind {
@@ -210,7 +210,7 @@ fn read_kind(kind: u8, body: &[u8]) -> Reading
 // Reads one message from all of bytes.
 pub fn read(bytes: &[u8]) -> Reading
     ensures value { result ≡ read_of bytes.now }
-    ensures result_value { readingTold result ≡ readTold bytes.now }
+    ensures result_value { reading_told result ≡ read_told bytes.now }
 {
     if bytes.len() == 0 {
         return Reading::No(Refusal::Bytes);

@@ -1,12 +1,12 @@
 // Reliable messages: each has a number, is acknowledged by the receiver and resent if lost.
 ghost use Rattle.std.specs.Prelude.{◌≡◌};
-ghost use Rattle.msg.specs.Reliable.{kind_of, count_of, toLink, fromLink};
+ghost use Rattle.msg.specs.Reliable.{kind_of, count_of, to_link, from_link};
 
 use crate::link_msg::LinkMsg;
 use seq::Seq;
 
 // A message that is resent until it is acknowledged. A Data's bytes are in a cell of a lent store.
-#[derive(Drop)]
+#[derive(Clone, Copy)]
 pub enum ReliableMsg {
     Data,
     Consumed(u32),
@@ -16,7 +16,7 @@ pub enum ReliableMsg {
 }
 
 // What a link message carries: a reliable message under its number, or none.
-#[derive(Drop)]
+#[derive(Clone, Copy)]
 pub enum FromLink {
     Reliable(ReliableMsg, Seq),
     Other,
@@ -24,7 +24,7 @@ pub enum FromLink {
 
 impl ReliableMsg {
     pub fn to_link_msg(self, seq: Seq) -> LinkMsg
-        ensures { result ≡ toLink self seq }
+        ensures { result ≡ to_link self seq }
     {
         match self {
             ReliableMsg::Data => LinkMsg::Data { seq },
@@ -62,7 +62,7 @@ impl ReliableMsg {
     }
 
     pub fn from_link_msg(msg: LinkMsg) -> FromLink
-        ensures { result ≡ fromLink msg }
+        ensures { result ≡ from_link msg }
     {
         match msg {
             LinkMsg::Welcome => FromLink::Other,

@@ -1,15 +1,15 @@
 // Writing a message to bytes.
 ghost use Rattle.std.specs.Prelude.{◌≡◌, true, false, ◌∷◌, [], ◌++◌, length, ◌%◌};
-ghost use Rattle.msg.specs.Messages.{be32, pattern, reasonByte, blockByte, bytes_of};
-ghost use Rattle.msg.specs.Writing.{Parted, writable, head_of, size_of, writtenTold, writeVerdict, writeOf, bufferOf};
-ghost use Rattle.refusal.specs.Answers.{toldBy};
+ghost use Rattle.msg.specs.Messages.{be32, pattern, reason_byte, block_byte, bytes_of};
+ghost use Rattle.msg.specs.Writing.{Parted, writable, head_of, size_of, written_told, write_verdict, write_of, buffer_of};
+ghost use Rattle.refusal.specs.Answers.{told_by};
 
 use crate::link_msg::{LinkMsg, RefusedReason};
 use refusal::Refusal;
 use seq::Seq;
 
 // What writing answers: how many bytes the message has, now at the buffer's start.
-#[derive(Drop)]
+#[derive(Clone, Copy)]
 pub enum Written {
     Bytes(usize),
     No(Refusal),
@@ -17,7 +17,7 @@ pub enum Written {
 
 // A message taken apart for writing: whether it may be written, its head, which is the first len of these bytes, and how
 // many bytes of test data follow.
-#[derive(Drop)]
+#[derive(Clone, Copy)]
 struct Parts {
     ok: bool,
     bytes: [u8; 9],
@@ -100,7 +100,7 @@ fn counted(kind: u8, seq: Seq, count: u32) -> Parts
 }
 
 fn reason_byte(reason: RefusedReason) -> u8
-    ensures { result ≡ reasonByte reason }
+    ensures { result ≡ reason_byte reason }
 {
     match reason {
         RefusedReason::Closed => 1,
@@ -111,7 +111,7 @@ fn reason_byte(reason: RefusedReason) -> u8
 }
 
 fn block_byte(blocked: bool) -> u8
-    ensures { result ≡ blockByte blocked }
+    ensures { result ≡ block_byte blocked }
 {
     if blocked { 1 } else { 0 }
 }
@@ -158,9 +158,9 @@ fn fill(part: &mut [u8])
 
 // Writes a message to the start of the buffer.
 pub fn write(msg: LinkMsg, buffer: &mut [u8]) -> Written
-    ensures value { result ≡ writeOf msg buffer.old }
-    ensures result_value { writtenTold result ≡ toldBy (writeVerdict msg (length buffer.old)) (length (bytes_of msg) ∷ []) }
-    ensures buffer_after { buffer.new ≡ bufferOf msg buffer.old }
+    ensures value { result ≡ write_of msg buffer.old }
+    ensures result_value { written_told result ≡ told_by (write_verdict msg (length buffer.old)) (length (bytes_of msg) ∷ []) }
+    ensures buffer_after { buffer.new ≡ buffer_of msg buffer.old }
 {
     let parts = parts_of(msg);
     let head = parts.bytes;
@@ -172,7 +172,7 @@ pub fn write(msg: LinkMsg, buffer: &mut [u8]) -> Written
     if buffer.len() < end {
         return Written::No(Refusal::Length);
     }
-    bytes::copy(&head[..at], &mut buffer[..at]);
+    buffer[..at].copy_from_slice(&head[..at]);
     fill(&mut buffer[at..end]);
     Written::Bytes(end)
 }

@@ -11,32 +11,32 @@ use Rattle.refusal.specs.declared.verdict.Verdict.TheVariants.{Pass}
 use Rattle.refusal.specs.Tests.{false-true}
 use Rattle.refusal.specs.Verdicts.{gate}
 use Rattle.seq.specs.declared.Seq.{Seq}
-use Rattle.seq.specs.Numbers.{seqOf}
+use Rattle.seq.specs.Numbers.{seq_of}
 use Rattle.msg.specs.declared.reliable.ReliableMsg.{ReliableMsg}
 use Rattle.link.specs.declared.row.LinkRow.{LinkRow}
 use Rattle.link.specs.declared.row.MaxPing.TheVariants.{Unlimited}
 use Rattle.link.specs.declared.acks.OldestAck.{OldestAck}
-use Rattle.link.specs.Acks.{oldestAck, ackTaken, ackQueued}
-use Rattle.link.specs.Row.{no_row, emptyRow, fresh_row}
+use Rattle.link.specs.Acks.{oldest_ack, ack_taken, ack_queued}
+use Rattle.link.specs.Row.{no_row, empty_row, fresh_row}
 use Rattle.link.specs.Sizes.{ACKS}
 use Rattle.engine.specs.declared.state.State.{State}
 use Rattle.engine.specs.declared.handing_out.TakeAck.{TakeAck}
 use Rattle.engine.specs.declared.handing_out.TakeAck.TheVariants as acks
 use Rattle.engine.specs.declared.handing_out.HandOut.{HandOut}
 use Rattle.engine.specs.declared.handing_out.HandOut.TheVariants as ready
-use Rattle.engine.specs.CellCount.{isCellCount}
+use Rattle.engine.specs.CellCount.{is_cell_count}
 use Rattle.engine.specs.Received.{RxTable, table_of}
-use Rattle.engine.specs.Decide.{soundb, sound-true, soundWithb, records-true}
-use Rattle.engine.specs.Sound.{SoundRecords, rowAt}
-use Rattle.engine.specs.Rows.{row_of, row-of, slotOk}
+use Rattle.engine.specs.Decide.{soundb, sound-true, sound_withb, records-true}
+use Rattle.engine.specs.Sound.{SoundRecords, row_at}
+use Rattle.engine.specs.Rows.{row_of, row-of, slot_ok}
 use Rattle.engine.specs.Turns.{turns-keep, turns_same}
-use Rattle.engine.specs.Cells.{isRepeat, put_in, canAdvance, passedOver}
+use Rattle.engine.specs.Cells.{is_repeat, put_in, can_advance, passed_over}
 use Rattle.engine.specs.Fields.{with_row}
 use Rattle.engine.specs.Totals.{fits, MAX_TOTAL}
-use Rattle.engine.specs.Starting.{fresh_of, freshVerdict, freshState, freshRecords}
-use Rattle.engine.specs.Links.{addOf, lowestEmpty, is_taken}
-use Rattle.engine.specs.Receiving.{receiveOf, receiveRecords, receiveVerdict, repeatedState, effectState, receivedState}
-use Rattle.engine.specs.HandingOut.{takeAckOf, ackAs, ackAnswer, takenAckBy, isWaiting, take_of, takeVerdict, takenBy, takenState, takenIn, canSkip, passed_by, handOutBy, isReady, readyOf, readyBytes}
+use Rattle.engine.specs.Starting.{fresh_of, fresh_verdict, fresh_state, fresh_records}
+use Rattle.engine.specs.Links.{add_of, lowest_empty, is_taken}
+use Rattle.engine.specs.Receiving.{receive_of, receive_records, receive_verdict, repeated_state, effect_state, received_state}
+use Rattle.engine.specs.HandingOut.{take_ack_of, ack_as, ack_answer, taken_ack_by, is_waiting, take_of, take_verdict, taken_by, taken_state, taken_in, can_skip, passed_by, hand_out_by, is_ready, ready_of, ready_bytes}
 use Rattle.engine.specs.Answer.{changed-keeps}
 use Rattle.laws.specs.Calls as calls
 use Rattle.laws.specs.Good.{Good}
@@ -47,16 +47,16 @@ use Rattle.replaying.specs.declared.session.Waiting.{Waiting}
 use Rattle.replaying.specs.declared.session.Waiting.TheVariants.{Frame, Payload}
 use Rattle.replaying.specs.declared.session.Replay.{Replay}
 use Rattle.replaying.specs.Sizes.{CELLS, RECEIVED_BYTES}
-use Rattle.replaying.specs.Session.{beginning, begun, begunRecords}
-use Rattle.replaying.specs.Taking.{isAck, isMessage, hasAck, afterAck, withoutAcks, Recorded, recorded, hasMessage, afterMessage, withoutReady, withoutAll, ended}
+use Rattle.replaying.specs.Session.{beginning, begun, begun_records}
+use Rattle.replaying.specs.Taking.{is_ack, is_message, has_ack, after_ack, without_acks, Recorded, recorded, has_message, after_message, without_ready, without_all, ended}
 use Rattle.replaying.specs.Taken.{no-ack-left, no-message, no-message-left}
 use Rattle.replaying.specs.Line.{Left, received}
-use Rattle.replaying.specs.Feeding.{Told, Carrying, begunWith, lineLeft, lineEnded, byteFed, fedBy, absentAs, absentOf, lastLine, last_of, closed, every-line}
+use Rattle.replaying.specs.Feeding.{Told, Carrying, begun_with, line_left, line_ended, byte_fed, fed_by, absent_as, absent_of, last_line, last_of, closed, every-line}
 
 -- nothing waits on link 0, and no message is ready
 pub record NothingWaits (h : Recorded) : Type 0 where
-  pub acks : (takeAckOf h.state 0).answer ≡ acks.No refusals.Nothing
-  pub messages : fits h.state.rx.rxed_reliable_consumed (readyBytes (readyOf (table_of h.state.rx h.records))) MAX_TOTAL ≡ true
+  pub acks : (take_ack_of h.state 0).answer ≡ acks.No refusals.Nothing
+  pub messages : fits h.state.rx.rxed_reliable_consumed (ready_bytes (ready_of (table_of h.state.rx h.records))) MAX_TOTAL ≡ true
       → (take_of h.state h.records).answer ≡ ready.No refusals.Nothing
 
 -- ---- link 0 lives, in a sound state with sound records
@@ -66,7 +66,7 @@ pub record Living (h : Recorded) : Type 0 where
   pub good : Good h.state
   pub recorded : SoundRecords (table_of h.state.rx h.records)
   pub cells : h.state.rx.cells ≡ CELLS
-  pub live : (rowAt h.state 0).live ≡ true
+  pub live : (row_at h.state 0).live ≡ true
 
 -- what a call finds, with whatever store
 abbrev holding : Recorded → List ℕ → calls.Holding
@@ -81,43 +81,43 @@ row-lives h row l same =
     ∙ l.live
 
 -- when an ack is taken
-ack-lives : (h : Recorded) → Living h → Living (recorded (takeAckOf h.state 0).state h.records)
-unfolding takeAckOf
+ack-lives : (h : Recorded) → Living h → Living (recorded (take_ack_of h.state 0).state h.records)
+unfolding take_ack_of
 ack-lives h l = record {
   good = kept (calls.TakeAck 0) (holding h []) tt l.good;
   recorded = records-kept (calls.TakeAck 0) (holding h []) tt l.good l.recorded;
-  cells = by-cells (ackAnswer h.state 0);
-  live = by_answer (ackAnswer h.state 0);
+  cells = by-cells (ack_answer h.state 0);
+  live = by_answer (ack_answer h.state 0);
 }
   where
-    by-cells : (a : TakeAck) → (takenAckBy a h.state 0).rx.cells ≡ CELLS
+    by-cells : (a : TakeAck) → (taken_ack_by a h.state 0).rx.cells ≡ CELLS
     by-cells (acks.Number seq) = l.cells
     by-cells (acks.No e) = l.cells
 
-    by_answer : (a : TakeAck) → (rowAt (takenAckBy a h.state 0) 0).live ≡ true
-    by_answer (acks.Number seq) = row-lives h (ackTaken (row_of h.state 0)) l (taken-who (row_of h.state 0)).0
+    by_answer : (a : TakeAck) → (row_at (taken_ack_by a h.state 0) 0).live ≡ true
+    by_answer (acks.Number seq) = row-lives h (ack_taken (row_of h.state 0)) l (taken-who (row_of h.state 0)).0
     by_answer (acks.No e) = l.live
 
 -- when a message is taken: the links stay as they are, and so many cells
-links-stay : (a : HandOut) (h : Recorded) → (takenBy a h.state h.records).links ≡ h.state.links
-unfolding takenState
+links-stay : (a : HandOut) (h : Recorded) → (taken_by a h.state h.records).links ≡ h.state.links
+unfolding taken_state
 links-stay (ready.Message msg seq len) h = refl
 links-stay (ready.No e) h = refl
 
 take-links : (h : Recorded) → (take_of h.state h.records).state.links ≡ h.state.links
 unfolding take_of
-take-links h = links-stay (handOutBy (takeVerdict h.state h.records) (table_of h.state.rx h.records)) h
+take-links h = links-stay (hand_out_by (take_verdict h.state h.records) (table_of h.state.rx h.records)) h
 
-cells_stay : (a : HandOut) (h : Recorded) → (takenBy a h.state h.records).rx.cells ≡ h.state.rx.cells
-unfolding takenState takenIn passed_by
-cells_stay (ready.Message msg seq len) h = turns_same (canSkip h.state.rx.cells _) passed_by (λ r. r.cells) (λ r. refl) h.state.rx.cells _
+cells_stay : (a : HandOut) (h : Recorded) → (taken_by a h.state h.records).rx.cells ≡ h.state.rx.cells
+unfolding taken_state taken_in passed_by
+cells_stay (ready.Message msg seq len) h = turns_same (can_skip h.state.rx.cells _) passed_by (λ r. r.cells) (λ r. refl) h.state.rx.cells _
 cells_stay (ready.No e) h = refl
 
 take_cells : (h : Recorded) → (take_of h.state h.records).state.rx.cells ≡ h.state.rx.cells
 unfolding take_of
-take_cells h = cells_stay (handOutBy (takeVerdict h.state h.records) (table_of h.state.rx h.records)) h
+take_cells h = cells_stay (hand_out_by (take_verdict h.state h.records) (table_of h.state.rx h.records)) h
 
-pub take-lives : (h : Recorded) → Living h → Living (afterMessage h)
+pub take-lives : (h : Recorded) → Living h → Living (after_message h)
 take-lives h l = record {
   good = kept calls.Take (holding h []) tt l.good;
   recorded = records-kept calls.Take (holding h []) tt l.good l.recorded;
@@ -126,25 +126,25 @@ take-lives h l = record {
 }
 
 -- when a message is received: what there is then
-abbrev pub receivedWith : Recorded → List ℕ → ReliableMsg → ℕ → List ℕ → Recorded
-receivedWith h store msg n bytes =
-    recorded (receiveOf h.state (length store) h.records 0 msg n (length bytes)).state
-    (receiveRecords h.state (length store) h.records 0 msg n (length bytes))
+abbrev pub received_with : Recorded → List ℕ → ReliableMsg → ℕ → List ℕ → Recorded
+received_with h store msg n bytes =
+    recorded (receive_of h.state (length store) h.records 0 msg n (length bytes)).state
+    (receive_records h.state (length store) h.records 0 msg n (length bytes))
 
-stored-cells : (h : Recorded) (msg : ReliableMsg) (n len : ℕ) → (receivedState h.state h.records 0 msg n len).rx.cells ≡ h.state.rx.cells
-unfolding receivedState effectState put_in passedOver
+stored-cells : (h : Recorded) (msg : ReliableMsg) (n len : ℕ) → (received_state h.state h.records 0 msg n len).rx.cells ≡ h.state.rx.cells
+unfolding received_state effect_state put_in passed_over
 stored-cells h msg n len =
-    turns_same (canAdvance h.state.rx.cells) (passedOver h.state.rx.cells) (λ t. t.rx.cells) (λ t. refl) h.state.rx.cells _
+    turns_same (can_advance h.state.rx.cells) (passed_over h.state.rx.cells) (λ t. t.rx.cells) (λ t. refl) h.state.rx.cells _
 
-pub receive-lives : (h : Recorded) (store : List ℕ) (msg : ReliableMsg) (n : ℕ) (bytes : List ℕ) → Living h → Living (receivedWith h store msg n bytes)
-unfolding receiveOf
+pub receive-lives : (h : Recorded) (store : List ℕ) (msg : ReliableMsg) (n : ℕ) (bytes : List ℕ) → Living h → Living (received_with h store msg n bytes)
+unfolding receive_of
 receive-lives h store msg n bytes l =
     let s = h.state in
     let len = length bytes in
-    let again = isRepeat s.rx.cells (table_of s.rx h.records) n in
-    let lives = row-lives h (ackQueued (row_of s 0) (seqOf n)) l (queued-who (row_of s 0) (seqOf n)).0 in
-    let verdict = receiveVerdict s (length store) h.records 0 msg n len in
-    let then = cond again (repeatedState s 0 n) (receivedState s h.records 0 msg n len) in
+    let again = is_repeat s.rx.cells (table_of s.rx h.records) n in
+    let lives = row-lives h (ack_queued (row_of s 0) (seq_of n)) l (queued-who (row_of s 0) (seq_of n)).0 in
+    let verdict = receive_verdict s (length store) h.records 0 msg n len in
+    let then = cond again (repeated_state s 0 n) (received_state s h.records 0 msg n len) in
     record {
       good = kept (calls.Receive 0 msg n bytes) (holding h store) tt l.good;
       recorded = records-kept (calls.Receive 0 msg n bytes) (holding h store) tt l.good l.recorded;
@@ -152,7 +152,7 @@ receive-lives h store msg n bytes l =
           changed-keeps (λ x. x.rx.cells ≡ CELLS) verdict s then l.cells
           (λ v. cases again (λ t. simp t l.cells) (λ f. simp f (stored-cells h msg n len ∙ l.cells)));
       live =
-          changed-keeps (λ x. (rowAt x 0).live ≡ true) verdict s then l.live
+          changed-keeps (λ x. (row_at x 0).live ≡ true) verdict s then l.live
           (λ v. cases again (λ t. simp t lives) (λ f. simp f lives));
     }
 
@@ -161,56 +161,56 @@ receive-lives h store msg n bytes l =
 -- link 0 lives, and no ack waits on it
 pub record Quiet (h : Recorded) : Type 0 where
   pub living : Living h
-  pub none : isWaiting (oldestAck (row_of h.state 0)) ≡ false
+  pub none : is_waiting (oldest_ack (row_of h.state 0)) ≡ false
 
 -- and taking a message is refused: what the end of a frame leaves
 pub record Settled (h : Recorded) : Type 0 where
   pub quiet : Quiet h
-  pub taken : hasMessage h ≡ false
+  pub taken : has_message h ≡ false
 
 -- where 1 and 4 don't refuse it and no ack is taken, none waits
 unwaiting : (sound slot waiting : Bool) (ack : OldestAck) → sound ≡ true → slot ≡ true
-    → isAck (ackAs (gate sound 1 (gate slot 4 (gate waiting 19 Pass))) ack) ≡ false → waiting ≡ false
+    → is_ack (ack_as (gate sound 1 (gate slot 4 (gate waiting 19 Pass))) ack) ≡ false → waiting ≡ false
 unwaiting sound slot true ack p q e = simp (p, q) at e
 unwaiting sound slot false ack p q e = refl
 
 -- 4 doesn't refuse link 0
-slot-here : (h : Recorded) → Living h → slotOk h.state 0 ≡ true
-unfolding slotOk
+slot-here : (h : Recorded) → Living h → slot_ok h.state 0 ≡ true
+unfolding slot_ok
 slot-here h l = l.live
 
 -- taking acks keeps link 0, and ACKS turns take them all
-pub acks-live : (n : ℕ) (h : Recorded) → Living h → Living (recorded (withoutAcks n h.state) h.records)
+pub acks-live : (n : ℕ) (h : Recorded) → Living h → Living (recorded (without_acks n h.state) h.records)
 acks-live n h l =
     let Lives : State → Type 0 = λ s. Living (recorded s h.records) in
-    turns-keep hasAck afterAck (λ k s. Lives s) Lives (λ k s g t. ack-lives (recorded s h.records) g) (λ k s g f. g) (λ s g. g) n h.state l
+    turns-keep has_ack after_ack (λ k s. Lives s) Lives (λ k s g t. ack-lives (recorded s h.records) g) (λ k s g f. g) (λ s g. g) n h.state l
 
-acks-quiet : (h : Recorded) → Living h → Quiet (recorded (withoutAcks ACKS h.state) h.records)
-unfolding takeAckOf
+acks-quiet : (h : Recorded) → Living h → Quiet (recorded (without_acks ACKS h.state) h.records)
+unfolding take_ack_of
 acks-quiet h l =
     let s = h.state in
-    let left = withoutAcks ACKS s in
+    let left = without_acks ACKS s in
     let living = acks-live ACKS h l in
     let few = l.good.sound.ack-count 0 (omega arith) l.live in
     let row = ap (λ r. r.ack_count) (row-of s 0 (omega arith)) in
     record {
       living = living;
       none =
-          unwaiting (soundb left) (slotOk left 0) _ (oldestAck (row_of left 0)) (sound-true left living.good.sound) (slot-here (recorded left h.records) living)
+          unwaiting (soundb left) (slot_ok left 0) _ (oldest_ack (row_of left 0)) (sound-true left living.good.sound) (slot-here (recorded left h.records) living)
           (no-ack-left ACKS s l.good.shaped.links-full (omega arith));
     }
 
 -- taking messages keeps both
-ready-quiet : (n : ℕ) (h : Recorded) → Quiet h → Quiet (withoutReady n h)
+ready-quiet : (n : ℕ) (h : Recorded) → Quiet h → Quiet (without_ready n h)
 unfolding row_of
 ready-quiet =
-    turns-keep hasMessage afterMessage (λ k h. Quiet h) Quiet
-    (λ k h q t. record { living = take-lives h q.living; none = ap (λ x. isWaiting (oldestAck (get_or x 0 no_row))) (take-links h) ∙ q.none })
+    turns-keep has_message after_message (λ k h. Quiet h) Quiet
+    (λ k h q t. record { living = take-lives h q.living; none = ap (λ x. is_waiting (oldest_ack (get_or x 0 no_row))) (take-links h) ∙ q.none })
     (λ k h q f. q) (λ h q. q)
 
 -- CELLS turns take all messages
-all_settled : (h : Recorded) → Living h → Settled (withoutAll h)
-unfolding withoutAll
+all_settled : (h : Recorded) → Living h → Settled (without_all h)
+unfolding without_all
 all_settled h l =
     let quiet = acks-quiet h l in
     let good = quiet.living.good in
@@ -230,9 +230,9 @@ all_settled h l =
 
 -- where 2, 1 and 9 don't refuse it and no message is taken, 19 does
 unready : (long sound total some : Bool) (t : RxTable) → long ≡ true → sound ≡ true → total ≡ true
-    → isMessage (handOutBy (gate long 2 (gate sound 1 (gate total 9 (gate some 19 Pass)))) t) ≡ false
-    → handOutBy (gate long 2 (gate sound 1 (gate total 9 (gate some 19 Pass)))) t ≡ ready.No refusals.Nothing
-unfolding handOutBy
+    → is_message (hand_out_by (gate long 2 (gate sound 1 (gate total 9 (gate some 19 Pass)))) t) ≡ false
+    → hand_out_by (gate long 2 (gate sound 1 (gate total 9 (gate some 19 Pass)))) t ≡ ready.No refusals.Nothing
+unfolding hand_out_by
 unready long sound total true t o p q e = false-true (sym (simp (o, p, q) at e))
 unready long sound total false t o p q e = simp (o, p, q)
 
@@ -240,19 +240,19 @@ unready long sound total false t o p q e = simp (o, p, q)
 records-long : (h : Recorded) → Living h → eqb (length h.records) h.state.rx.cells ≡ true
 records-long h l = eq-eqb (length h.records) h.state.rx.cells l.recorded.long
 
-both-sound : (h : Recorded) → Living h → soundWithb h.state h.records ≡ true
-unfolding soundWithb
+both-sound : (h : Recorded) → Living h → sound_withb h.state h.records ≡ true
+unfolding sound_withb
 both-sound h l = simp (sound-true h.state l.good.sound, records-true (table_of h.state.rx h.records) l.recorded)
 
 pub settled-waits : (h : Recorded) → Settled h → NothingWaits h
-unfolding takeAckOf take_of takeVerdict
+unfolding take_ack_of take_of take_verdict
 settled-waits h g =
     let living = g.quiet.living in
     let t = table_of h.state.rx h.records in
     record {
       acks = simp (sound-true h.state living.good.sound, slot-here h living, g.quiet.none);
       messages = λ total.
-          unready (eqb (length h.records) h.state.rx.cells) (soundWithb h.state h.records) _ (isReady t) t (records-long h living) (both-sound h living)
+          unready (eqb (length h.records) h.state.rx.cells) (sound_withb h.state h.records) _ (is_ready t) t (records-long h living) (both-sound h living)
           total g.taken;
     }
 
@@ -268,15 +268,15 @@ LeftFine l = Fine l.said.replay l.records
 abbrev pub ToldFine : Told → Type 0
 ToldFine t = Fine t.replay t.records
 
-ended-fine : (number : ℕ) (h : Recorded) → Living h → Fine (ended number h).replay (withoutAll h).records
+ended-fine : (number : ℕ) (h : Recorded) → Living h → Fine (ended number h).replay (without_all h).records
 unfolding ended
 ended-fine number h l = all_settled h l
 
 received-fine : (h : Recorded) (store : List ℕ) (msg : ReliableMsg) (seq : Seq) (bytes : List ℕ) → Living h → LeftFine (received h store msg seq bytes)
 unfolding received ended
-received-fine h store msg seq bytes l = all_settled (receivedWith h store msg seq.0 bytes) (receive-lives h store msg seq.0 bytes l)
+received-fine h store msg seq bytes l = all_settled (received_with h store msg seq.0 bytes) (receive-lives h store msg seq.0 bytes l)
 
-pub line-fine : (r : Replay) (store records line : List ℕ) (count : ℕ) → Fine r records → LeftFine (lineLeft r store records line count)
+pub line-fine : (r : Replay) (store records line : List ℕ) (count : ℕ) → Fine r records → LeftFine (line_left r store records line count)
 line-fine r store records line count g =
     let living = g.quiet.living in
     every-line LeftFine r store records line count
@@ -287,52 +287,52 @@ line-fine r store records line count g =
 -- ---- from the beginning to the end
 
 -- every byte that is fed
-pub byte-fine : (c : Carrying) (b : ℕ) → ToldFine c.told → ToldFine (byteFed c b).told
-unfolding byteFed lineEnded
+pub byte-fine : (c : Carrying) (b : ℕ) → ToldFine c.told → ToldFine (byte_fed c b).told
+unfolding byte_fed line_ended
 byte-fine c b g = cases (eqb b 10) (λ t. simp t (line-fine c.told.replay _ _ c.line c.count g)) (λ f. simp f g)
 
-pub fed-fine : (c : Carrying) (input : List ℕ) → ToldFine c.told → ToldFine (fedBy c input).told
-unfolding fedBy
+pub fed-fine : (c : Carrying) (input : List ℕ) → ToldFine c.told → ToldFine (fed_by c input).told
+unfolding fed_by
 fed-fine c [] g = g
-fed-fine c (b ∷ rest) g = fed-fine (byteFed c b) rest (byte-fine c b g)
+fed-fine c (b ∷ rest) g = fed-fine (byte_fed c b) rest (byte-fine c b g)
 
 -- closing: the last line, and a payload that is absent
-pub last-fine : (c : Carrying) → ToldFine c.told → LeftFine (lastLine c)
-unfolding lastLine
+pub last-fine : (c : Carrying) → ToldFine c.told → LeftFine (last_line c)
+unfolding last_line
 last-fine c g = cases (eqb c.count 0) (λ t. simp t g) (λ f. simp f (line-fine c.told.replay _ _ c.line c.count g))
 
-absent-fine : (w : Waiting) (l : Left) → LeftFine l → LeftFine (absentAs w l)
+absent-fine : (w : Waiting) (l : Left) → LeftFine l → LeftFine (absent_as w l)
 absent-fine Frame l g = g
 absent-fine (Payload seq) l g = ended-fine 20 (recorded l.said.replay.state l.records) g.quiet.living
 
 pub closed-fine : (c : Carrying) → ToldFine c.told → ToldFine (closed c)
-unfolding closed last_of absentOf
-closed-fine c g = let l = lastLine c in absent-fine l.said.replay.waiting l (last-fine c g)
+unfolding closed last_of absent_of
+closed-fine c g = let l = last_line c in absent-fine l.said.replay.waiting l (last-fine c g)
 
 -- the beginning, with a record for each cell: link 0 is added to the fresh state
 module _ (records : List ℕ) (long : length records ≡ CELLS) where
-  accepted : freshVerdict RECEIVED_BYTES CELLS (length records) ≡ Pass
-  unfolding freshVerdict isCellCount
+  accepted : fresh_verdict RECEIVED_BYTES CELLS (length records) ≡ Pass
+  unfolding fresh_verdict is_cell_count
   accepted = simp (eq-eqb (length records) CELLS long)
 
   abbrev fresh : Recorded
-  fresh = recorded (fresh_of 0 RECEIVED_BYTES CELLS (length records)).state (freshRecords RECEIVED_BYTES CELLS records)
+  fresh = recorded (fresh_of 0 RECEIVED_BYTES CELLS (length records)).state (fresh_records RECEIVED_BYTES CELLS records)
 
-  fresh-is : fresh.state ≡ freshState 0 RECEIVED_BYTES CELLS
+  fresh-is : fresh.state ≡ fresh_state 0 RECEIVED_BYTES CELLS
   unfolding fresh_of
   fresh-is = simp accepted
 
   fresh-fine : Good fresh.state
   fresh-fine = fresh-good 0 RECEIVED_BYTES CELLS (omega arith) records accepted
 
-  pub added : (addOf fresh.state 0 0 Unlimited false false).state ≡ with_row (freshState 0 RECEIVED_BYTES CELLS) 0 (fresh_row 0 0 Unlimited false false)
-  unfolding addOf freshState lowestEmpty is_taken emptyRow
-  added = let sound : soundb (freshState 0 RECEIVED_BYTES CELLS) ≡ true = rw (fresh-is) at (sound-true fresh.state fresh-fine.sound) in rw fresh-is (simp sound)
+  pub added : (add_of fresh.state 0 0 Unlimited false false).state ≡ with_row (fresh_state 0 RECEIVED_BYTES CELLS) 0 (fresh_row 0 0 Unlimited false false)
+  unfolding add_of fresh_state lowest_empty is_taken empty_row
+  added = let sound : soundb (fresh_state 0 RECEIVED_BYTES CELLS) ≡ true = rw (fresh-is) at (sound-true fresh.state fresh-fine.sound) in rw fresh-is (simp sound)
 
-  pub begun-fine : Fine (begun (length records)).replay (begunRecords records)
-  unfolding begun beginning freshState fresh_row row_of oldestAck
+  pub begun-fine : Fine (begun (length records)).replay (begun_records records)
+  unfolding begun beginning fresh_state fresh_row row_of oldest_ack
   begun-fine =
-      let h = recorded (addOf fresh.state 0 0 Unlimited false false).state fresh.records in
+      let h = recorded (add_of fresh.state 0 0 Unlimited false false).state fresh.records in
       let add = calls.Add 0 0 Unlimited false false in
       record {
         quiet = record {
@@ -340,19 +340,19 @@ module _ (records : List ℕ) (long : length records ≡ CELLS) where
             good = kept add (holding fresh []) tt fresh-fine;
             recorded = records-kept add (holding fresh []) tt fresh-fine (fresh-recorded 0 RECEIVED_BYTES CELLS (omega arith) records accepted);
             cells = ap (λ s. s.rx.cells) added;
-            live = ap (λ s. (rowAt s 0).live) added;
+            live = ap (λ s. (row_at s 0).live) added;
           };
-          none = ap (λ s. isWaiting (oldestAck (row_of s 0))) added;
+          none = ap (λ s. is_waiting (oldest_ack (row_of s 0))) added;
         };
         taken = no-message h (ap (λ s. s.rx.rx_oldest.0) added ∙ sym (ap (λ s. s.rx.rx_seq.0) added));
       }
 
   -- whatever was fed from the beginning, cut anywhere
-  pub nothing-waits : (store line input : List ℕ) → let t = (fedBy (begunWith store records line) input).told in NothingWaits (recorded t.replay.state t.records)
-  nothing-waits store line input = settled-waits _ (fed-fine (begunWith store records line) input begun-fine)
+  pub nothing-waits : (store line input : List ℕ) → let t = (fed_by (begun_with store records line) input).told in NothingWaits (recorded t.replay.state t.records)
+  nothing-waits store line input = settled-waits _ (fed-fine (begun_with store records line) input begun-fine)
 
   -- and when it is closed
-  pub nothing-waits-at-end : (store line input : List ℕ) → let t = closed (fedBy (begunWith store records line) input) in NothingWaits (recorded t.replay.state t.records)
+  pub nothing-waits-at-end : (store line input : List ℕ) → let t = closed (fed_by (begun_with store records line) input) in NothingWaits (recorded t.replay.state t.records)
   nothing-waits-at-end store line input =
-      let c = begunWith store records line in
-      settled-waits _ (closed-fine (fedBy c input) (fed-fine c input begun-fine))
+      let c = begun_with store records line in
+      settled-waits _ (closed-fine (fed_by c input) (fed-fine c input begun-fine))

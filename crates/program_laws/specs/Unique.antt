@@ -13,7 +13,7 @@ use Rattle.replaying.specs.declared.session.Answered.{Answered}
 use Rattle.replaying.specs.declared.session.Session.{Session}
 use Rattle.replaying.specs.declared.feeding.Fed.{Fed}
 use Rattle.replaying.specs.declared.feeding.Closed.{Closed}
-use Rattle.replaying.specs.Feeding.{carrying, feedOf, feedStore, feedRecords, feedLine, feedOut}
+use Rattle.replaying.specs.Feeding.{carrying, feed_of, feed_store, feed_records, feed_line, feed_out}
 use Rattle.refusal.specs.declared.Refusal.{Refusal}
 use Rattle.comparing.specs.declared.comparison.Side.{Side}
 use Rattle.comparing.specs.declared.comparison.Compared.{Compared}
@@ -144,11 +144,11 @@ feed κs κs' session store records line piece out h h' i i' j j' k k' l l' r r'
 -- to see what is learnt, on this call: the five `ensures` of the source, word by word
 feed-learnt : (κs : Lfts 5) (session : Session) (store records line piece out : List ℕ) (h i j k l : Place) (r : Fed) (e : _)
     → replaying.feeding.feed.Reads.Learnt κs (session, (lent h store, (lent i records, (lent j line, (lent k piece, (lent l out, tt)))))) r e
-    ≡ ((r ≡ feedOf (carrying session store records line) piece (length out))
-    × ((e.1.0.now ≡ feedStore (carrying session store records line) piece (length out))
-    × ((e.1.1.0.now ≡ feedRecords (carrying session store records line) piece (length out))
-    × ((e.1.1.1.0.now ≡ feedLine (carrying session store records line) piece (length out))
-    × (e.1.1.1.1.1.0.now ≡ feedOut (carrying session store records line) piece out)))))
+    ≡ ((r ≡ feed_of (carrying session store records line) piece (length out))
+    × ((e.1.0.now ≡ feed_store (carrying session store records line) piece (length out))
+    × ((e.1.1.0.now ≡ feed_records (carrying session store records line) piece (length out))
+    × ((e.1.1.1.0.now ≡ feed_line (carrying session store records line) piece (length out))
+    × (e.1.1.1.1.1.0.now ≡ feed_out (carrying session store records line) piece out)))))
 feed-learnt κs session store records line piece out h i j k l r e = refl
 
 pub close : (κs κs' : Lfts 4) (session : Session) (store records line out : List ℕ) (h h' i i' j j' k k' : Place) (r r' : Closed) (e : _) (e' : _)

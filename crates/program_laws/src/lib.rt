@@ -1,1 +1,3 @@
 // What holds of the libraries that the programs are made of (specs/). Theorems alone.
+#![tactic(auto)]
+

@@ -8,27 +8,27 @@ use Rattle.refusal.specs.declared.verdict.Verdict.TheVariants.{Pass}
 use Rattle.refusal.specs.Verdicts.{gate}
 use Rattle.link.specs.Sizes.{ACKS}
 use Rattle.engine.specs.declared.state.State.{State}
-use Rattle.engine.specs.Cells.{isRepeat, nearOldest}
+use Rattle.engine.specs.Cells.{is_repeat, near_oldest}
 use Rattle.engine.specs.Received.{table_of}
-use Rattle.engine.specs.Receiving.{consumedOk, messageVerdict}
-use Rattle.engine.specs.Rows.{row_of, slotOk}
-use Rattle.engine.specs.Tally.{lengthOk}
+use Rattle.engine.specs.Receiving.{consumed_ok, message_verdict}
+use Rattle.engine.specs.Rows.{row_of, slot_ok}
+use Rattle.engine.specs.Tally.{length_ok}
 use Rattle.engine.specs.Totals.{fits}
 
-unfoldable pub newVerdict : State → ℕ → ReliableMsg → ℕ → ℕ → Verdict
-newVerdict s slot msg n len =
+unfoldable pub new_verdict : State → ℕ → ReliableMsg → ℕ → ℕ → Verdict
+new_verdict s slot msg n len =
     gate (leb (past n s.rx.rx_seq.0) USABLE_INTERVAL) 11
-    (gate (nearOldest s.rx.cells s.rx n) 12
+    (gate (near_oldest s.rx.cells s.rx n) 12
     (gate (ltb (row_of s slot).ack_count ACKS) 13
     (gate (fits s.rx.rxed_reliable_size len s.rx.recv_buffer) 14
-    (gate (consumedOk msg s.tx.txed_unconsumed) 15
+    (gate (consumed_ok msg s.tx.txed_unconsumed) 15
     Pass))))
 
-module _ (s : State) (records : List ℕ) (slot : ℕ) (msg : ReliableMsg) (n len : ℕ) (e4 : slotOk s slot ≡ true) (e7 : lengthOk msg len ≡ true) (e22 : near n s.rx.rx_seq.0 ≡ true) where
-  pub repeat-verdict : isRepeat s.rx.cells (table_of s.rx records) n ≡ true → messageVerdict s records slot msg n len ≡ gate (ltb (row_of s slot).ack_count ACKS) 13 Pass
-  unfolding messageVerdict
+module _ (s : State) (records : List ℕ) (slot : ℕ) (msg : ReliableMsg) (n len : ℕ) (e4 : slot_ok s slot ≡ true) (e7 : length_ok msg len ≡ true) (e22 : near n s.rx.rx_seq.0 ≡ true) where
+  pub repeat-verdict : is_repeat s.rx.cells (table_of s.rx records) n ≡ true → message_verdict s records slot msg n len ≡ gate (ltb (row_of s slot).ack_count ACKS) 13 Pass
+  unfolding message_verdict
   repeat-verdict again = simp (e4, e7, e22, again)
 
-  pub new-verdict : isRepeat s.rx.cells (table_of s.rx records) n ≡ false → messageVerdict s records slot msg n len ≡ newVerdict s slot msg n len
-  unfolding messageVerdict newVerdict
+  pub new-verdict : is_repeat s.rx.cells (table_of s.rx records) n ≡ false → message_verdict s records slot msg n len ≡ new_verdict s slot msg n len
+  unfolding message_verdict new_verdict
   new-verdict again = simp (e4, e7, e22, again)

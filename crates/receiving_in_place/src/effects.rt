@@ -2,13 +2,13 @@
 ghost use Rattle.std.specs.Prelude.{◌≡◌, ◌≤◌, ◌<◌, length};
 ghost use Rattle.msg.specs.Reliable.{count_of};
 ghost use Rattle.link.specs.Sizes.{ACKS};
-ghost use Rattle.engine.specs.Sound.{rowAt};
+ghost use Rattle.engine.specs.Sound.{row_at};
 ghost use Rattle.engine.specs.Rows.{row_of};
-ghost use Rattle.engine.specs.Fields.{withTx, withRx};
-ghost use Rattle.engine.specs.Receiving.{effectTx, repeatedState, effectState};
+ghost use Rattle.engine.specs.Fields.{with_tx, with_rx};
+ghost use Rattle.engine.specs.Receiving.{effect_tx, repeated_state, effect_state};
 ghost use Rattle.words.specs.Layout.{WORDS};
 ghost use Rattle.words.specs.Meaning.{state_of};
-ghost use Rattle.receiving_in_place.specs.Moves.{storedMoves};
+ghost use Rattle.receiving_in_place.specs.Moves.{stored_moves};
 
 use engine::{Receiving, SLOTS};
 use msg::{LinkMsg, ReliableMsg};
@@ -33,8 +33,8 @@ pub(crate) fn acks_at(words: &[u64], slot: u8) -> usize
 
 // One more ack behind a slot's others.
 pub(crate) fn queue_ack(words: &mut [u64], slot: u8, seq: Seq)
-    requires { (length words.old ≡ WORDS) × (slot < 8) × ((rowAt (state_of words.old) slot).ack_count < ACKS) }
-    ensures { state_of words.new ≡ repeatedState (state_of words.old) slot seq.0 }
+    requires { (length words.old ≡ WORDS) × (slot < 8) × ((row_at (state_of words.old) slot).ack_count < ACKS) }
+    ensures { state_of words.new ≡ repeated_state (state_of words.old) slot seq.0 }
 {
     let j = slot as usize;
     let n = row_at(words, j).ack_count;
@@ -45,7 +45,7 @@ pub(crate) fn queue_ack(words: &mut [u64], slot: u8, seq: Seq)
 // A new message's effect on the sending half; most are a Data, which has none.
 fn put_effect(words: &mut [u64], msg: ReliableMsg)
     requires { (length words.old ≡ WORDS) × (count_of msg ≤ (state_of words.old).tx.txed_unconsumed) }
-    ensures { state_of words.new ≡ withTx (state_of words.old) (effectTx (state_of words.old).tx msg) }
+    ensures { state_of words.new ≡ with_tx (state_of words.old) (effect_tx (state_of words.old).tx msg) }
 {
     if let ReliableMsg::Data = msg {
         return;
@@ -61,7 +61,7 @@ fn put_effect(words: &mut [u64], msg: ReliableMsg)
 // What a stored message moves of the receiving half.
 fn put_stored(words: &mut [u64], rx: Receiving)
     requires { length words.old ≡ WORDS }
-    ensures { state_of words.new ≡ withRx (state_of words.old) (storedMoves (state_of words.old).rx rx) }
+    ensures { state_of words.new ≡ with_rx (state_of words.old) (stored_moves (state_of words.old).rx rx) }
 {
     let seq = rx.rx_seq;
     let oldest = rx.rx_oldest;
@@ -74,8 +74,8 @@ fn put_stored(words: &mut [u64], rx: Receiving)
 
 // The ack, the effect, and the receiving half as the table left it.
 pub(crate) fn put_received(words: &mut [u64], slot: u8, msg: ReliableMsg, seq: Seq, rx: Receiving)
-    requires { (length words.old ≡ WORDS) × (slot < 8) × (rx ≡ storedMoves (state_of words.old).rx rx) × ((rowAt (state_of words.old) slot).ack_count < ACKS) × (count_of msg ≤ (state_of words.old).tx.txed_unconsumed) }
-    ensures { state_of words.new ≡ effectState (state_of words.old) slot msg seq.0 rx }
+    requires { (length words.old ≡ WORDS) × (slot < 8) × (rx ≡ stored_moves (state_of words.old).rx rx) × ((row_at (state_of words.old) slot).ack_count < ACKS) × (count_of msg ≤ (state_of words.old).tx.txed_unconsumed) }
+    ensures { state_of words.new ≡ effect_state (state_of words.old) slot msg seq.0 rx }
 {
     queue_ack(words, slot, seq);
     put_effect(words, msg);

@@ -1,12 +1,12 @@
 // Showing and taking the oldest ready message.
 ghost use Rattle.std.specs.Prelude.{◌≡◌, length};
-ghost use Rattle.engine.specs.HandingOut.{showingOf, handOutTold, take_of, takeRecords};
-ghost use Rattle.engine.specs.Stores.{cellStart};
-ghost use Rattle.engine.specs.Fields.{withRx};
+ghost use Rattle.engine.specs.HandingOut.{showing_of, hand_out_told, take_of, take_records};
+ghost use Rattle.engine.specs.Stores.{cell_start};
+ghost use Rattle.engine.specs.Fields.{with_rx};
 ghost use Rattle.words.specs.Layout.{WORDS};
 ghost use Rattle.words.specs.Meaning.{state_of};
 ghost use Rattle.words.specs.Ready.{Ready, Left};
-ghost use Rattle.receiving_in_place.specs.Moves.{takenMoves};
+ghost use Rattle.receiving_in_place.specs.Moves.{taken_moves};
 ghost use Rattle.receiving_in_place.specs.ReadyWith.{ReadyWith};
 
 use engine::handing_out::{oldest_ready, ready_bytes, take_message};
@@ -21,7 +21,7 @@ use words::receiving::{put_rx_oldest, put_rxed_reliable_consumed, put_rxed_relia
 // What is shown: the message, its number and the length of its data, or why there is nothing to show.
 pub fn showing(words: &[u64], store: usize, records: &[u64]) -> HandOut
     requires { ReadyWith words.now records.now }
-    ensures { result ≡ showingOf (state_of words.now) store records.now }
+    ensures { result ≡ showing_of (state_of words.now) store records.now }
 {
     let rx = rx_of(words);
     if !lengths_ok(rx, store, records.len()) {
@@ -38,7 +38,7 @@ pub fn showing(words: &[u64], store: usize, records: &[u64]) -> HandOut
 // Where a number's bytes start in the received store.
 pub fn shown_start(words: &[u64], seq: Seq) -> usize
     requires { Ready words.now }
-    ensures { result ≡ cellStart (state_of words.now).rx.cells seq.0 }
+    ensures { result ≡ cell_start (state_of words.now).rx.cells seq.0 }
 {
     let rx = rx_of(words);
     cell_at(rx.cells, seq) * DATA_BYTES
@@ -47,7 +47,7 @@ pub fn shown_start(words: &[u64], seq: Seq) -> usize
 // What a taken message moves of the receiving half.
 fn put_taken(words: &mut [u64], rx: Receiving)
     requires { length words.old ≡ WORDS }
-    ensures { state_of words.new ≡ withRx (state_of words.old) (takenMoves (state_of words.old).rx rx) }
+    ensures { state_of words.new ≡ with_rx (state_of words.old) (taken_moves (state_of words.old).rx rx) }
 {
     let oldest = rx.rx_oldest;
     put_rx_oldest(words, oldest);
@@ -60,8 +60,8 @@ pub fn take(words: &mut [u64], records: &mut [u64]) -> HandOut
     requires { ReadyWith words.old records.old }
     ensures value { result ≡ (take_of (state_of words.old) records.old).answer }
     ensures words_after { state_of words.new ≡ (take_of (state_of words.old) records.old).state }
-    ensures records_after { records.new ≡ takeRecords (state_of words.old) records.old }
-    ensures left { Left (handOutTold result).number words.old words.new }
+    ensures records_after { records.new ≡ take_records (state_of words.old) records.old }
+    ensures left { Left (hand_out_told result).number words.old words.new }
 {
     let rx = rx_of(words);
     if records.len() != rx.cells as usize {

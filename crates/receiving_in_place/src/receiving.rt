@@ -1,16 +1,16 @@
 // Receiving a message.
 ghost use Rattle.std.specs.Prelude.{◌≡◌, false, ◌*◌, ◌≤◌, ◌<◌, length};
-ghost use Rattle.engine.specs.Answer.{outcomeTold};
+ghost use Rattle.engine.specs.Answer.{outcome_told};
 ghost use Rattle.engine.specs.Received.{table_of};
 ghost use Rattle.engine.specs.Sizes.{DATA_BYTES};
-ghost use Rattle.engine.specs.Stores.{cellStart, copied};
+ghost use Rattle.engine.specs.Stores.{cell_start, copied};
 ghost use Rattle.engine.specs.CellTally.{Lent};
-ghost use Rattle.engine.specs.Cells.{isRepeat};
-ghost use Rattle.engine.specs.Receiving.{messageVerdict, receiveVerdict, receivedState, storedTable, receiveOf, receiveStore, receiveRecords};
+ghost use Rattle.engine.specs.Cells.{is_repeat};
+ghost use Rattle.engine.specs.Receiving.{message_verdict, receive_verdict, received_state, stored_table, receive_of, receive_store, receive_records};
 ghost use Rattle.words.specs.Layout.{WORDS};
 ghost use Rattle.words.specs.Meaning.{state_of};
 ghost use Rattle.words.specs.Ready.{Left};
-ghost use Rattle.receiving_in_place.specs.NewVerdict.{newVerdict};
+ghost use Rattle.receiving_in_place.specs.NewVerdict.{new_verdict};
 ghost use Rattle.receiving_in_place.specs.ReadyWith.{ReadyWith};
 
 use crate::effects::{acks_at, put_received, queue_ack};
@@ -40,7 +40,7 @@ fn new_verdict(
     len: usize,
 ) -> Verdict
     requires { (length words.now ≡ WORDS) × (rx ≡ (state_of words.now).rx) }
-    ensures { result ≡ newVerdict (state_of words.now) slot msg seq.0 len }
+    ensures { result ≡ new_verdict (state_of words.now) slot msg seq.0 len }
 {
     if MAX_OFFSET < seq.past(rx.rx_seq) {
         return Verdict::No(Refusal::Offset);
@@ -72,7 +72,7 @@ fn message_verdict(
     len: usize,
 ) -> Verdict
     requires { (length words.now ≡ WORDS) × (rx ≡ (state_of words.now).rx) × Lent rx (length records.now) }
-    ensures { result ≡ messageVerdict (state_of words.now) records.now slot msg seq.0 len }
+    ensures { result ≡ message_verdict (state_of words.now) records.now slot msg seq.0 len }
 {
     if !slot_ok(words, slot) {
         return Verdict::No(Refusal::Slot);
@@ -92,7 +92,7 @@ fn message_verdict(
 // The bytes of a message in its number's cell.
 fn keep_bytes(store: &mut [u8], cells: u32, seq: Seq, payload: &[u8])
     requires { (0 < cells) × (cells ≤ 65536) × (length store.old ≡ cells * DATA_BYTES) × (length payload.now ≤ DATA_BYTES) }
-    ensures { store.new ≡ copied store.old (cellStart cells seq.0) payload.now }
+    ensures { store.new ≡ copied store.old (cell_start cells seq.0) payload.now }
 {
     let start = cell_at(cells, seq) * DATA_BYTES;
     let end = start + payload.len();
@@ -111,11 +111,11 @@ fn receive_new(
     payload: &[u8],
 )
     requires words_len { (length words.old ≡ WORDS) × (rx ≡ (state_of words.old).rx) }
-    requires payload_value { receiveVerdict (state_of words.old) (length store.old) records.old slot msg seq.0 (length payload.now) ≡ Verdict.Pass }
-    requires seq_value { isRepeat (state_of words.old).rx.cells (table_of (state_of words.old).rx records.old) seq.0 ≡ false }
-    ensures words_after { state_of words.new ≡ receivedState (state_of words.old) records.old slot msg seq.0 (length payload.now) }
-    ensures store_after { store.new ≡ copied store.old (cellStart (state_of words.old).rx.cells seq.0) payload.now }
-    ensures records_after { records.new ≡ (storedTable (state_of words.old) records.old msg seq.0 (length payload.now)).records }
+    requires payload_value { receive_verdict (state_of words.old) (length store.old) records.old slot msg seq.0 (length payload.now) ≡ Verdict.Pass }
+    requires seq_value { is_repeat (state_of words.old).rx.cells (table_of (state_of words.old).rx records.old) seq.0 ≡ false }
+    ensures words_after { state_of words.new ≡ received_state (state_of words.old) records.old slot msg seq.0 (length payload.now) }
+    ensures store_after { store.new ≡ copied store.old (cell_start (state_of words.old).rx.cells seq.0) payload.now }
+    ensures records_after { records.new ≡ (stored_table (state_of words.old) records.old msg seq.0 (length payload.now)).records }
 {
     let next = store_message(rx, records, msg, seq, payload.len() as u32);
     put_received(words, slot, msg, seq, next);
@@ -133,11 +133,11 @@ pub fn receive(
     payload: &[u8],
 ) -> Outcome
     requires { ReadyWith words.old records.old }
-    ensures value { result ≡ (receiveOf (state_of words.old) (length store.old) records.old slot msg seq.0 (length payload.now)).outcome }
-    ensures words_after { state_of words.new ≡ (receiveOf (state_of words.old) (length store.old) records.old slot msg seq.0 (length payload.now)).state }
-    ensures store_after { store.new ≡ receiveStore (state_of words.old) store.old records.old slot msg seq.0 payload.now }
-    ensures records_after { records.new ≡ receiveRecords (state_of words.old) (length store.old) records.old slot msg seq.0 (length payload.now) }
-    ensures left { Left (outcomeTold result).number words.old words.new }
+    ensures value { result ≡ (receive_of (state_of words.old) (length store.old) records.old slot msg seq.0 (length payload.now)).outcome }
+    ensures words_after { state_of words.new ≡ (receive_of (state_of words.old) (length store.old) records.old slot msg seq.0 (length payload.now)).state }
+    ensures store_after { store.new ≡ receive_store (state_of words.old) store.old records.old slot msg seq.0 payload.now }
+    ensures records_after { records.new ≡ receive_records (state_of words.old) (length store.old) records.old slot msg seq.0 (length payload.now) }
+    ensures left { Left (outcome_told result).number words.old words.new }
 {
     let rx = rx_of(words);
     if !lengths_ok(rx, store.len(), records.len()) {

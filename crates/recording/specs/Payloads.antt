@@ -9,45 +9,45 @@ use Rattle.std.proofs.Math.ListN.{length, take, length-take}
 use borrow.Author.Tests.{le-leb, lt-leb, leb-true}
 use borrow.Table.Steps.{cases}
 use Rattle.refusal.specs.Tests.{split}
-use Rattle.text.specs.HexRun.{spells, spelt, readHexOf, readHexIn, spelt-length, hex-start}
+use Rattle.text.specs.HexRun.{spells, spelt, read_hex_of, read_hex_in, spelt-length, hex-start}
 use Rattle.text.specs.declared.hex.HexRun.{HexRun}
 use Rattle.text.specs.declared.hex.HexRun.TheVariants.{Count, Bad}
 
 -- 1,024 bytes are 2,048 digits
-unfoldable pub isPayload : List ℕ → Bool
+unfoldable pub is_payload : List ℕ → Bool
 unfolding spells
-isPayload line = leb (length line) 2048 && spells line
+is_payload line = leb (length line) 2048 && spells line
 
 -- how many bytes a payload's line spells
-unfoldable pub payloadOf : List ℕ → HexRun
-unfolding isPayload
-payloadOf line = cond (isPayload line) (Count (length line / 2)) Bad
+unfoldable pub payload_of : List ℕ → HexRun
+unfolding is_payload
+payload_of line = cond (is_payload line) (Count (length line / 2)) Bad
 
 -- the buffer that it was read into
-unfoldable pub payloadIn : List ℕ → List ℕ → List ℕ
-unfolding readHexIn
-payloadIn line into = cond (leb (length line) 2048) (readHexIn line into) into
+unfoldable pub payload_in : List ℕ → List ℕ → List ℕ
+unfolding read_hex_in
+payload_in line into = cond (leb (length line) 2048) (read_hex_in line into) into
 
 -- ---- laws
 
-pub long-is-no-payload : (line : List ℕ) → 2048 < length line → isPayload line ≡ false
-unfolding isPayload
+pub long-is-no-payload : (line : List ℕ) → 2048 < length line → is_payload line ≡ false
+unfolding is_payload
 long-is-no-payload line h = simp (lt-leb (length line) 2048 h)
 
 module _ (line into : List ℕ) where
-  pub payload-long : 2048 < length line → (Bad ≡ payloadOf line) × (into ≡ payloadIn line into)
-  unfolding payloadOf payloadIn isPayload
+  pub payload-long : 2048 < length line → (Bad ≡ payload_of line) × (into ≡ payload_in line into)
+  unfolding payload_of payload_in is_payload
   payload-long h = (simp (lt-leb (length line) 2048 h), simp (lt-leb (length line) 2048 h))
 
-  pub payload-read : length into ≡ 1024 → length line ≤ 2048 → (readHexOf line (length into) ≡ payloadOf line) × (readHexIn line into ≡ payloadIn line into)
-  unfolding payloadOf payloadIn isPayload readHexOf
+  pub payload-read : length into ≡ 1024 → length line ≤ 2048 → (read_hex_of line (length into) ≡ payload_of line) × (read_hex_in line into ≡ payload_in line into)
+  unfolding payload_of payload_in is_payload read_hex_of
   payload-read n h =
       let room : length line / 2 ≤ length into = omega arith in
       (simp (le-leb (length line) 2048 h, le-leb (length line / 2) (length into) room), simp (le-leb (length line) 2048 h))
 
   -- what the answer says of a line
-  pub payload-says : (n : ℕ) → payloadOf line ≡ Count n → (n ≡ length line / 2) × (n ≤ 1024) × (isPayload line ≡ true)
-  unfolding payloadOf isPayload
+  pub payload-says : (n : ℕ) → payload_of line ≡ Count n → (n ≡ length line / 2) × (n ≤ 1024) × (is_payload line ≡ true)
+  unfolding payload_of is_payload
   payload-says n e =
       cases (leb (length line) 2048)
       (λ l.
@@ -58,28 +58,28 @@ module _ (line into : List ℕ) where
       (λ f. let z : ◌≡◌ {A = ℕ} 0 1 = cc (simp (l, f) at e) in absurd (omega arith)))
       (λ l. let z : ◌≡◌ {A = ℕ} 0 1 = cc (simp l at e) in absurd (omega arith))
 
-  pub payload-bad-says : payloadOf line ≡ Bad → isPayload line ≡ false
-  unfolding payloadOf
+  pub payload-bad-says : payload_of line ≡ Bad → is_payload line ≡ false
+  unfolding payload_of
   payload-bad-says e =
-      cases (isPayload line)
+      cases (is_payload line)
       (λ t. let z : ◌≡◌ {A = ℕ} 0 1 = cc (simp t at e) in absurd (omega arith))
       (λ f. f)
 
   -- the bytes of a payload stand at the buffer's start
-  pub payload-start : (n : ℕ) → length into ≡ 1024 → payloadOf line ≡ Count n → take n (payloadIn line into) ≡ spelt line
-  unfolding payloadIn isPayload
+  pub payload-start : (n : ℕ) → length into ≡ 1024 → payload_of line ≡ Count n → take n (payload_in line into) ≡ spelt line
+  unfolding payload_in is_payload
   payload-start n room e =
       let said = payload-says n e in
       cases (leb (length line) 2048)
       (λ l.
       let t : spells line ≡ true = simp l at said.2 in
-      simp l (ap (λ k. take k (readHexIn line into)) said.0 ∙ hex-start line into t (omega (arith, leb-true (length line) 2048 l))))
+      simp l (ap (λ k. take k (read_hex_in line into)) said.0 ∙ hex-start line into t (omega (arith, leb-true (length line) 2048 l))))
       (λ l. let z : ◌≡◌ {A = ℕ} 0 1 = cc (simp l at said.2) in absurd (omega arith))
 
   -- and the buffer has them all
-  pub payload-room : (n : ℕ) → length into ≡ 1024 → payloadOf line ≡ Count n → n ≤ length (payloadIn line into)
-  unfolding isPayload
+  pub payload-room : (n : ℕ) → length into ≡ 1024 → payload_of line ≡ Count n → n ≤ length (payload_in line into)
+  unfolding is_payload
   payload-room n room e =
       let said = payload-says n e in
       let t = (split (leb (length line) 2048) (spells line) said.2).1 in
-      omega (arith, length-take n (payloadIn line into), ap length (payload-start n room e), spelt-length line t, said.0)
+      omega (arith, length-take n (payload_in line into), ap length (payload-start n room e), spelt-length line t, said.0)

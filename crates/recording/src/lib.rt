@@ -1,5 +1,7 @@
 // Recordings: frames in lower-case hexadecimal, one a line, a Data's payload on the line after it. The replay and the comparison read
 // their lines by this.
+#![tactic(auto)]
+
 pub mod frames;
 pub mod lines;
 pub mod payloads;

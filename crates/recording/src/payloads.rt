@@ -1,6 +1,6 @@
 // A payload's line: the data of the Data frame before it, possibly blank.
 ghost use Rattle.std.specs.Prelude.{◌≡◌};
-ghost use Rattle.recording.specs.Payloads.{payloadOf, payloadIn};
+ghost use Rattle.recording.specs.Payloads.{payload_of, payload_in};
 
 use text::{HexRun, read_hex};
 
@@ -9,8 +9,8 @@ pub const MAX_PAYLOAD: usize = 2048;
 
 // Reads a payload's line to the start of a buffer, and says how many bytes it is. Of a bad line, some bytes may have been written.
 pub fn read_payload(line: &[u8], into: &mut [u8; 1024]) -> HexRun
-    ensures value { result ≡ payloadOf line.now }
-    ensures into_after { into.new ≡ payloadIn line.now into.old }
+    ensures value { result ≡ payload_of line.now }
+    ensures into_after { into.new ≡ payload_in line.now into.old }
 {
     if MAX_PAYLOAD < line.len() {
         return HexRun::Bad;

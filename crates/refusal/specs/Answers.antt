@@ -19,9 +19,9 @@ abbrev pub refused : Refusal → Told
 refused e = record { number = number_of e; values = [] }
 
 -- what a verdict tells, with the values of a call that passes
-abbrev pub toldBy : Verdict → List ℕ → Told
-toldBy Pass values = success values
-toldBy (No e) values = refused e
+abbrev pub told_by : Verdict → List ℕ → Told
+told_by Pass values = success values
+told_by (No e) values = refused e
 
 -- a flag as a value
 abbrev pub flag : Bool → ℕ

@@ -8,21 +8,21 @@ use Rattle.refusal.specs.declared.verdict.Verdict.{Verdict}
 use Rattle.refusal.specs.declared.verdict.Verdict.TheVariants.{Pass, No}
 use Rattle.refusal.specs.Refusals.{Named, Is, Unnamed, named}
 
-abbrev pub gateBy : Bool → Refusal → Verdict → Verdict
-gateBy true e rest = rest
-gateBy false e rest = No e
+abbrev pub gate_by : Bool → Refusal → Verdict → Verdict
+gate_by true e rest = rest
+gate_by false e rest = No e
 
 -- refusal n unless ok; a number that is not in the table refuses nothing
-abbrev pub gateNamed : Named → Bool → Verdict → Verdict
-gateNamed (Is e) ok rest = gateBy ok e rest
-gateNamed Unnamed ok rest = rest
+abbrev pub gate_named : Named → Bool → Verdict → Verdict
+gate_named (Is e) ok rest = gate_by ok e rest
+gate_named Unnamed ok rest = rest
 
 abbrev pub gate : Bool → ℕ → Verdict → Verdict
-gate ok n rest = gateNamed (named n) ok rest
+gate ok n rest = gate_named (named n) ok rest
 
 -- ---- laws
 
 -- who passed, passed every gate
-pub gate-pass : (ok : Bool) (e : Refusal) (rest : Verdict) → gateBy ok e rest ≡ Pass → (ok ≡ true) × (rest ≡ Pass)
+pub gate-pass : (ok : Bool) (e : Refusal) (rest : Verdict) → gate_by ok e rest ≡ Pass → (ok ≡ true) × (rest ≡ Pass)
 gate-pass true e rest h = (refl, h)
 gate-pass false e rest h = let z : ◌≡◌ {A = ℕ} 0 1 = cc in absurd (omega arith)

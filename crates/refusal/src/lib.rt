@@ -1,4 +1,6 @@
 // The refusals of document 01 by name, with their numbers. Every call of every layer refuses by one of these.
+#![tactic(auto)]
+
 pub mod verdict;
 
 ghost use Rattle.std.specs.Prelude.{◌≡◌};
@@ -7,7 +9,7 @@ ghost use Rattle.refusal.specs.Refusals.{number_of};
 pub use verdict::{Verdict, both, either, gate};
 
 // Why a call is refused. In the order of the numbers, 1 to 23; 18 stays unused.
-#[derive(Drop)]
+#[derive(Clone, Copy)]
 pub enum Refusal {
     // the state handed in is not sound
     Unsound,

@@ -1,10 +1,10 @@
 // A verdict on a call: the first refusal, in the order of the gates, or none.
 ghost use Rattle.std.specs.Prelude.{◌≡◌, ◌&&◌, ◌||◌};
-ghost use Rattle.refusal.specs.Verdicts.{gateBy};
+ghost use Rattle.refusal.specs.Verdicts.{gate_by};
 
 use crate::Refusal;
 
-#[derive(Drop)]
+#[derive(Clone, Copy)]
 pub enum Verdict {
     Pass,
     No(Refusal),
@@ -12,7 +12,7 @@ pub enum Verdict {
 
 // A refusal where a test fails, else what the later gates say.
 pub fn gate(ok: bool, refusal: Refusal, rest: Verdict) -> Verdict
-    ensures { result ≡ gateBy ok refusal rest }
+    ensures { result ≡ gate_by ok refusal rest }
 {
     if ok { rest } else { Verdict::No(refusal) }
 }

@@ -1,7 +1,9 @@
 // Replays a session: frames from standard input in lower-case hexadecimal, one a line, a Data's payload on the line after it. It
 // writes one line a frame: the answer in two digits, a space, and the next expected number in eight.
+#![tactic(auto)]
+
 ghost use Rattle.std.specs.Prelude.{◌≡◌, true};
-ghost use Rattle.replaying.specs.Feeding.{carrying, fedBy};
+ghost use Rattle.replaying.specs.Feeding.{carrying, fed_by};
 ghost use Rattle.replaying.specs.Pieces.{lent};
 
 use libc::{EINTR, STDIN_FILENO, STDOUT_FILENO};
@@ -9,7 +11,7 @@ use recording::MAX_LINE;
 use replaying::{CELLS, LINE_TEXT, RECEIVED_BYTES, Session, begin, close, feed};
 
 // A session to go on with, and whether all of its text could be written.
-#[derive(Drop)]
+#[derive(Clone, Copy)]
 struct Going {
     session: Session,
     is_written: bool,
@@ -24,7 +26,7 @@ fn answer_piece(
     line: &mut [u8; MAX_LINE],
     piece: &[u8],
 ) -> Going
-    ensures { result.is_written ≡ true → carrying result.session store.new records.new line.new ≡ lent (fedBy (carrying session store.old records.old line.old) piece.now) }
+    ensures { result.is_written ≡ true → carrying result.session store.new records.new line.new ≡ lent (fed_by (carrying session store.old records.old line.old) piece.now) }
 {
     let mut space = io::buffer();
     let out: &mut [u8] = &mut space;
@@ -48,7 +50,7 @@ fn answer_piece(
 }
 
 // How the replay ended.
-#[derive(Drop)]
+#[derive(Clone, Copy)]
 enum Ended {
     Closed,
     Unread,

@@ -1,8 +1,8 @@
 -- Document 01, "The replay program": how it begins. Assumes nothing.
 use Rattle.std.specs.Prelude.{false, List, ℕ}
 use Rattle.link.specs.declared.row.MaxPing.TheVariants.{Unlimited}
-use Rattle.engine.specs.Starting.{fresh_of, freshRecords}
-use Rattle.engine.specs.Links.{addOf}
+use Rattle.engine.specs.Starting.{fresh_of, fresh_records}
+use Rattle.engine.specs.Links.{add_of}
 use Rattle.replaying.specs.declared.session.Waiting.TheVariants.{Frame}
 use Rattle.replaying.specs.declared.session.Replay.{Replay}
 use Rattle.replaying.specs.declared.session.Session.{Session}
@@ -12,7 +12,7 @@ use Rattle.replaying.specs.Sizes.{CELLS, RECEIVED_BYTES}
 -- and what else it is given reaches no answer.
 unfoldable pub beginning : ℕ → Replay
 beginning records = record {
-  state = (addOf (fresh_of 0 RECEIVED_BYTES CELLS records).state 0 0 Unlimited false false).state;
+  state = (add_of (fresh_of 0 RECEIVED_BYTES CELLS records).state 0 0 Unlimited false false).state;
   waiting = Frame;
 }
 
@@ -22,5 +22,5 @@ unfolding beginning
 begun records = record { replay = beginning records; count = 0 }
 
 -- "leaves every record empty, whatever it held" ([8])
-abbrev pub begunRecords : List ℕ → List ℕ
-begunRecords records = freshRecords RECEIVED_BYTES CELLS records
+abbrev pub begun_records : List ℕ → List ℕ
+begun_records records = fresh_records RECEIVED_BYTES CELLS records

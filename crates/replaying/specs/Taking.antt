@@ -6,30 +6,30 @@ use Rattle.engine.specs.declared.handing_out.TakeAck.{TakeAck}
 use Rattle.engine.specs.declared.handing_out.TakeAck.TheVariants as acks
 use Rattle.engine.specs.declared.handing_out.HandOut.{HandOut}
 use Rattle.engine.specs.declared.handing_out.HandOut.TheVariants as ready
-use Rattle.engine.specs.HandingOut.{takeAckOf, take_of, takeRecords}
+use Rattle.engine.specs.HandingOut.{take_ack_of, take_of, take_records}
 use Rattle.engine.specs.Turns.{turns}
 use Rattle.replaying.specs.declared.session.Waiting.TheVariants.{Frame}
 use Rattle.replaying.specs.declared.session.Answer.TheVariants.{Line}
 use Rattle.replaying.specs.declared.session.Answered.{Answered}
 use Rattle.replaying.specs.Sizes.{CELLS}
 
-abbrev pub isAck : TakeAck → Bool
-isAck (acks.Number seq) = true
-isAck (acks.No e) = false
+abbrev pub is_ack : TakeAck → Bool
+is_ack (acks.Number seq) = true
+is_ack (acks.No e) = false
 
-abbrev pub isMessage : HandOut → Bool
-isMessage (ready.Message msg seq len) = true
-isMessage (ready.No e) = false
+abbrev pub is_message : HandOut → Bool
+is_message (ready.Message msg seq len) = true
+is_message (ready.No e) = false
 
 -- "acks .. are taken": link 0's, until taking one is refused, and at most n
-abbrev pub hasAck : State → Bool
-hasAck s = isAck (takeAckOf s 0).answer
+abbrev pub has_ack : State → Bool
+has_ack s = is_ack (take_ack_of s 0).answer
 
-abbrev pub afterAck : State → State
-afterAck s = (takeAckOf s 0).state
+abbrev pub after_ack : State → State
+after_ack s = (take_ack_of s 0).state
 
-abbrev pub withoutAcks : ℕ → State → State
-withoutAcks n s = turns hasAck afterAck n s
+abbrev pub without_acks : ℕ → State → State
+without_acks n s = turns has_ack after_ack n s
 
 -- a state, with the records that are lent with it
 pub record Recorded : Type 0 where
@@ -40,23 +40,23 @@ abbrev pub recorded : State → List ℕ → Recorded
 recorded s records = record { state = s; records = records }
 
 -- "ready messages are taken": until taking one is refused, and at most n
-abbrev pub hasMessage : Recorded → Bool
-hasMessage h = isMessage (take_of h.state h.records).answer
+abbrev pub has_message : Recorded → Bool
+has_message h = is_message (take_of h.state h.records).answer
 
-abbrev pub afterMessage : Recorded → Recorded
-afterMessage h = recorded (take_of h.state h.records).state (takeRecords h.state h.records)
+abbrev pub after_message : Recorded → Recorded
+after_message h = recorded (take_of h.state h.records).state (take_records h.state h.records)
 
-abbrev pub withoutReady : ℕ → Recorded → Recorded
-withoutReady n h = turns hasMessage afterMessage n h
+abbrev pub without_ready : ℕ → Recorded → Recorded
+without_ready n h = turns has_message after_message n h
 
 -- at most ACKS acks wait on a link, and at most CELLS messages are ready
-unfoldable pub withoutAll : Recorded → Recorded
-withoutAll h = withoutReady CELLS (recorded (withoutAcks ACKS h.state) h.records)
+unfoldable pub without_all : Recorded → Recorded
+without_all h = without_ready CELLS (recorded (without_acks ACKS h.state) h.records)
 
 -- "It writes one line a frame: answer .., next expected number": the end of a frame with this answer
 unfoldable pub ended : ℕ → Recorded → Answered
-unfolding withoutAll
+unfolding without_all
 ended number h = record {
-  answer = Line number (withoutAll h).state.rx.rx_seq;
-  replay = record { state = (withoutAll h).state; waiting = Frame };
+  answer = Line number (without_all h).state.rx.rx_seq;
+  replay = record { state = (without_all h).state; waiting = Frame };
 }

@@ -6,42 +6,42 @@ use Rattle.std.proofs.Common.{sym, ◌∙◌, append-nil, add-one, arith, length
 use Rattle.std.proofs.lemmas.Bool.{eqb-false}
 use borrow.Table.Steps.{cases}
 use Rattle.seq.specs.declared.Seq.{Seq}
-use Rattle.engine.specs.Receiving.{receiveStore}
+use Rattle.engine.specs.Receiving.{receive_store}
 use Rattle.replaying.specs.declared.session.Waiting.{Waiting}
 use Rattle.replaying.specs.declared.session.Waiting.TheVariants.{Frame, Payload}
 use Rattle.replaying.specs.declared.session.Answer.TheVariants.{Nothing}
 use Rattle.replaying.specs.declared.session.Replay.{Replay}
-use Rattle.replaying.specs.Session.{beginning, begun, begunRecords}
+use Rattle.replaying.specs.Session.{beginning, begun, begun_records}
 use Rattle.recording.specs.Frames.{MAX_LINE}
 use Rattle.recording.specs.Lines.{lines_from, lines_of}
 use Rattle.replaying.specs.Taking.{Recorded, recorded, ended}
-use Rattle.replaying.specs.Line.{Left, endedWith, received, answer_of, long-answer, every-answer}
-use Rattle.replaying.specs.Feeding.{Told, begunWith, saidBy, toldOf, toldAfter, carryingWith, lineWith, countWith, lineLeft, lineEnded, byteFed, fedBy, absentOf, silent, last_of, closed, line-long, line-short, close-none, close-last}
+use Rattle.replaying.specs.Line.{Left, ended_with, received, answer_of, long-answer, every-answer}
+use Rattle.replaying.specs.Feeding.{Told, begun_with, said_by, told_of, told_after, carrying_with, line_with, count_with, line_left, line_ended, byte_fed, fed_by, absent_of, silent, last_of, closed, line-long, line-short, close-none, close-last}
 
 -- a line, and then the others
 unfoldable pub tell : Told → List ℕ → Told
 unfolding answer_of
-tell t line = toldAfter t.text (answer_of t.replay t.store t.records line)
+tell t line = told_after t.text (answer_of t.replay t.store t.records line)
 
-unfoldable pub tellAll : Told → List (List ℕ) → Told
+unfoldable pub tell_all : Told → List (List ℕ) → Told
 unfolding tell
-tellAll t [] = t
-tellAll t (line ∷ rest) = tellAll (tell t line) rest
+tell_all t [] = t
+tell_all t (line ∷ rest) = tell_all (tell t line) rest
 
 -- "a bad or absent payload .. gives hex 14"
 unfoldable pub finished : Told → Told
-unfolding absentOf
-finished t = toldAfter t.text (absentOf (silent t))
+unfolding absent_of
+finished t = told_after t.text (absent_of (silent t))
 
 -- the whole: what an input leads to from the beginning, over a received store and a record space
 unfoldable pub whole_of : (store records input : List ℕ) → Told
-unfolding finished tellAll lines_from beginning
-whole_of store records input = finished (tellAll (toldOf (beginning (length records)) store (begunRecords records) []) (lines_of input))
+unfolding finished tell_all lines_from beginning
+whole_of store records input = finished (tell_all (told_of (beginning (length records)) store (begun_records records) []) (lines_of input))
 
 -- and the text that is written, byte for byte
-unfoldable pub outputOf : (store records input : List ℕ) → List ℕ
+unfoldable pub output_of : (store records input : List ℕ) → List ℕ
 unfolding whole_of
-outputOf store records input = (whole_of store records input).text
+output_of store records input = (whole_of store records input).text
 
 -- ---- that input fed byte by byte, and closed, is the whole
 
@@ -49,7 +49,7 @@ outputOf store records input = (whole_of store records input).text
 Quiet : Left → Type 0
 Quiet l = (seq : Seq) → l.said.replay.waiting ≡ Payload seq → l.said.answer ≡ Nothing
 
-quiet-ended : (number : ℕ) (h : Recorded) (store : List ℕ) → Quiet (endedWith number h store)
+quiet-ended : (number : ℕ) (h : Recorded) (store : List ℕ) → Quiet (ended_with number h store)
 unfolding Quiet ended
 quiet-ended number h store seq e = let z : ◌≡◌ {A = ℕ} 0 1 = cc in absurd (omega arith)
 
@@ -58,16 +58,16 @@ unfolding answer_of received Quiet
 quiet r store records line =
     let h = recorded r.state records in
     every-answer Quiet h store line (λ number. quiet-ended number h store)
-    (λ msg seq bytes few. quiet-ended _ _ (receiveStore r.state store records 0 msg seq.0 bytes)) (λ seq n e. refl) r.waiting
+    (λ msg seq bytes few. quiet-ended _ _ (receive_store r.state store records 0 msg seq.0 bytes)) (λ seq n e. refl) r.waiting
 
 -- an absent payload, told with the last line or after it
-absent-told : (w : Waiting) (l : Left) (text : List ℕ) → l.said.replay.waiting ≡ w → Quiet l → toldAfter text (absentOf l) ≡ finished (toldAfter text l)
-unfolding absentOf finished Quiet
-absent-told Frame l text e q = simp e (ap (toldOf l.said.replay l.store l.records) (sym (append-nil (text ++ saidBy l.said.answer))))
+absent-told : (w : Waiting) (l : Left) (text : List ℕ) → l.said.replay.waiting ≡ w → Quiet l → told_after text (absent_of l) ≡ finished (told_after text l)
+unfolding absent_of finished Quiet
+absent-told Frame l text e q = simp e (ap (told_of l.said.replay l.store l.records) (sym (append-nil (text ++ said_by l.said.answer))))
 absent-told (Payload seq) l text e q =
     let n = q seq e in
-    let then = endedWith 20 (recorded l.said.replay.state l.records) l.store in
-    simp (e, n) (ap (λ x. toldAfter x then) (sym (append-nil text)))
+    let then = ended_with 20 (recorded l.said.replay.state l.records) l.store in
+    simp (e, n) (ap (λ x. told_after x then) (sym (append-nil text)))
 
 -- what the buffer and its count carry of a line
 record Carries (line : List ℕ) (count : ℕ) (l : List ℕ) : Type 0 where
@@ -91,8 +91,8 @@ full line count l k h =
     (λ t. let e = k.short (leb-true (length l) MAX_LINE t) in omega arith)
     (λ f. let e = leb-false (length l) MAX_LINE f in omega arith)
 
-carries-more : (line : List ℕ) (count : ℕ) (l : List ℕ) (b : ℕ) → Carries line count l → Carries (lineWith line count b) (countWith count) (l ++ (b ∷ []))
-unfolding lineWith countWith
+carries-more : (line : List ℕ) (count : ℕ) (l : List ℕ) (b : ℕ) → Carries line count l → Carries (line_with line count b) (count_with count) (l ++ (b ∷ []))
+unfolding line_with count_with
 carries-more line count l b k =
     let len : length (l ++ (b ∷ [])) ≡ length l + 1 = length-append l (b ∷ []) in
     cases (ltb count MAX_LINE)
@@ -116,7 +116,7 @@ carries-more line count l b k =
 
 -- the end of the carried line is the line
 module _ (t : Told) (line : List ℕ) (count : ℕ) (l : List ℕ) (k : Carries line count l) where
-  carried-left : lineLeft t.replay t.store t.records line count ≡ answer_of t.replay t.store t.records l
+  carried-left : line_left t.replay t.store t.records line count ≡ answer_of t.replay t.store t.records l
   carried-left =
       cases (leb (length l) MAX_LINE)
       (λ y.
@@ -130,9 +130,9 @@ module _ (t : Told) (line : List ℕ) (count : ℕ) (l : List ℕ) (k : Carries 
       line-long t.replay t.store t.records line count (k.long h)
       ∙ sym (long-answer t.replay t.store t.records l h))
 
-  carried-line : lineEnded (carryingWith t line count) ≡ carryingWith (tell t l) line 0
-  unfolding lineEnded tell
-  carried-line = ap (λ x. carryingWith (toldAfter t.text x) line 0) carried-left
+  carried-line : line_ended (carrying_with t line count) ≡ carrying_with (tell t l) line 0
+  unfolding line_ended tell
+  carried-line = ap (λ x. carrying_with (told_after t.text x) line 0) carried-left
 
   unempty : (length l ≡ 0 → ⊥) → count ≡ 0 → ⊥
   unempty h z =
@@ -140,22 +140,22 @@ module _ (t : Told) (line : List ℕ) (count : ℕ) (l : List ℕ) (k : Carries 
       (λ y. let e = k.short (leb-true (length l) MAX_LINE y) in h (omega arith))
       (λ n. let e = k.long (leb-false (length l) MAX_LINE n) in omega arith)
 
-  closed_none : length l ≡ 0 → closed (carryingWith t line count) ≡ finished t
+  closed_none : length l ≡ 0 → closed (carrying_with t line count) ≡ finished t
   unfolding closed last_of finished
   closed_none h =
       let none : count ≡ 0 = k.short (omega arith) ∙ h in
-      ap (λ x. toldAfter t.text (absentOf x)) (close-none (carryingWith t line count) none)
+      ap (λ x. told_after t.text (absent_of x)) (close-none (carrying_with t line count) none)
 
-  closed-last : (length l ≡ 0 → ⊥) → closed (carryingWith t line count) ≡ finished (tell t l)
+  closed-last : (length l ≡ 0 → ⊥) → closed (carrying_with t line count) ≡ finished (tell t l)
   unfolding closed last_of tell
   closed-last h =
       let a = answer_of t.replay t.store t.records l in
-      ap (λ x. toldAfter t.text (absentOf x)) (close-last (carryingWith t line count) (unempty h) ∙ carried-left)
+      ap (λ x. told_after t.text (absent_of x)) (close-last (carrying_with t line count) (unempty h) ∙ carried-left)
       ∙ absent-told a.said.replay.waiting a t.text refl (quiet t.replay t.store t.records l)
 
 closed-from : (t : Told) (line : List ℕ) (count : ℕ) (l input : List ℕ) → Carries line count l
-    → closed (fedBy (carryingWith t line count) input) ≡ finished (tellAll t (lines_from l input))
-unfolding fedBy byteFed lines_from tellAll
+    → closed (fed_by (carrying_with t line count) input) ≡ finished (tell_all t (lines_from l input))
+unfolding fed_by byte_fed lines_from tell_all
 closed-from t line count l [] k =
     cases (eqb (length l) 0)
     (λ y. closed_none t line count l k (eqb-true (length l) 0 y) ∙ simp y)
@@ -163,19 +163,19 @@ closed-from t line count l [] k =
 closed-from t line count l (b ∷ rest) k =
     cases (eqb b 10)
     (λ y.
-    let step : byteFed (carryingWith t line count) b ≡ lineEnded (carryingWith t line count) = simp y in
+    let step : byte_fed (carrying_with t line count) b ≡ line_ended (carrying_with t line count) = simp y in
     let lines : lines_from l (b ∷ rest) ≡ l ∷ lines_from [] rest = simp y in
-    ap (λ s. closed (fedBy s rest)) (step ∙ carried-line t line count l k)
+    ap (λ s. closed (fed_by s rest)) (step ∙ carried-line t line count l k)
     ∙ closed-from (tell t l) line 0 [] rest (carries-none line k.sized)
-    ∙ sym (ap (λ ls. finished (tellAll t ls)) lines))
+    ∙ sym (ap (λ ls. finished (tell_all t ls)) lines))
     (λ n.
-    let step : byteFed (carryingWith t line count) b ≡ carryingWith t (lineWith line count b) (countWith count) = simp n in
+    let step : byte_fed (carrying_with t line count) b ≡ carrying_with t (line_with line count b) (count_with count) = simp n in
     let lines : lines_from l (b ∷ rest) ≡ lines_from (l ++ (b ∷ [])) rest = simp n in
-    ap (λ s. closed (fedBy s rest)) step
-    ∙ closed-from t (lineWith line count b) (countWith count) (l ++ (b ∷ [])) rest (carries-more line count l b k)
-    ∙ sym (ap (λ ls. finished (tellAll t ls)) lines))
+    ap (λ s. closed (fed_by s rest)) step
+    ∙ closed-from t (line_with line count b) (count_with count) (l ++ (b ∷ [])) rest (carries-more line count l b k)
+    ∙ sym (ap (λ ls. finished (tell_all t ls)) lines))
 
 -- an input fed from the beginning, over any buffer of 2,080 bytes, and closed, is the whole: lines, replay, store and records
-pub fed-is-whole : (store records line input : List ℕ) → length line ≡ MAX_LINE → closed (fedBy (begunWith store records line) input) ≡ whole_of store records input
+pub fed-is-whole : (store records line input : List ℕ) → length line ≡ MAX_LINE → closed (fed_by (begun_with store records line) input) ≡ whole_of store records input
 unfolding whole_of begun
-fed-is-whole store records line input h = closed-from (begunWith store records line).told line 0 [] input (carries-none line h)
+fed-is-whole store records line input h = closed-from (begun_with store records line).told line 0 [] input (carries-none line h)

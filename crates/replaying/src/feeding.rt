@@ -1,12 +1,12 @@
 // Input in pieces: the unfinished line is carried along in a lent buffer, with a count of its bytes, and the text of the lines that end is
 // written to another.
 ghost use Rattle.std.specs.Prelude.{◌≡◌, ◌+◌, ◌≤◌, length, drop};
-ghost use Rattle.recording.specs.Lines.{untilFeed};
+ghost use Rattle.recording.specs.Lines.{until_feed};
 ghost use Rattle.text.specs.Put.{put_in};
 ghost use Rattle.replaying.specs.Writing.{LINE_TEXT};
 ghost use Rattle.replaying.specs.Line.{left};
-ghost use Rattle.replaying.specs.Feeding.{saidBy, lineWith, countWith, carriedLine, carriedCount, lineLeft, carrying, lastLine, last_of, feedOf, feedStore, feedRecords, feedLine, feedOut, closeOf, closeStore, closeRecords, closeOut};
-ghost use Rattle.replaying.specs.FeedLine.{fedAs};
+ghost use Rattle.replaying.specs.Feeding.{said_by, line_with, count_with, carried_line, carried_count, line_left, carrying, last_line, last_of, feed_of, feed_store, feed_records, feed_line, feed_out, close_of, close_store, close_records, close_out};
+ghost use Rattle.replaying.specs.FeedLine.{fed_as};
 
 use crate::lines::answer_line;
 use crate::session::{Answer, Answered, Replay, Session, Waiting};
@@ -17,7 +17,7 @@ use refusal::Refusal;
 use text::put;
 
 // Where a call left a piece: the session to go on with, how many of the piece's bytes were used, and how many bytes of text written.
-#[derive(Drop)]
+#[derive(Clone, Copy)]
 pub struct Fed {
     pub session: Session,
     pub used: usize,
@@ -25,14 +25,14 @@ pub struct Fed {
 }
 
 // Where the closing call left a session, and how many bytes of text it wrote.
-#[derive(Drop)]
+#[derive(Clone, Copy)]
 pub struct Closed {
     pub session: Session,
     pub wrote: usize,
 }
 
 // A count of bytes carried and a place in a piece.
-#[derive(Drop)]
+#[derive(Clone, Copy)]
 struct Place {
     count: usize,
     at: usize,
@@ -40,8 +40,8 @@ struct Place {
 
 // Carries one byte more. A count above 2,080 marks a line that is too long: its bytes are dropped.
 fn carry(line: &mut [u8; MAX_LINE], count: usize, b: u8) -> usize
-    ensures value { result ≡ countWith count }
-    ensures line_after { line.new ≡ lineWith line.old count b }
+    ensures value { result ≡ count_with count }
+    ensures line_after { line.new ≡ line_with line.old count b }
 {
     if count < MAX_LINE {
         line[count] = b;
@@ -52,9 +52,9 @@ fn carry(line: &mut [u8; MAX_LINE], count: usize, b: u8) -> usize
 
 // Carries the bytes of a piece from a place to the next line feed, or to the piece's end.
 fn gather(line: &mut [u8; MAX_LINE], count: usize, piece: &[u8], at: usize) -> Place
-    ensures count_value { result.count ≡ carriedCount count (untilFeed (drop at piece.now)) }
-    ensures at_value { result.at ≡ at + length (untilFeed (drop at piece.now)) }
-    ensures line_after { line.new ≡ carriedLine line.old count (untilFeed (drop at piece.now)) }
+    ensures count_value { result.count ≡ carried_count count (until_feed (drop at piece.now)) }
+    ensures at_value { result.at ≡ at + length (until_feed (drop at piece.now)) }
+    ensures line_after { line.new ≡ carried_line line.old count (until_feed (drop at piece.now)) }
 {
     let mut n = count;
     let mut i = at;
@@ -71,7 +71,7 @@ fn gather(line: &mut [u8; MAX_LINE], count: usize, piece: &[u8], at: usize) -> P
 
 // The end of the line that is carried.
 fn end_line(r: Replay, store: &mut [u8], records: &mut [u64], line: &[u8], count: usize) -> Answered
-    ensures { left result store.new records.new ≡ lineLeft r store.old records.old line.now count }
+    ensures { left result store.new records.new ≡ line_left r store.old records.old line.now count }
 {
     let state = r.state;
     if MAX_LINE < count {
@@ -86,8 +86,8 @@ fn end_line(r: Replay, store: &mut [u8], records: &mut [u64], line: &[u8], count
 // Writes an answer's line at a place, if there is one, and says where its text ends.
 fn show(answer: Answer, out: &mut [u8], at: usize) -> usize
     requires { at + LINE_TEXT ≤ length out.old }
-    ensures value { result ≡ at + length (saidBy answer) }
-    ensures out_after { out.new ≡ put_in (saidBy answer) out.old at }
+    ensures value { result ≡ at + length (said_by answer) }
+    ensures out_after { out.new ≡ put_in (said_by answer) out.old at }
 {
     match answer {
         Answer::Nothing => at,
@@ -101,7 +101,7 @@ fn show(answer: Answer, out: &mut [u8], at: usize) -> usize
 
 // What a call answers, made in one place for its three exits.
 fn fed_as(said: Answered, count: usize, used: usize, wrote: usize) -> Fed
-    ensures { result ≡ fedAs (record { replay = said.replay; count = count }) used wrote }
+    ensures { result ≡ fed_as (record { replay = said.replay; count = count }) used wrote }
 {
     let replay = said.replay;
     Fed {
@@ -122,11 +122,11 @@ pub fn feed(
     piece: &[u8],
     out: &mut [u8],
 ) -> Fed
-    ensures value { result ≡ feedOf (carrying session store.old records.old line.old) piece.now (length out.old) }
-    ensures store_after { store.new ≡ feedStore (carrying session store.old records.old line.old) piece.now (length out.old) }
-    ensures records_after { records.new ≡ feedRecords (carrying session store.old records.old line.old) piece.now (length out.old) }
-    ensures line_after { line.new ≡ feedLine (carrying session store.old records.old line.old) piece.now (length out.old) }
-    ensures out_after { out.new ≡ feedOut (carrying session store.old records.old line.old) piece.now out.old }
+    ensures value { result ≡ feed_of (carrying session store.old records.old line.old) piece.now (length out.old) }
+    ensures store_after { store.new ≡ feed_store (carrying session store.old records.old line.old) piece.now (length out.old) }
+    ensures records_after { records.new ≡ feed_records (carrying session store.old records.old line.old) piece.now (length out.old) }
+    ensures line_after { line.new ≡ feed_line (carrying session store.old records.old line.old) piece.now (length out.old) }
+    ensures out_after { out.new ≡ feed_out (carrying session store.old records.old line.old) piece.now out.old }
 {
     let first = session.replay;
     let mut said = Answered {
@@ -158,7 +158,7 @@ pub fn feed(
 
 // What the last line answers, if there is one.
 fn last_line(session: Session, store: &mut [u8], records: &mut [u64], line: &[u8]) -> Answered
-    ensures { left result store.new records.new ≡ lastLine (carrying session store.old records.old line.now) }
+    ensures { left result store.new records.new ≡ last_line (carrying session store.old records.old line.now) }
 {
     let replay = session.replay;
     let count = session.count;
@@ -193,10 +193,10 @@ pub fn close(
     line: &[u8; MAX_LINE],
     out: &mut [u8; LINE_TEXT],
 ) -> Closed
-    ensures value { result ≡ closeOf (carrying session store.old records.old line.now) }
-    ensures store_after { store.new ≡ closeStore (carrying session store.old records.old line.now) }
-    ensures records_after { records.new ≡ closeRecords (carrying session store.old records.old line.now) }
-    ensures out_after { out.new ≡ closeOut (carrying session store.old records.old line.now) out.old }
+    ensures value { result ≡ close_of (carrying session store.old records.old line.now) }
+    ensures store_after { store.new ≡ close_store (carrying session store.old records.old line.now) }
+    ensures records_after { records.new ≡ close_records (carrying session store.old records.old line.now) }
+    ensures out_after { out.new ≡ close_out (carrying session store.old records.old line.now) out.old }
 {
     let last = end_input(session, store, records, line);
     let answer = last.answer;

@@ -1,4 +1,6 @@
 // The replay: lines of hexadecimal frames, received by one engine, and an answer for each frame.
+#![tactic(auto)]
+
 pub mod feeding;
 pub mod lines;
 pub mod session;

@@ -1,8 +1,8 @@
 // What one line does.
 ghost use Rattle.std.specs.Prelude.{◌≡◌};
-ghost use Rattle.engine.specs.Answer.{outcomeTold};
+ghost use Rattle.engine.specs.Answer.{outcome_told};
 ghost use Rattle.replaying.specs.Taking.{recorded};
-ghost use Rattle.replaying.specs.Line.{left, received, afterReliable, afterMessage, afterReading, afterPayload, answer_of};
+ghost use Rattle.replaying.specs.Line.{left, received, after_reliable, after_message, after_reading, after_payload, answer_of};
 
 use crate::session::{Answer, Answered, Replay, Waiting};
 use crate::taking::end_frame;
@@ -15,7 +15,7 @@ use seq::Seq;
 use text::HexRun;
 
 fn outcome_number(outcome: Outcome) -> u8
-    ensures { result ≡ (outcomeTold outcome).number }
+    ensures { result ≡ (outcome_told outcome).number }
 {
     match outcome {
         Outcome::Done => 0,
@@ -48,7 +48,7 @@ fn answer_reliable(
     msg: ReliableMsg,
     seq: Seq,
 ) -> Answered
-    ensures { left result store.new records.new ≡ afterReliable (recorded s records.old) store.old msg seq }
+    ensures { left result store.new records.new ≡ after_reliable (recorded s records.old) store.old msg seq }
 {
     match msg {
         ReliableMsg::Data => Answered {
@@ -67,7 +67,7 @@ fn answer_reliable(
 
 // Only the reliable messages reach the engine.
 fn answer_message(s: State, store: &mut [u8], records: &mut [u64], msg: LinkMsg) -> Answered
-    ensures { left result store.new records.new ≡ afterMessage (recorded s records.old) store.old msg }
+    ensures { left result store.new records.new ≡ after_message (recorded s records.old) store.old msg }
 {
     let carried = ReliableMsg::from_link_msg(msg);
     match carried {
@@ -77,7 +77,7 @@ fn answer_message(s: State, store: &mut [u8], records: &mut [u64], msg: LinkMsg)
 }
 
 fn answer_reading(s: State, store: &mut [u8], records: &mut [u64], reading: Reading) -> Answered
-    ensures { left result store.new records.new ≡ afterReading (recorded s records.old) store.old reading }
+    ensures { left result store.new records.new ≡ after_reading (recorded s records.old) store.old reading }
 {
     match reading {
         Reading::No(e) => end_frame(e.number(), s, records),
@@ -93,7 +93,7 @@ fn answer_payload(
     seq: Seq,
     line: &[u8],
 ) -> Answered
-    ensures { left result store.new records.new ≡ afterPayload (recorded s records.old) store.old seq line.now }
+    ensures { left result store.new records.new ≡ after_payload (recorded s records.old) store.old seq line.now }
 {
     let mut bytes = [0u8; 1024];
     let HexRun::Count(n) = read_payload(line, &mut bytes) else {

@@ -1,6 +1,6 @@
 // What a replay keeps between two lines, what a line answers, and how a replay begins.
 ghost use Rattle.std.specs.Prelude.{◌≡◌, length};
-ghost use Rattle.replaying.specs.Session.{begun, begunRecords};
+ghost use Rattle.replaying.specs.Session.{begun, begun_records};
 
 use crate::sizes::{CELLS, RECEIVED_BYTES};
 use engine::State;
@@ -8,14 +8,14 @@ use link::MaxPing;
 use seq::Seq;
 
 // What the next line is.
-#[derive(Drop)]
+#[derive(Clone, Copy)]
 pub enum Waiting {
     Frame,
     // the payload of the Data with this number, whose frame was read
     Payload(Seq),
 }
 
-#[derive(Drop)]
+#[derive(Clone, Copy)]
 pub struct Replay {
     pub state: State,
     pub waiting: Waiting,
@@ -23,13 +23,13 @@ pub struct Replay {
 
 // What a replay is between two pieces of its input: a host passes it on as it came. The bytes of the unfinished line lie in the buffer
 // that the host lends; a count above 2,080 marks a line that is too long.
-#[derive(Drop)]
+#[derive(Clone, Copy)]
 pub struct Session {
     pub replay: Replay,
     pub count: usize,
 }
 
-#[derive(Drop)]
+#[derive(Clone, Copy)]
 pub enum Answer {
     // no frame has ended
     Nothing,
@@ -37,7 +37,7 @@ pub enum Answer {
     Line(u8, Seq),
 }
 
-#[derive(Drop)]
+#[derive(Clone, Copy)]
 pub struct Answered {
     pub answer: Answer,
     pub replay: Replay,
@@ -46,7 +46,7 @@ pub struct Answered {
 // A session, and its records, which are empty then. The round trip, the identity and the flags of link 0 reach no answer: nothing is sent here.
 pub fn begin(records: &mut [u64]) -> Session
     ensures value { result ≡ begun (length records.old) }
-    ensures records_after { records.new ≡ begunRecords records.old }
+    ensures records_after { records.new ≡ begun_records records.old }
 {
     let made = engine::fresh(Seq::ZERO, RECEIVED_BYTES as u32, CELLS as u32, records);
     let empty = made.state;

@@ -2,7 +2,7 @@
 ghost use Rattle.std.specs.Prelude.{◌≡◌};
 ghost use Rattle.link.specs.Sizes.{ACKS};
 ghost use Rattle.replaying.specs.Sizes.{CELLS};
-ghost use Rattle.replaying.specs.Taking.{isAck, isMessage, withoutAcks, recorded, withoutReady, withoutAll, ended};
+ghost use Rattle.replaying.specs.Taking.{is_ack, is_message, without_acks, recorded, without_ready, without_all, ended};
 
 use crate::session::{Answer, Answered, Replay, Waiting};
 use crate::sizes::CELLS;
@@ -10,7 +10,7 @@ use engine::{HandOut, State, TakeAck};
 use link::sizes::ACKS;
 
 fn is_ack(answer: TakeAck) -> bool
-    ensures { result ≡ isAck answer }
+    ensures { result ≡ is_ack answer }
 {
     match answer {
         TakeAck::Number(_) => true,
@@ -19,7 +19,7 @@ fn is_ack(answer: TakeAck) -> bool
 }
 
 fn is_message(answer: HandOut) -> bool
-    ensures { result ≡ isMessage answer }
+    ensures { result ≡ is_message answer }
 {
     match answer {
         HandOut::Message(_, _, _) => true,
@@ -29,7 +29,7 @@ fn is_message(answer: HandOut) -> bool
 
 // Takes every waiting ack of link 0: there are at most ACKS. Where none waits the engine isn't asked, which would judge the whole state.
 fn take_acks(s: State) -> State
-    ensures { result ≡ withoutAcks ACKS s }
+    ensures { result ≡ without_acks ACKS s }
 {
     let mut out = s;
     let mut left: usize = ACKS;
@@ -51,7 +51,7 @@ fn take_acks(s: State) -> State
 
 // Takes every ready message: there are at most CELLS. Nothing is ready where the oldest number is the next expected.
 fn take_ready(s: State, records: &mut [u64]) -> State
-    ensures { recorded result records.new ≡ withoutReady CELLS (recorded s records.old) }
+    ensures { recorded result records.new ≡ without_ready CELLS (recorded s records.old) }
 {
     let mut out = s;
     let mut left: usize = CELLS;
@@ -74,7 +74,7 @@ fn take_ready(s: State, records: &mut [u64]) -> State
 // The end of a frame: what is to be taken is taken, and the frame gets its line.
 pub fn end_frame(number: u8, s: State, records: &mut [u64]) -> Answered
     ensures value { result ≡ ended number (recorded s records.old) }
-    ensures records_after { records.new ≡ (withoutAll (recorded s records.old)).records }
+    ensures records_after { records.new ≡ (without_all (recorded s records.old)).records }
 {
     let state = take_ready(take_acks(s), records);
     let rx = state.rx;

@@ -1,6 +1,6 @@
 // An answer's line of text.
 ghost use Rattle.std.specs.Prelude.{◌≡◌};
-ghost use Rattle.text.specs.Hex.{hexDigit};
+ghost use Rattle.text.specs.Hex.{hex_digit};
 ghost use Rattle.replaying.specs.Writing.{text_of};
 
 use seq::Seq;
@@ -11,7 +11,7 @@ pub const LINE_TEXT: usize = 12;
 
 // The digit of a number's last four bits.
 fn digit(n: u32) -> u8
-    ensures { result ≡ hexDigit n }
+    ensures { result ≡ hex_digit n }
 {
     hex_digit((n % 16) as u8)
 }

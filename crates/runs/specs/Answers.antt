@@ -12,16 +12,16 @@ answer n a b c = record { number = n; first = a; second = b; third = c }
 abbrev pub answer_of : Told → Answer
 answer_of t = answer t.number (get_or t.values 0 0) (get_or t.values 1 0) (get_or t.values 2 0)
 
-abbrev pub answerWords : Told → List ℕ
-answerWords t = t.number ∷ get_or t.values 0 0 ∷ get_or t.values 1 0 ∷ get_or t.values 2 0 ∷ []
+abbrev pub answer_words : Told → List ℕ
+answer_words t = t.number ∷ get_or t.values 0 0 ∷ get_or t.values 1 0 ∷ get_or t.values 2 0 ∷ []
 
 -- words that are no call
-abbrev pub noTold : Told
-noTold = record { number = 20; values = [] }
+abbrev pub no_told : Told
+no_told = record { number = 20; values = [] }
 
-abbrev pub toldOf : Asked → Holding → Told
-toldOf (It call) h = told call h
-toldOf NoCall h = noTold
+abbrev pub told_of : Asked → Holding → Told
+told_of (It call) h = told call h
+told_of NoCall h = no_told
 
 abbrev pub next_of : Asked → Holding → Holding
 next_of (It call) h = next call h

@@ -5,17 +5,17 @@ use Rattle.std.proofs.Math.Path.{subst}
 use borrow.Table.Steps.{cases}
 use Rattle.refusal.specs.Tests.{split}
 use Rattle.engine.specs.declared.state.Receiving.{Receiving}
-use Rattle.engine.specs.Decide.{soundb, recordsb, soundWithb, sound-true, records-sound, records-true}
-use Rattle.engine.specs.Fields.{withBytes}
+use Rattle.engine.specs.Decide.{soundb, recordsb, sound_withb, sound-true, records-sound, records-true}
+use Rattle.engine.specs.Fields.{with_bytes}
 use Rattle.engine.specs.Received.{table_of}
 use Rattle.engine.specs.Sound.{SoundRecords}
-use Rattle.engine.specs.Unconfirming.{unconfirmedState, removedState}
-use Rattle.engine.specs.Flushing.{flushedState}
-use Rattle.engine.specs.Sending.{toldRx, sentState}
-use Rattle.engine.specs.Resending.{resentState}
-use Rattle.engine.specs.Acking.{ackedState}
-use Rattle.engine.specs.Receiving.{repeatedState}
-use Rattle.engine.specs.HandingOut.{takenAckState}
+use Rattle.engine.specs.Unconfirming.{unconfirmed_state, removed_state}
+use Rattle.engine.specs.Flushing.{flushed_state}
+use Rattle.engine.specs.Sending.{told_rx, sent_state}
+use Rattle.engine.specs.Resending.{resent_state}
+use Rattle.engine.specs.Acking.{acked_state}
+use Rattle.engine.specs.Receiving.{repeated_state}
+use Rattle.engine.specs.HandingOut.{taken_ack_state}
 use Rattle.laws.specs.Good.{Good}
 use Rattle.laws.specs.Calls.{Call, Add, Remove, Confirm, Unconfirm, Block, Mark, Ping, Pong, Flush, Send, Resend, Ack, Receive, Show, Take, Due, Close, TakeAck, EarliestConfirmTimeout, Holding, table, again, next, Typed, done, Passed}
 use Rattle.laws.specs.Passed.{next-keeps, passed}
@@ -29,9 +29,9 @@ use Rattle.receiving_in_place.specs.ReadyWith.{ReadyWith}
 use Rattle.runs.specs.declared.given.Given.{Given}
 use Rattle.runs.specs.declared.given.Given.TheVariants.{Message, Nothing}
 use Rattle.runs.specs.declared.answers.Answer.{Answer}
-use Rattle.runs.specs.Asked.{Asked, It, NoCall, given, withinb, linkAsked, sendAsked, sendingAsked, receiveAsked, receivingAsked, readerAsked, asked_of, named, parted, slot_of}
+use Rattle.runs.specs.Asked.{Asked, It, NoCall, given, withinb, link_asked, send_asked, sending_asked, receive_asked, receiving_asked, reader_asked, asked_of, named, parted, slot_of}
 use Rattle.runs.specs.Answers.{next_of}
-use Rattle.runs.specs.Did.{holdingOf, Did}
+use Rattle.runs.specs.Did.{holding_of, Did}
 
 -- ---- the numbers of a call that is asked for have 32 bits
 
@@ -48,8 +48,8 @@ receive-typed (Message msg) slot n from len bytes = cases (withinb from len (len
 receive-typed Nothing slot n from len bytes = tt
 
 module _ (xs bytes : List ℕ) where
-  link-typed : TypedAsked (linkAsked xs)
-  unfolding linkAsked
+  link-typed : TypedAsked (link_asked xs)
+  unfolding link_asked
   link-typed =
       cases (eqb (get_or xs 0 0) 1) (λ t. simp t tt) (λ f. simp f
       (cases (eqb (get_or xs 0 0) 2) (λ t. simp t tt) (λ f. simp f
@@ -61,12 +61,12 @@ module _ (xs bytes : List ℕ) where
       (cases (eqb (get_or xs 0 0) 8) (λ t. simp t tt) (λ f. simp f
       (tt))))))))))))))))
 
-  send-asked-typed : TypedAsked (sendAsked xs bytes)
-  unfolding sendAsked
+  send-asked-typed : TypedAsked (send_asked xs bytes)
+  unfolding send_asked
   send-asked-typed = send-typed (given (get_or xs 3 0) (get_or xs 4 0)) (slot_of (get_or xs 1 0)) (get_or xs 2 0) (get_or xs 5 0) (get_or xs 6 0) bytes
 
-  sending-typed : TypedAsked (sendingAsked xs bytes)
-  unfolding sendingAsked
+  sending-typed : TypedAsked (sending_asked xs bytes)
+  unfolding sending_asked
   sending-typed =
       cases (eqb (get_or xs 0 0) 10) (λ t. simp t send-asked-typed) (λ f. simp f
       (cases (eqb (get_or xs 0 0) 12) (λ t. simp t (cases (ltb (get_or xs 3 0) 4294967296) (λ a. simp a (ltb-true (get_or xs 3 0) 4294967296 a)) (λ a. simp a tt))) (λ f. simp f
@@ -74,23 +74,23 @@ module _ (xs bytes : List ℕ) where
       (cases (eqb (get_or xs 0 0) 11) (λ t. simp t (cases (ltb (get_or xs 3 0) 4294967296) (λ a. simp a (ltb-true (get_or xs 3 0) 4294967296 a)) (λ a. simp a tt))) (λ f. simp f
       (tt))))))))
 
-  receive-asked-typed : TypedAsked (receiveAsked xs bytes)
-  unfolding receiveAsked
+  receive-asked-typed : TypedAsked (receive_asked xs bytes)
+  unfolding receive_asked
   receive-asked-typed =
       cases (ltb (get_or xs 3 0) 4294967296)
       (λ a. simp a (receive-typed (given (get_or xs 2 0) (get_or xs 4 0)) (slot_of (get_or xs 1 0)) (get_or xs 3 0) (get_or xs 5 0) (get_or xs 6 0) bytes))
       (λ a. simp a tt)
 
-  receiving-typed : TypedAsked (receivingAsked xs bytes)
-  unfolding receivingAsked
+  receiving-typed : TypedAsked (receiving_asked xs bytes)
+  unfolding receiving_asked
   receiving-typed =
       cases (eqb (get_or xs 0 0) 13) (λ t. simp t receive-asked-typed) (λ f. simp f
       (cases (eqb (get_or xs 0 0) 14) (λ t. simp t tt) (λ f. simp f
       (cases (eqb (get_or xs 0 0) 15) (λ t. simp t tt) (λ f. simp f
       (tt))))))
 
-  reader-typed : TypedAsked (readerAsked xs)
-  unfolding readerAsked
+  reader-typed : TypedAsked (reader_asked xs)
+  unfolding reader_asked
   reader-typed =
       cases (eqb (get_or xs 0 0) 16) (λ t. simp t tt) (λ f. simp f
       (cases (eqb (get_or xs 0 0) 17) (λ t. simp t tt) (λ f. simp f
@@ -111,7 +111,7 @@ abbrev Recorded : Holding → Type 0
 Recorded h = length h.records ≡ h.state.rx.cells → SoundRecords (table h)
 
 -- whatever is taken and untold
-told-recorded : (rx : Receiving) (untold : ℕ) (records : List ℕ) → SoundRecords (table_of rx records) → SoundRecords (table_of (withBytes rx rx.rxed_reliable_size untold) records)
+told-recorded : (rx : Receiving) (untold : ℕ) (records : List ℕ) → SoundRecords (table_of rx records) → SoundRecords (table_of (with_bytes rx rx.rxed_reliable_size untold) records)
 told-recorded rx untold records r = record {
   long = r.long;
   untaken = r.untaken;
@@ -124,7 +124,7 @@ told-recorded rx untold records r = record {
 }
 
 done-recorded : (c : Call) (h : Holding) → Good h.state → Passed c h → Recorded h → Recorded (done c h)
-unfolding unconfirmedState removedState flushedState sentState toldRx resentState ackedState repeatedState takenAckState
+unfolding unconfirmed_state removed_state flushed_state sent_state told_rx resent_state acked_state repeated_state taken_ack_state
 done-recorded (Add id roundtrip max blocked unconfirmed) h g p r = r
 done-recorded (Remove slot) h g p r = r
 done-recorded (Confirm slot) h g p r = r
@@ -159,18 +159,18 @@ both true b x y = y
 both false b x y = x
 
 module _ (w s v c : List ℕ) (r : ReadyWith w c) where
-  held-recorded : Recorded (holdingOf w s v c)
-  unfolding soundWithb
+  held-recorded : Recorded (holding_of w s v c)
+  unfolding sound_withb
   held-recorded e = records-sound (table_of (state_of w).rx c) (split (soundb (state_of w)) (recordsb (table_of (state_of w).rx c)) (r.recorded e)).1
 
   -- what a call leaves may be given to the next
   pub did-ready : (asked : Asked) (w2 s2 v2 c2 : List ℕ) (a : Answer) → TypedAsked asked → Words64 w → length w2 ≡ WORDS → Did asked w s v c w2 s2 v2 c2 a → ReadyWith w2 c2
-  unfolding soundWithb
+  unfolding sound_withb
   did-ready asked w2 s2 v2 c2 a t small long d =
-      let h = holdingOf w s v c in
+      let h = holding_of w s v c in
       let g : Good h.state = record { shaped = shaped-words w r.ready.long small; sound = ready-sound w r.ready } in
-      let g2 : Good (holdingOf w2 s2 v2 c2).state = subst (λ (k : Holding). Good k.state) (sym d.held) (asked-good asked h t g) in
-      let r2 : Recorded (holdingOf w2 s2 v2 c2) = subst Recorded (sym d.held) (asked-recorded asked h t g held-recorded) in
+      let g2 : Good (holding_of w2 s2 v2 c2).state = subst (λ (k : Holding). Good k.state) (sym d.held) (asked-good asked h t g) in
+      let r2 : Recorded (holding_of w2 s2 v2 c2) = subst Recorded (sym d.held) (asked-recorded asked h t g held-recorded) in
       let judged = sound-true (state_of w2) g2.sound in
       record {
         ready = record { long = long; judged = judged };

@@ -6,7 +6,7 @@ use Rattle.std.proofs.lemmas.Bool.{eqb-false}
 use Rattle.std.proofs.lemmas.List.Edits.{sets}
 use Rattle.refusal.specs.Answers.{Told}
 use Rattle.refusal.specs.Tests.{split}
-use Rattle.engine.specs.Decide.{soundb, recordsb, soundWithb}
+use Rattle.engine.specs.Decide.{soundb, recordsb, sound_withb}
 use Rattle.engine.specs.Received.{table_of}
 use Rattle.words.specs.Layout.{WORDS}
 use Rattle.words.specs.Meaning.{state_of}
@@ -16,8 +16,8 @@ use Rattle.receiving_in_place.specs.ReadyWith.{ReadyWith}
 use Rattle.laws.specs.Calls.{Holding}
 use Rattle.runs.specs.declared.answers.Answer.{Answer}
 use Rattle.runs.specs.Asked.{asked_of}
-use Rattle.runs.specs.Answers.{answer_of, answerWords, toldOf, next_of}
-use Rattle.runs.specs.Did.{holdingOf, Did}
+use Rattle.runs.specs.Answers.{answer_of, answer_words, told_of, next_of}
+use Rattle.runs.specs.Did.{holding_of, Did}
 
 -- what is held, and the answers so far
 pub record Run : Type 0 where
@@ -25,7 +25,7 @@ pub record Run : Type 0 where
   pub answers : List ℕ
 
 abbrev pub run_of : (words sent received records answers : List ℕ) → Run
-run_of w s v c a = record { held = holdingOf w s v c; answers = a }
+run_of w s v c a = record { held = holding_of w s v c; answers = a }
 
 -- an answer's four words, from a place on
 unfoldable pub put : List ℕ → ℕ → Answer → List ℕ
@@ -40,7 +40,7 @@ unfoldable pub stepped : (calls bytes : List ℕ) → ℕ → Run → Run
 unfolding put asked_of
 stepped calls bytes i x =
     let asked = asked_of (call_at calls i) bytes in
-    record { held = next_of asked x.held; answers = put x.answers (i * 4) (answer_of (toldOf asked x.held)) }
+    record { held = next_of asked x.held; answers = put x.answers (i * 4) (answer_of (told_of asked x.held)) }
 
 -- so many calls, from the first on
 unfoldable pub ran : ℕ → (calls bytes : List ℕ) → Run → Run
@@ -54,7 +54,7 @@ room_for calls answers = cond (leb (calls / 8) (answers / 4)) (calls / 8) (answe
 
 -- the words are sound, and records that are as many as the cells are so with them
 unfoldable pub readyb : (words records : List ℕ) → Bool
-readyb w c = cond (eqb (length c) (state_of w).rx.cells) (soundWithb (state_of w) c) (soundb (state_of w))
+readyb w c = cond (eqb (length c) (state_of w).rx.cells) (sound_withb (state_of w) c) (soundb (state_of w))
 
 -- between two calls: words and records are those of a sound state, no length is another, and what is held and written is what the calls so far leave
 pub record Going (w0 s0 v0 c0 a0 calls bytes : List ℕ) (count i : ℕ) (w s v c a : List ℕ) : Type 0 where
@@ -71,13 +71,13 @@ pub record Going (w0 s0 v0 c0 a0 calls bytes : List ℕ) (count i : ℕ) (w s v 
 -- ---- laws
 
 pub unlike-ready : (w c : List ℕ) → (length w ≡ WORDS → ⊥) → false ≡ readyb w c
-unfolding readyb soundWithb
+unfolding readyb sound_withb
 unlike-ready w c ne =
     let bad = unlike-words w ne in
     cases (eqb (length c) (state_of w).rx.cells) (λ t. simp (t, bad)) (λ f. simp (f, bad))
 
 pub ready-true : (w c : List ℕ) → readyb w c ≡ true → ReadyWith w c
-unfolding readyb soundWithb
+unfolding readyb sound_withb
 ready-true w c e =
     cases (eqb (length c) (state_of w).rx.cells)
     (λ t.
@@ -109,7 +109,7 @@ room_fits calls answers =
     (λ f. let l = leb-false (calls / 8) (answers / 4) f in simp f (omega arith, b))
 
 -- what is written is the answer's words, in order
-pub put-words : (a : List ℕ) (at : ℕ) (t : Told) → put a at (answer_of t) ≡ sets a at (answerWords t)
+pub put-words : (a : List ℕ) (at : ℕ) (t : Told) → put a at (answer_of t) ≡ sets a at (answer_words t)
 unfolding put
 put-words a at t =
     let one : at + 1 ≡ suc at = add-one at in

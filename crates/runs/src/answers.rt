@@ -1,19 +1,19 @@
 // What a call answers: its number and three values, 0 where there is none.
 ghost use Rattle.std.specs.Prelude.{◌≡◌};
 ghost use Rattle.refusal.specs.Answers.{flag, refused};
-ghost use Rattle.engine.specs.Answer.{outcomeTold};
-ghost use Rattle.engine.specs.Deadlines.{confirmTimeoutTold};
-ghost use Rattle.engine.specs.HandingOut.{dueTold, handOutTold, takeAckTold};
-ghost use Rattle.engine.specs.Links.{addTold};
-ghost use Rattle.engine.specs.Resending.{resendTold};
-ghost use Rattle.engine.specs.Sending.{sendTold};
-ghost use Rattle.runs.specs.Answers.{answer_of, answer, noTold};
+ghost use Rattle.engine.specs.Answer.{outcome_told};
+ghost use Rattle.engine.specs.Deadlines.{confirm_timeout_told};
+ghost use Rattle.engine.specs.HandingOut.{due_told, hand_out_told, take_ack_told};
+ghost use Rattle.engine.specs.Links.{add_told};
+ghost use Rattle.engine.specs.Resending.{resend_told};
+ghost use Rattle.engine.specs.Sending.{send_told};
+ghost use Rattle.runs.specs.Answers.{answer_of, answer, no_told};
 
 use engine::{AddAnswer, ConfirmTimeout, Due, HandOut, Outcome, ResendAnswer, SendAnswer, TakeAck};
 use refusal::Refusal;
 use seq::Seq;
 
-#[derive(Drop)]
+#[derive(Clone, Copy)]
 pub struct Answer {
     pub number: u64,
     pub first: u64,
@@ -45,7 +45,7 @@ fn refused(e: Refusal) -> Answer
 
 // Words that are no call.
 pub(crate) fn no_call() -> Answer
-    ensures { result ≡ answer_of noTold }
+    ensures { result ≡ answer_of no_told }
 {
     Answer {
         number: 20,
@@ -68,7 +68,7 @@ fn flag(set: bool) -> u64
 }
 
 pub(crate) fn tell(outcome: Outcome) -> Answer
-    ensures { result ≡ answer_of (outcomeTold outcome) }
+    ensures { result ≡ answer_of (outcome_told outcome) }
 {
     match outcome {
         Outcome::Done => done(0, 0, 0),
@@ -78,7 +78,7 @@ pub(crate) fn tell(outcome: Outcome) -> Answer
 
 // The slot.
 pub(crate) fn tell_added(answer: AddAnswer) -> Answer
-    ensures { result ≡ answer_of (addTold answer) }
+    ensures { result ≡ answer_of (add_told answer) }
 {
     match answer {
         AddAnswer::No(e) => refused(e),
@@ -88,7 +88,7 @@ pub(crate) fn tell_added(answer: AddAnswer) -> Answer
 
 // The number.
 pub(crate) fn tell_sent(answer: SendAnswer) -> Answer
-    ensures { result ≡ answer_of (sendTold answer) }
+    ensures { result ≡ answer_of (send_told answer) }
 {
     match answer {
         SendAnswer::No(e) => refused(e),
@@ -98,7 +98,7 @@ pub(crate) fn tell_sent(answer: SendAnswer) -> Answer
 
 // The number.
 pub(crate) fn tell_ack(answer: TakeAck) -> Answer
-    ensures { result ≡ answer_of (takeAckTold answer) }
+    ensures { result ≡ answer_of (take_ack_told answer) }
 {
     match answer {
         TakeAck::No(e) => refused(e),
@@ -108,7 +108,7 @@ pub(crate) fn tell_ack(answer: TakeAck) -> Answer
 
 // Kind, count and length.
 pub(crate) fn tell_resent(answer: ResendAnswer) -> Answer
-    ensures { result ≡ answer_of (resendTold answer) }
+    ensures { result ≡ answer_of (resend_told answer) }
 {
     match answer {
         ResendAnswer::No(e) => refused(e),
@@ -118,7 +118,7 @@ pub(crate) fn tell_resent(answer: ResendAnswer) -> Answer
 
 // Kind, number and length.
 pub(crate) fn tell_message(answer: HandOut) -> Answer
-    ensures { result ≡ answer_of (handOutTold answer) }
+    ensures { result ≡ answer_of (hand_out_told answer) }
 {
     match answer {
         HandOut::No(e) => refused(e),
@@ -128,7 +128,7 @@ pub(crate) fn tell_message(answer: HandOut) -> Answer
 
 // 1 or 0.
 pub(crate) fn tell_due(answer: Due) -> Answer
-    ensures { result ≡ answer_of (dueTold answer) }
+    ensures { result ≡ answer_of (due_told answer) }
 {
     match answer {
         Due::No(e) => refused(e),
@@ -138,7 +138,7 @@ pub(crate) fn tell_due(answer: Due) -> Answer
 
 // Slot, flushed or not, and the deadline; nothing where no packet is named.
 pub(crate) fn tell_timeout(answer: ConfirmTimeout) -> Answer
-    ensures { result ≡ answer_of (confirmTimeoutTold answer) }
+    ensures { result ≡ answer_of (confirm_timeout_told answer) }
 {
     match answer {
         ConfirmTimeout::No(e) => refused(e),

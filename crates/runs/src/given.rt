@@ -1,7 +1,7 @@
 // What a call's words say.
 ghost use Rattle.std.specs.Prelude.{◌≡◌};
-ghost use Rattle.words.specs.Meaning.{is_set, maxPingOf};
-ghost use Rattle.runs.specs.Asked.{slot_of, plainGiven, given, withinb};
+ghost use Rattle.words.specs.Meaning.{is_set, max_ping_of};
+ghost use Rattle.runs.specs.Asked.{slot_of, plain_given, given, withinb};
 
 use link::MaxPing;
 use msg::{LinkMsg, ReliableMsg};
@@ -28,7 +28,7 @@ pub(crate) fn is_set(word: u64) -> bool
 
 // The longest round trip that a link may have, where it has one.
 pub(crate) fn max_ping_of(some: u64, value: u64) -> MaxPing
-    ensures { result ≡ maxPingOf some value }
+    ensures { result ≡ max_ping_of some value }
 {
     if some == 0 {
         return MaxPing::Unlimited;
@@ -48,7 +48,7 @@ pub(crate) fn within(from: u64, len: u64, bytes: usize) -> bool
 }
 
 // A message, or none.
-#[derive(Drop)]
+#[derive(Clone, Copy)]
 pub enum Given {
     Message(ReliableMsg),
     Nothing,
@@ -56,7 +56,7 @@ pub enum Given {
 
 // The message that has no count.
 fn plain_given(kind: u64) -> Given
-    ensures { result ≡ plainGiven kind }
+    ensures { result ≡ plain_given kind }
 {
     if kind == LinkMsg::MSG_DATA as u64 {
         return Given::Message(ReliableMsg::Data);

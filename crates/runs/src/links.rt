@@ -1,10 +1,10 @@
 // The calls on links: adding one, and the plain changes of a row.
 ghost use Rattle.std.specs.Prelude.{◌≡◌, length, get_or};
-ghost use Rattle.seq.specs.Numbers.{seqOf};
-ghost use Rattle.words.specs.Meaning.{is_set, maxPingOf};
+ghost use Rattle.seq.specs.Numbers.{seq_of};
+ghost use Rattle.words.specs.Meaning.{is_set, max_ping_of};
 ghost use Rattle.words.specs.Ready.{Ready};
 ghost use Rattle.laws.specs.Calls.{Add, Mark};
-ghost use Rattle.runs.specs.Asked.{It, numbered, linkAsked};
+ghost use Rattle.runs.specs.Asked.{It, numbered, link_asked};
 ghost use Rattle.runs.specs.Did.{OnWords};
 
 use crate::answers::{Answer, no_call, tell, tell_added};
@@ -15,7 +15,7 @@ use seq::Seq;
 
 fn add_call(words: &mut [u64], call: &[u64]) -> Answer
     requires { Ready words.old × (length call.now ≡ 8) }
-    ensures { OnWords (It (Add (get_or call.now 1 0) (get_or call.now 2 0) (maxPingOf (get_or call.now 3 0) (get_or call.now 4 0)) (is_set (get_or call.now 5 0)) (is_set (get_or call.now 6 0)))) words.old words.new result }
+    ensures { OnWords (It (Add (get_or call.now 1 0) (get_or call.now 2 0) (max_ping_of (get_or call.now 3 0) (get_or call.now 4 0)) (is_set (get_or call.now 5 0)) (is_set (get_or call.now 6 0)))) words.old words.new result }
 {
     let max = max_ping_of(call[3], call[4]);
     let blocked = is_set(call[5]);
@@ -25,7 +25,7 @@ fn add_call(words: &mut [u64], call: &[u64]) -> Answer
 
 fn mark_call(words: &mut [u64], slot: u8, number: u64) -> Answer
     requires { Ready words.old }
-    ensures { OnWords (numbered number (It (Mark slot (seqOf number)))) words.old words.new result }
+    ensures { OnWords (numbered number (It (Mark slot (seq_of number)))) words.old words.new result }
 {
     if HALF <= number {
         return no_call();
@@ -36,7 +36,7 @@ fn mark_call(words: &mut [u64], slot: u8, number: u64) -> Answer
 // The calls 1 to 8.
 pub(crate) fn links_call(words: &mut [u64], call: &[u64]) -> Answer
     requires { Ready words.old × (length call.now ≡ 8) }
-    ensures { OnWords (linkAsked call.now) words.old words.new result }
+    ensures { OnWords (link_asked call.now) words.old words.new result }
 {
     let n = call[0];
     if n == 1 {

@@ -3,7 +3,7 @@ ghost use Rattle.std.specs.Prelude.{◌≡◌, length, get_or};
 ghost use Rattle.words.specs.Meaning.{is_set};
 ghost use Rattle.words.specs.Ready.{Ready};
 ghost use Rattle.laws.specs.Calls.{EarliestConfirmTimeout};
-ghost use Rattle.runs.specs.Asked.{It, timeoutIn, readerAsked};
+ghost use Rattle.runs.specs.Asked.{It, timeout_in, reader_asked};
 ghost use Rattle.runs.specs.Did.{OnWords};
 
 use crate::answers::{Answer, no_call, tell, tell_ack, tell_due, tell_timeout};
@@ -14,7 +14,7 @@ use sending_in_place::deadlines;
 
 fn deadline_call(words: &[u64], call: &[u64]) -> Answer
     requires { Ready words.now × (length call.now ≡ 8) }
-    ensures { OnWords (It (EarliestConfirmTimeout (timeoutIn call.now) (is_set (get_or call.now 6 0)))) words.now words.now result }
+    ensures { OnWords (It (EarliestConfirmTimeout (timeout_in call.now) (is_set (get_or call.now 6 0)))) words.now words.now result }
 {
     let timeout = AckTimeout {
         roundtrip_factor: call[1],
@@ -30,7 +30,7 @@ fn deadline_call(words: &[u64], call: &[u64]) -> Answer
 // The calls 16 to 19.
 pub(crate) fn reader_call(words: &mut [u64], call: &[u64]) -> Answer
     requires { Ready words.old × (length call.now ≡ 8) }
-    ensures { OnWords (readerAsked call.now) words.old words.new result }
+    ensures { OnWords (reader_asked call.now) words.old words.new result }
 {
     let n = call[0];
     if n == 16 {

@@ -2,7 +2,7 @@
 ghost use Rattle.std.specs.Prelude.{◌≡◌, ◌<◌, length, get_or};
 ghost use Rattle.receiving_in_place.specs.ReadyWith.{ReadyWith};
 ghost use Rattle.laws.specs.Calls.{Receive};
-ghost use Rattle.runs.specs.Asked.{It, parted, slot_of, receiveAsked, receivingAsked};
+ghost use Rattle.runs.specs.Asked.{It, parted, slot_of, receive_asked, receiving_asked};
 ghost use Rattle.runs.specs.Did.{OnReceived};
 
 use crate::answers::{Answer, no_call, tell, tell_message};
@@ -42,7 +42,7 @@ fn receive_call(
     bytes: &[u8],
 ) -> Answer
     requires { ReadyWith words.old records.old × (length call.now ≡ 8) }
-    ensures { OnReceived (receiveAsked call.now bytes.now) words.old received.old records.old words.new received.new records.new result }
+    ensures { OnReceived (receive_asked call.now bytes.now) words.old received.old records.old words.new received.new records.new result }
 {
     if HALF <= call[3] {
         return no_call();
@@ -63,7 +63,7 @@ pub(crate) fn receiving_call(
     bytes: &[u8],
 ) -> Answer
     requires { ReadyWith words.old records.old × (length call.now ≡ 8) }
-    ensures { OnReceived (receivingAsked call.now bytes.now) words.old received.old records.old words.new received.new records.new result }
+    ensures { OnReceived (receiving_asked call.now bytes.now) words.old received.old records.old words.new received.new records.new result }
 {
     let n = call[0];
     if n == 13 {

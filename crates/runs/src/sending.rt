@@ -2,7 +2,7 @@
 ghost use Rattle.std.specs.Prelude.{◌≡◌, length, get_or};
 ghost use Rattle.words.specs.Ready.{Ready};
 ghost use Rattle.laws.specs.Calls.{Ack, Resend, Send};
-ghost use Rattle.runs.specs.Asked.{It, numbered, parted, slot_of, sendAsked, sendingAsked};
+ghost use Rattle.runs.specs.Asked.{It, numbered, parted, slot_of, send_asked, sending_asked};
 ghost use Rattle.runs.specs.Did.{OnSent, OnWords};
 
 use crate::answers::{Answer, no_call, tell, tell_resent, tell_sent};
@@ -54,7 +54,7 @@ fn send_message(
 
 fn send_call(words: &mut [u64], sent: &mut [u8], call: &[u64], bytes: &[u8]) -> Answer
     requires { Ready words.old × (length call.now ≡ 8) }
-    ensures { OnSent (sendAsked call.now bytes.now) words.old sent.old words.new sent.new result }
+    ensures { OnSent (send_asked call.now bytes.now) words.old sent.old words.new sent.new result }
 {
     let given = message_given(call[3], call[4]);
     match given {
@@ -66,7 +66,7 @@ fn send_call(words: &mut [u64], sent: &mut [u8], call: &[u64], bytes: &[u8]) -> 
 // The calls 9 to 12: those of every message first.
 pub(crate) fn sending_call(words: &mut [u64], sent: &mut [u8], call: &[u64], bytes: &[u8]) -> Answer
     requires { Ready words.old × (length call.now ≡ 8) }
-    ensures { OnSent (sendingAsked call.now bytes.now) words.old sent.old words.new sent.new result }
+    ensures { OnSent (sending_asked call.now bytes.now) words.old sent.old words.new sent.new result }
 {
     let n = call[0];
     if n == 10 {

@@ -2,13 +2,13 @@
 use Rattle.std.specs.Prelude.{◌≡◌, ℕ}
 use Rattle.seq.specs.declared.Seq.{Seq}
 use Rattle.engine.specs.declared.state.Sending.{Sending}
-use Rattle.engine.specs.Acking.{sweepOf, sweptTx}
+use Rattle.engine.specs.Acking.{sweep_of, swept_tx}
 use Rattle.words.specs.declared.sending.SendingNumbers.{SendingNumbers}
-use Rattle.words.specs.Encoded.{numbersOf}
+use Rattle.words.specs.Encoded.{numbers_of}
 
 -- how many packets are left, the last number looked at, and the bytes that still wait
-abbrev pub sweptTo : SendingNumbers → ℕ → Seq → ℕ → SendingNumbers
-sweptTo n left last held = record {
+abbrev pub swept_to : SendingNumbers → ℕ → Seq → ℕ → SendingNumbers
+swept_to n left last held = record {
   tx_seq = n.tx_seq;
   txed_count = left;
   resend_count = n.resend_count;
@@ -20,7 +20,7 @@ sweptTo n left last held = record {
   write_closed = n.write_closed;
 }
 
-pub swept_as : (tx : Sending) (n : SendingNumbers) (left : ℕ) (last : Seq) (held : ℕ) → n ≡ numbersOf tx → sweepOf tx ≡ record { left = left; last = last; held = held }
-    → sweptTo n left last held ≡ numbersOf (sweptTx tx)
-unfolding sweptTx
+pub swept_as : (tx : Sending) (n : SendingNumbers) (left : ℕ) (last : Seq) (held : ℕ) → n ≡ numbers_of tx → sweep_of tx ≡ record { left = left; last = last; held = held }
+    → swept_to n left last held ≡ numbers_of (swept_tx tx)
+unfolding swept_tx
 swept_as tx n left last held same e = simp (same, e)

@@ -4,25 +4,25 @@ use Rattle.std.proofs.Common.{ap, arith}
 use Rattle.std.proofs.Math.Bool.{or-true, or-false}
 use Rattle.msg.specs.declared.reliable.ReliableMsg.{ReliableMsg}
 use Rattle.msg.specs.declared.reliable.ReliableMsg.TheVariants.{Data}
-use Rattle.msg.specs.Reliable.{isKind, MSG_SEND_FINISH}
+use Rattle.msg.specs.Reliable.{is_kind, MSG_SEND_FINISH}
 use Rattle.engine.specs.declared.state.Receiving.{Receiving}
 use Rattle.engine.specs.declared.state.Sending.{Sending}
-use Rattle.engine.specs.Fields.{withEnds, withBytes}
-use Rattle.engine.specs.Sending.{toldRx}
+use Rattle.engine.specs.Fields.{with_ends, with_bytes}
+use Rattle.engine.specs.Sending.{told_rx}
 
 -- whether sending has ended, once the message was sent
-abbrev pub finishedTx : Sending → ReliableMsg → Sending
-finishedTx tx msg = withEnds tx tx.txed_last_consumed (tx.send_finish_sent || isKind MSG_SEND_FINISH msg) tx.write_closed
+abbrev pub finished_tx : Sending → ReliableMsg → Sending
+finished_tx tx msg = with_ends tx tx.txed_last_consumed (tx.send_finish_sent || is_kind MSG_SEND_FINISH msg) tx.write_closed
 
 module _ (tx : Sending) (msg : ReliableMsg) where
-  pub finishes : isKind MSG_SEND_FINISH msg ≡ true → withEnds tx tx.txed_last_consumed true tx.write_closed ≡ finishedTx tx msg
+  pub finishes : is_kind MSG_SEND_FINISH msg ≡ true → with_ends tx tx.txed_last_consumed true tx.write_closed ≡ finished_tx tx msg
   finishes e = rw (e, or-true tx.send_finish_sent)
 
-  pub goes_on : isKind MSG_SEND_FINISH msg ≡ false → tx ≡ finishedTx tx msg
+  pub goes_on : is_kind MSG_SEND_FINISH msg ≡ false → tx ≡ finished_tx tx msg
   goes_on e = rw (e, or-false tx.send_finish_sent)
 
-pub data-untold : (rx : Receiving) → toldRx rx Data ≡ rx
-unfolding toldRx
+pub data-untold : (rx : Receiving) → told_rx rx Data ≡ rx
+unfolding told_rx
 data-untold rx =
     let same : rx.rxed_reliable_consumed - 0 ≡ rx.rxed_reliable_consumed = omega arith in
-    ap (withBytes rx rx.rxed_reliable_size) same
+    ap (with_bytes rx rx.rxed_reliable_size) same

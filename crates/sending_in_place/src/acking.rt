@@ -1,17 +1,17 @@
 // An ack of a number arrives over a link: what it does to the link's row and the acked packet, and the sweep of the table's front.
 ghost use Rattle.std.specs.Prelude.{◌≡◌, ◌+◌, ◌≤◌, ◌<◌, ◌^◌, length};
-ghost use Rattle.link.specs.Fields.{withAcks};
+ghost use Rattle.link.specs.Fields.{with_acks};
 ghost use Rattle.engine.specs.Sizes.{PACKETS};
-ghost use Rattle.engine.specs.Sound.{rowAt};
-ghost use Rattle.engine.specs.Fields.{withTx};
-ghost use Rattle.engine.specs.Table.{packetOf};
-ghost use Rattle.engine.specs.Acking.{receivedTx, settledTx, sweptTx, ackedRow, ackedTx, ackVerdict, ackOf};
+ghost use Rattle.engine.specs.Sound.{row_at};
+ghost use Rattle.engine.specs.Fields.{with_tx};
+ghost use Rattle.engine.specs.Table.{packet_of};
+ghost use Rattle.engine.specs.Acking.{received_tx, settled_tx, swept_tx, acked_row, acked_tx, ack_verdict, ack_of};
 ghost use Rattle.words.specs.Layout.{WORDS};
 ghost use Rattle.words.specs.Meaning.{state_of};
-ghost use Rattle.words.specs.Encoded.{numbersOf};
+ghost use Rattle.words.specs.Encoded.{numbers_of};
 ghost use Rattle.words.specs.Ready.{Ready, Left};
-ghost use Rattle.sending_in_place.specs.Swept.{sweptTo};
-ghost use Rattle.engine.specs.Answer.{outcomeTold};
+ghost use Rattle.sending_in_place.specs.Swept.{swept_to};
+ghost use Rattle.engine.specs.Answer.{outcome_told};
 
 use crate::queue::requeue;
 use crate::table::{cell_of, first_cell, in_table};
@@ -34,8 +34,8 @@ use words::sending::{
 
 // The packet becomes Received, and its size moves from one total to the other.
 fn settle_packet(words: &mut [u64], seq: Seq, p: SentReliable)
-    requires { (length words.old ≡ WORDS) × (p ≡ packetOf (state_of words.old).tx seq.0) × ((state_of words.old).tx.txed_unconsumable + p.len < 2 ^ 32) }
-    ensures { state_of words.new ≡ withTx (state_of words.old) (receivedTx (state_of words.old).tx seq.0 p) }
+    requires { (length words.old ≡ WORDS) × (p ≡ packet_of (state_of words.old).tx seq.0) × ((state_of words.old).tx.txed_unconsumable + p.len < 2 ^ 32) }
+    ensures { state_of words.new ≡ with_tx (state_of words.old) (received_tx (state_of words.old).tx seq.0 p) }
 {
     let tx = tx_of(words);
     let len = p.len;
@@ -46,8 +46,8 @@ fn settle_packet(words: &mut [u64], seq: Seq, p: SentReliable)
 
 // The sending half, by the packet's status.
 fn settle_tx(words: &mut [u64], slot: u8, seq: Seq, p: SentReliable)
-    requires { (length words.old ≡ WORDS) × (p ≡ packetOf (state_of words.old).tx seq.0) × ((state_of words.old).tx.txed_unconsumable + p.len < 2 ^ 32) × ((state_of words.old).tx.txed_count ≤ PACKETS) }
-    ensures { state_of words.new ≡ withTx (state_of words.old) (settledTx (state_of words.old).tx slot seq.0 p) }
+    requires { (length words.old ≡ WORDS) × (p ≡ packet_of (state_of words.old).tx seq.0) × ((state_of words.old).tx.txed_unconsumable + p.len < 2 ^ 32) × ((state_of words.old).tx.txed_count ≤ PACKETS) }
+    ensures { state_of words.new ≡ with_tx (state_of words.old) (settled_tx (state_of words.old).tx slot seq.0 p) }
 {
     let status = p.status;
     match status {
@@ -66,7 +66,7 @@ fn settle_tx(words: &mut [u64], slot: u8, seq: Seq, p: SentReliable)
 
 // The numbers with what a sweep leaves: how many packets, the last number looked at, and the bytes that still wait.
 fn swept_to(tx: SendingNumbers, left: usize, last: Seq, held: u32) -> SendingNumbers
-    ensures { result ≡ sweptTo tx left last held }
+    ensures { result ≡ swept_to tx left last held }
 {
     let mut out = tx;
     out.txed_count = left;
@@ -78,7 +78,7 @@ fn swept_to(tx: SendingNumbers, left: usize, last: Seq, held: u32) -> SendingNum
 // The numbers after a sweep of the Received packets at the front.
 fn swept(words: &[u64]) -> SendingNumbers
     requires { (length words.now ≡ WORDS) × ((state_of words.now).tx.txed_count ≤ PACKETS) }
-    ensures { result ≡ numbersOf (sweptTx (state_of words.now).tx) }
+    ensures { result ≡ numbers_of (swept_tx (state_of words.now).tx) }
 {
     let tx = tx_of(words);
     let mut left = tx.txed_count;
@@ -101,7 +101,7 @@ fn swept(words: &[u64]) -> SendingNumbers
 
 fn sweep(words: &mut [u64])
     requires { (length words.old ≡ WORDS) × ((state_of words.old).tx.txed_count ≤ PACKETS) }
-    ensures { state_of words.new ≡ withTx (state_of words.old) (sweptTx (state_of words.old).tx) }
+    ensures { state_of words.new ≡ with_tx (state_of words.old) (swept_tx (state_of words.old).tx) }
 {
     let tx = swept(words);
     let last = tx.txed_last_consumed;
@@ -113,8 +113,8 @@ fn sweep(words: &mut [u64])
 // The acked packet, where the table holds the number; the answer is the link's row, but for its acks. The mark's step comes first, and a flag that it sets counts in this ack.
 fn settle(words: &mut [u64], slot: u8, time: u64, seq: Seq) -> LinkRow
     requires { Ready words.old × (slot < 8) }
-    ensures ack_count_value { withAcks result (rowAt (state_of words.old) slot).tx_ack_queue result.ack_count ≡ ackedRow (state_of words.old) slot time seq.0 }
-    ensures words_after { state_of words.new ≡ withTx (state_of words.old) (ackedTx (state_of words.old) slot seq.0) }
+    ensures ack_count_value { with_acks result (row_at (state_of words.old) slot).tx_ack_queue result.ack_count ≡ acked_row (state_of words.old) slot time seq.0 }
+    ensures words_after { state_of words.new ≡ with_tx (state_of words.old) (acked_tx (state_of words.old) slot seq.0) }
 {
     let row = row_at(words, slot as usize).mark_acked(seq);
     let tx = tx_of(words);
@@ -129,7 +129,7 @@ fn settle(words: &mut [u64], slot: u8, time: u64, seq: Seq) -> LinkRow
 // Its own gate judges the number against the next to send.
 fn ack_verdict(words: &[u64], slot: u8, time: u64, seq: Seq) -> Verdict
     requires { Ready words.now }
-    ensures { result ≡ ackVerdict (state_of words.now) slot time seq.0 }
+    ensures { result ≡ ack_verdict (state_of words.now) slot time seq.0 }
 {
     if !time_ok(words, time) {
         return Verdict::No(Refusal::Time);
@@ -145,9 +145,9 @@ fn ack_verdict(words: &[u64], slot: u8, time: u64, seq: Seq) -> Verdict
 
 pub fn ack(words: &mut [u64], slot: u8, time: u64, seq: Seq) -> Outcome
     requires { Ready words.old }
-    ensures value { result ≡ (ackOf (state_of words.old) slot time seq.0).outcome }
-    ensures words_after { state_of words.new ≡ (ackOf (state_of words.old) slot time seq.0).state }
-    ensures left { Left (outcomeTold result).number words.old words.new }
+    ensures value { result ≡ (ack_of (state_of words.old) slot time seq.0).outcome }
+    ensures words_after { state_of words.new ≡ (ack_of (state_of words.old) slot time seq.0).state }
+    ensures left { Left (outcome_told result).number words.old words.new }
 {
     let verdict = ack_verdict(words, slot, time, seq);
     match verdict {

@@ -1,10 +1,10 @@
 // Confirmation deadlines (request [1] of document 02).
 ghost use Rattle.std.specs.Prelude.{◌≡◌, true, ◌≤◌, length};
 ghost use Rattle.link.specs.Sizes.{MAX_TIME};
-ghost use Rattle.link.specs.Timeout.{timeoutWithin};
+ghost use Rattle.link.specs.Timeout.{timeout_within};
 ghost use Rattle.engine.specs.Packets.{packets};
 ghost use Rattle.engine.specs.Sizes.{PACKETS};
-ghost use Rattle.engine.specs.Deadlines.{firstSent, definitelySent, deadlineOf, named_by, earliestConfirmTimeoutOf};
+ghost use Rattle.engine.specs.Deadlines.{first_sent, definitely_sent, deadline_of, named_by, earliest_confirm_timeout_of};
 ghost use Rattle.words.specs.Layout.{WORDS};
 ghost use Rattle.words.specs.Meaning.{state_of};
 ghost use Rattle.words.specs.Ready.{Ready};
@@ -23,7 +23,7 @@ use words::sending::tx_of;
 // The first packet in table order that is Sent.
 fn first_sent(words: &[u64]) -> FirstSent
     requires { (length words.now ≡ WORDS) × ((state_of words.now).tx.txed_count ≤ PACKETS) }
-    ensures { result ≡ firstSent (packets (state_of words.now).tx) }
+    ensures { result ≡ first_sent (packets (state_of words.now).tx) }
 {
     let tx = tx_of(words);
     let mut left = tx.txed_count;
@@ -41,8 +41,8 @@ fn first_sent(words: &[u64]) -> FirstSent
 }
 
 fn deadline(words: &[u64], flight: InFlight, timeout: AckTimeout, unreliable: bool) -> u64
-    requires { (length words.now ≡ WORDS) × (definitelySent flight ≤ MAX_TIME) × (timeoutWithin timeout ≡ true) }
-    ensures { result ≡ deadlineOf (state_of words.now) flight timeout unreliable }
+    requires { (length words.now ≡ WORDS) × (definitely_sent flight ≤ MAX_TIME) × (timeout_within timeout ≡ true) }
+    ensures { result ≡ deadline_of (state_of words.now) flight timeout unreliable }
 {
     let roundtrip = row_of(words, flight.slot).roundtrip;
     let wait = timeout.duration(roundtrip, flight.resent, unreliable);
@@ -51,8 +51,8 @@ fn deadline(words: &[u64], flight: InFlight, timeout: AckTimeout, unreliable: bo
 
 // What is named where the settings are within their sizes.
 fn named(words: &[u64], timeout: AckTimeout, unreliable: bool) -> ConfirmTimeout
-    requires { Ready words.now × (timeoutWithin timeout ≡ true) }
-    ensures { result ≡ named_by (firstSent (packets (state_of words.now).tx)) (state_of words.now) timeout unreliable }
+    requires { Ready words.now × (timeout_within timeout ≡ true) }
+    ensures { result ≡ named_by (first_sent (packets (state_of words.now).tx)) (state_of words.now) timeout unreliable }
 {
     let first = first_sent(words);
     match first {
@@ -72,7 +72,7 @@ pub fn earliest_confirm_timeout(
     unreliable: bool,
 ) -> ConfirmTimeout
     requires { Ready words.now }
-    ensures { result ≡ earliestConfirmTimeoutOf (state_of words.now) timeout unreliable }
+    ensures { result ≡ earliest_confirm_timeout_of (state_of words.now) timeout unreliable }
 {
     if timeout.is_within() {
         return named(words, timeout, unreliable);

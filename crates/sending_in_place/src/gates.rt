@@ -1,6 +1,6 @@
 // The refusals that many calls share. The first, of a state that is not sound, is none here: the words were judged before.
 ghost use Rattle.std.specs.Prelude.{◌≡◌};
-ghost use Rattle.engine.specs.Gates.{slotVerdict, timedVerdict};
+ghost use Rattle.engine.specs.Gates.{slot_verdict, timed_verdict};
 ghost use Rattle.words.specs.Meaning.{state_of};
 ghost use Rattle.words.specs.Ready.{Ready};
 
@@ -10,7 +10,7 @@ use words::gates::{slot_ok, time_ok};
 // The refusals of a call that is given a slot.
 pub(crate) fn slot_verdict(words: &[u64], slot: u8) -> Verdict
     requires { Ready words.now }
-    ensures { result ≡ slotVerdict (state_of words.now) slot }
+    ensures { result ≡ slot_verdict (state_of words.now) slot }
 {
     let slotted = slot_ok(words, slot);
     gate(slotted, Refusal::Slot, Verdict::Pass)
@@ -19,7 +19,7 @@ pub(crate) fn slot_verdict(words: &[u64], slot: u8) -> Verdict
 // The refusals of a call that is given a slot and a time, before those of its own.
 pub(crate) fn timed_verdict(words: &[u64], slot: u8, time: u64, rest: Verdict) -> Verdict
     requires { Ready words.now }
-    ensures { result ≡ timedVerdict (state_of words.now) slot time rest }
+    ensures { result ≡ timed_verdict (state_of words.now) slot time rest }
 {
     let timed = time_ok(words, time);
     let slotted = slot_ok(words, slot);

@@ -1,4 +1,6 @@
 // Sending, acks, flushing, unconfirming, resending and deadlines, in place on the words of a sound state.
+#![tactic(auto)]
+
 pub mod acking;
 pub mod deadlines;
 pub mod flushing;

@@ -1,13 +1,13 @@
 // The resend queue, made anew from the table wherever a packet's status changed.
 ghost use Rattle.std.specs.Prelude.{◌≡◌, ◌++◌, ◌≤◌, ◌<◌, length, drop};
 ghost use Rattle.engine.specs.Sizes.{PACKETS};
-ghost use Rattle.engine.specs.Fields.{withTx, withQueue};
-ghost use Rattle.engine.specs.Packets.{packets, queuedOf};
+ghost use Rattle.engine.specs.Fields.{with_tx, with_queue};
+ghost use Rattle.engine.specs.Packets.{packets, queued_of};
 ghost use Rattle.engine.specs.Queue.{requeued};
 ghost use Rattle.words.specs.Layout.{WORDS};
 ghost use Rattle.words.specs.Meaning.{state_of};
-ghost use Rattle.words.specs.Encoded.{numbersOf};
-ghost use Rattle.sending_in_place.specs.Requeue.{countPut, numbersPut};
+ghost use Rattle.words.specs.Encoded.{numbers_of};
+ghost use Rattle.sending_in_place.specs.Requeue.{count_put, numbers_put};
 
 use crate::table::first_cell;
 use engine::packets::is_queued;
@@ -20,8 +20,8 @@ use words::sending::{SendingNumbers, put_tx, tx_of};
 // A packet's number behind the others, where it is queued. Answers how many there are now.
 fn put_number(words: &mut [u64], count: usize, p: SentReliable) -> usize
     requires { (length words.old ≡ WORDS) × (count < PACKETS) }
-    ensures value { result ≡ countPut (state_of words.old).tx.resend_queue count p }
-    ensures words_after { state_of words.new ≡ withTx (state_of words.old) (withQueue (state_of words.old).tx (numbersPut (state_of words.old).tx.resend_queue count p) (state_of words.old).tx.resend_count) }
+    ensures value { result ≡ count_put (state_of words.old).tx.resend_queue count p }
+    ensures words_after { state_of words.new ≡ with_tx (state_of words.old) (with_queue (state_of words.old).tx (numbers_put (state_of words.old).tx.resend_queue count p) (state_of words.old).tx.resend_count) }
 {
     let status = p.status;
     let seq = p.seq;
@@ -34,9 +34,9 @@ fn put_number(words: &mut [u64], count: usize, p: SentReliable) -> usize
 
 // The numbers of the ResendQueued packets, oldest first, over the old queue. Answers how many they are.
 fn gather(words: &mut [u64], tx: SendingNumbers) -> usize
-    requires { (length words.old ≡ WORDS) × (tx ≡ numbersOf (state_of words.old).tx) × ((state_of words.old).tx.txed_count ≤ PACKETS) }
-    ensures value { result ≡ length (queuedOf (packets (state_of words.old).tx)) }
-    ensures words_after { state_of words.new ≡ withTx (state_of words.old) (withQueue (state_of words.old).tx (queuedOf (packets (state_of words.old).tx) ++ drop (length (queuedOf (packets (state_of words.old).tx))) (state_of words.old).tx.resend_queue) (state_of words.old).tx.resend_count) }
+    requires { (length words.old ≡ WORDS) × (tx ≡ numbers_of (state_of words.old).tx) × ((state_of words.old).tx.txed_count ≤ PACKETS) }
+    ensures value { result ≡ length (queued_of (packets (state_of words.old).tx)) }
+    ensures words_after { state_of words.new ≡ with_tx (state_of words.old) (with_queue (state_of words.old).tx (queued_of (packets (state_of words.old).tx) ++ drop (length (queued_of (packets (state_of words.old).tx))) (state_of words.old).tx.resend_queue) (state_of words.old).tx.resend_count) }
 {
     let mut count: usize = 0;
     let mut left = tx.txed_count;
@@ -53,7 +53,7 @@ fn gather(words: &mut [u64], tx: SendingNumbers) -> usize
 // The queue made anew.
 pub(crate) fn requeue(words: &mut [u64])
     requires { (length words.old ≡ WORDS) × ((state_of words.old).tx.txed_count ≤ PACKETS) }
-    ensures { state_of words.new ≡ withTx (state_of words.old) (requeued (state_of words.old).tx) }
+    ensures { state_of words.new ≡ with_tx (state_of words.old) (requeued (state_of words.old).tx) }
 {
     let tx = tx_of(words);
     let count = gather(words, tx);

@@ -1,7 +1,7 @@
 // Resending a queued packet over another link.
 ghost use Rattle.std.specs.Prelude.{◌≡◌};
-ghost use Rattle.engine.specs.Table.{lookedAt};
-ghost use Rattle.engine.specs.Resending.{resendVerdict, resentState, resendOf, resendTold};
+ghost use Rattle.engine.specs.Table.{looked_at};
+ghost use Rattle.engine.specs.Resending.{resend_verdict, resent_state, resend_of, resend_told};
 ghost use Rattle.words.specs.Meaning.{state_of};
 ghost use Rattle.words.specs.Ready.{Ready, Left};
 
@@ -21,7 +21,7 @@ use words::sending::tx_of;
 
 fn resend_verdict(words: &[u64], slot: u8, time: u64, seq: Seq) -> Verdict
     requires { Ready words.now }
-    ensures { result ≡ resendVerdict (state_of words.now) slot time seq.0 }
+    ensures { result ≡ resend_verdict (state_of words.now) slot time seq.0 }
 {
     let tx = tx_of(words);
     let held = in_table(tx, seq);
@@ -36,8 +36,8 @@ fn resend_verdict(words: &[u64], slot: u8, time: u64, seq: Seq) -> Verdict
 }
 
 fn put_resent(words: &mut [u64], slot: u8, time: u64, seq: Seq, p: SentReliable)
-    requires { Ready words.old × (resendVerdict (state_of words.old) slot time seq.0 ≡ Verdict.Pass) × (p ≡ lookedAt (state_of words.old).tx seq.0) }
-    ensures { state_of words.new ≡ resentState (state_of words.old) slot time seq.0 }
+    requires { Ready words.old × (resend_verdict (state_of words.old) slot time seq.0 ≡ Verdict.Pass) × (p ≡ looked_at (state_of words.old).tx seq.0) }
+    ensures { state_of words.new ≡ resent_state (state_of words.old) slot time seq.0 }
 {
     let row = row_at(words, slot as usize);
     let flight = InFlight::new(time, slot, row.link_id, true);
@@ -53,9 +53,9 @@ fn put_resent(words: &mut [u64], slot: u8, time: u64, seq: Seq, p: SentReliable)
 // Puts a queued packet on another link.
 pub fn resend(words: &mut [u64], slot: u8, time: u64, seq: Seq) -> ResendAnswer
     requires { Ready words.old }
-    ensures value { result ≡ (resendOf (state_of words.old) slot time seq.0).answer }
-    ensures words_after { state_of words.new ≡ (resendOf (state_of words.old) slot time seq.0).state }
-    ensures left { Left (resendTold result).number words.old words.new }
+    ensures value { result ≡ (resend_of (state_of words.old) slot time seq.0).answer }
+    ensures words_after { state_of words.new ≡ (resend_of (state_of words.old) slot time seq.0).state }
+    ensures left { Left (resend_told result).number words.old words.new }
 {
     let verdict = resend_verdict(words, slot, time, seq);
     match verdict {

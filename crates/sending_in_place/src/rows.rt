@@ -1,7 +1,7 @@
 // The rows of a state in words.
 ghost use Rattle.std.specs.Prelude.{◌≡◌, ◌+◌, ◌<◌, ◌^◌, length};
-ghost use Rattle.link.specs.Row.{withUnacked, emptyRow};
-ghost use Rattle.engine.specs.Sound.{rowAt};
+ghost use Rattle.link.specs.Row.{with_unacked, empty_row};
+ghost use Rattle.engine.specs.Sound.{row_at};
 ghost use Rattle.engine.specs.Rows.{row_of};
 ghost use Rattle.engine.specs.Fields.{with_row};
 ghost use Rattle.words.specs.Layout.{WORDS};
@@ -26,8 +26,8 @@ pub(crate) fn row_of(words: &[u64], slot: u8) -> LinkRow
 
 // A slot's link has so many bytes more on the way.
 pub(crate) fn put_more(words: &mut [u64], slot: u8, len: u32)
-    requires { (length words.old ≡ WORDS) × (slot < 8) × ((rowAt (state_of words.old) slot).txed_unacked_data + len < 2 ^ 32) }
-    ensures { state_of words.new ≡ with_row (state_of words.old) slot (withUnacked (rowAt (state_of words.old) slot) ((rowAt (state_of words.old) slot).txed_unacked_data + len)) }
+    requires { (length words.old ≡ WORDS) × (slot < 8) × ((row_at (state_of words.old) slot).txed_unacked_data + len < 2 ^ 32) }
+    ensures { state_of words.new ≡ with_row (state_of words.old) slot (with_unacked (row_at (state_of words.old) slot) ((row_at (state_of words.old) slot).txed_unacked_data + len)) }
 {
     let row = row_at(words, slot as usize);
     put_txed_unacked_data(words, slot as usize, row.txed_unacked_data + len);
@@ -36,7 +36,7 @@ pub(crate) fn put_more(words: &mut [u64], slot: u8, len: u32)
 // A slot without a link.
 pub(crate) fn put_empty(words: &mut [u64], slot: u8)
     requires { (length words.old ≡ WORDS) × (slot < 8) }
-    ensures { state_of words.new ≡ with_row (state_of words.old) slot emptyRow }
+    ensures { state_of words.new ≡ with_row (state_of words.old) slot empty_row }
 {
     put_new(words, slot as usize, LinkRow::empty());
 }

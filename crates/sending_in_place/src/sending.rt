@@ -2,13 +2,13 @@
 ghost use Rattle.std.specs.Prelude.{◌≡◌, ◌+◌, ◌<◌, ◌≤◌, ◌^◌, length};
 ghost use Rattle.msg.specs.Reliable.{count_of};
 ghost use Rattle.engine.specs.Sizes.{PACKETS};
-ghost use Rattle.engine.specs.Fields.{withTx, withRx};
-ghost use Rattle.engine.specs.Sending.{totalsOk, sendVerdict, sentTx, toldRx, Room, sentState, sendOf, sendStore, sendTold};
+ghost use Rattle.engine.specs.Fields.{with_tx, with_rx};
+ghost use Rattle.engine.specs.Sending.{totals_ok, send_verdict, sent_tx, told_rx, Room, sent_state, send_of, send_store, send_told};
 ghost use Rattle.words.specs.Layout.{WORDS};
 ghost use Rattle.words.specs.Meaning.{state_of};
 ghost use Rattle.words.specs.Ready.{Ready, Left};
-ghost use Rattle.words.specs.Encoded.{numbersOf};
-ghost use Rattle.sending_in_place.specs.Untold.{finishedTx};
+ghost use Rattle.words.specs.Encoded.{numbers_of};
+ghost use Rattle.sending_in_place.specs.Untold.{finished_tx};
 
 use crate::rows::{put_more, row_of};
 use crate::table::cell_of;
@@ -31,8 +31,8 @@ use words::sending::{
 };
 
 fn totals_ok(words: &[u64], tx: SendingNumbers, slot: u8, msg: ReliableMsg, len: usize) -> bool
-    requires { (length words.now ≡ WORDS) × (tx ≡ numbersOf (state_of words.now).tx) }
-    ensures { result ≡ totalsOk (state_of words.now) slot msg len }
+    requires { (length words.now ≡ WORDS) × (tx ≡ numbers_of (state_of words.now).tx) }
+    ensures { result ≡ totals_ok (state_of words.now) slot msg len }
 {
     if !sum_fits(tx.txed_unacked, len, MAX_TOTAL) {
         return false;
@@ -55,7 +55,7 @@ fn send_verdict(
     len: usize,
 ) -> Verdict
     requires { Ready words.now }
-    ensures { result ≡ sendVerdict (state_of words.now) store slot time msg len }
+    ensures { result ≡ send_verdict (state_of words.now) store slot time msg len }
 {
     if store != SENT_BYTES {
         return Verdict::No(Refusal::StoreLength);
@@ -85,7 +85,7 @@ fn send_verdict(
 // A SendFinish ends sending.
 fn put_finish(words: &mut [u64], msg: ReliableMsg)
     requires { length words.old ≡ WORDS }
-    ensures { state_of words.new ≡ withTx (state_of words.old) (finishedTx (state_of words.old).tx msg) }
+    ensures { state_of words.new ≡ with_tx (state_of words.old) (finished_tx (state_of words.old).tx msg) }
 {
     if msg.kind() == LinkMsg::MSG_SEND_FINISH {
         put_send_finish_sent(words, true);
@@ -95,7 +95,7 @@ fn put_finish(words: &mut [u64], msg: ReliableMsg)
 // The sending half with one packet more.
 fn put_next(words: &mut [u64], slot: u8, link: u64, time: u64, msg: ReliableMsg, len: u32)
     requires { (length words.old ≡ WORDS) × (len < 2 ^ 24) × ((state_of words.old).tx.txed_count < PACKETS) × ((state_of words.old).tx.txed_unacked + len < 2 ^ 32) × ((state_of words.old).tx.txed_unconsumed + len < 2 ^ 32) }
-    ensures { state_of words.new ≡ withTx (state_of words.old) (sentTx (state_of words.old).tx slot link time msg len) }
+    ensures { state_of words.new ≡ with_tx (state_of words.old) (sent_tx (state_of words.old).tx slot link time msg len) }
 {
     let tx = tx_of(words);
     let seq = tx.tx_seq;
@@ -112,7 +112,7 @@ fn put_next(words: &mut [u64], slot: u8, link: u64, time: u64, msg: ReliableMsg,
 // Most messages are a Data, which tells of nothing.
 fn put_told(words: &mut [u64], msg: ReliableMsg)
     requires { (length words.old ≡ WORDS) × (count_of msg ≤ (state_of words.old).rx.rxed_reliable_consumed) }
-    ensures { state_of words.new ≡ withRx (state_of words.old) (toldRx (state_of words.old).rx msg) }
+    ensures { state_of words.new ≡ with_rx (state_of words.old) (told_rx (state_of words.old).rx msg) }
 {
     if let ReliableMsg::Data = msg {
         return;
@@ -123,7 +123,7 @@ fn put_told(words: &mut [u64], msg: ReliableMsg)
 
 fn put_sent(words: &mut [u64], slot: u8, time: u64, msg: ReliableMsg, len: u32)
     requires { (length words.old ≡ WORDS) × (slot < 8) × (len < 2 ^ 24) × Room (state_of words.old) slot msg len }
-    ensures { state_of words.new ≡ sentState (state_of words.old) slot time msg len }
+    ensures { state_of words.new ≡ sent_state (state_of words.old) slot time msg len }
 {
     let link = row_of(words, slot).link_id;
     put_more(words, slot, len);
@@ -142,10 +142,10 @@ pub fn send(
     payload: &[u8],
 ) -> SendAnswer
     requires { Ready words.old }
-    ensures value { result ≡ (sendOf (state_of words.old) (length store.old) slot time msg (length payload.now)).answer }
-    ensures words_after { state_of words.new ≡ (sendOf (state_of words.old) (length store.old) slot time msg (length payload.now)).state }
-    ensures store_after { store.new ≡ sendStore (state_of words.old) store.old slot time msg payload.now }
-    ensures left { Left (sendTold result).number words.old words.new }
+    ensures value { result ≡ (send_of (state_of words.old) (length store.old) slot time msg (length payload.now)).answer }
+    ensures words_after { state_of words.new ≡ (send_of (state_of words.old) (length store.old) slot time msg (length payload.now)).state }
+    ensures store_after { store.new ≡ send_store (state_of words.old) store.old slot time msg payload.now }
+    ensures left { Left (send_told result).number words.old words.new }
 {
     let len = payload.len();
     let verdict = send_verdict(words, store.len(), slot, time, msg, len);

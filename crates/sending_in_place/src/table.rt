@@ -2,7 +2,7 @@
 ghost use Rattle.std.specs.Prelude.{◌≡◌, ◌%◌, ◌≤◌, ◌<◌};
 ghost use Rattle.seq.specs.Numbers.{minus};
 ghost use Rattle.engine.specs.Sizes.{PACKETS};
-ghost use Rattle.sending_in_place.specs.Table.{heldIn};
+ghost use Rattle.sending_in_place.specs.Table.{held_in};
 
 use engine::sizes::PACKET_ROUND;
 use refusal::both;
@@ -21,7 +21,7 @@ pub(crate) fn first_cell(tx: SendingNumbers) -> usize
 
 // Whether the table holds the number: it is 1 to txed_count before the next one.
 pub(crate) fn in_table(tx: SendingNumbers, seq: Seq) -> bool
-    ensures { result ≡ heldIn tx seq.0 }
+    ensures { result ≡ held_in tx seq.0 }
 {
     let back = tx.tx_seq.past(seq) as usize;
     both(1 <= back, back <= tx.txed_count)

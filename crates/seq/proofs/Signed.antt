@@ -8,7 +8,7 @@ use mir.ValLaws.{to_z_pos, to_z-of_z}
 use Rattle.seq.specs.Numbers.{minus, signed}
 use Rattle.seq.specs.declared.Apart.TheVariants.{By}
 use Rattle.seq.specs.Laws.{signed_low, signed_high}
-use Rattle.seq.specs.Distance.{distance_of, isBehind, pastAs, by-small}
+use Rattle.seq.specs.Distance.{distance_of, is_behind, past_as, by-small}
 
 -- a difference that comes back to a where b is added is the wrapped one
 pub wrapped-difference : (r a b : ℕ) → r < 2 ^ 32 → b < 2 ^ 32 → (r + b) % 2 ^ 32 ≡ a → r ≡ minus a b
@@ -16,7 +16,7 @@ unfolding minus
 wrapped-difference r a b hr hb e = omega arith
 
 -- behind is what the comparison with 0 tests
-pub below-zero : (z : ℤ) → lt_z z (pos 0) ≡ isBehind (By z)
+pub below-zero : (z : ℤ) → lt_z z (pos 0) ≡ is_behind (By z)
 below-zero (pos n) = le-ltb n 0 (omega arith)
 below-zero (negsuc n) = refl
 
@@ -28,11 +28,11 @@ pub past_fits : (d : ℤ) → mag d < 2 ^ 30 → le_z (pos 0) d ≡ true → T (
 past_fits (pos n) small h = (tt, record { fits = omega arith })
 past_fits (negsuc n) small h = absurd (false≢true h)
 
-pub past_is : (d : ℤ) → le_z (pos 0) d ≡ true → nat_abs d ≡ pastAs (By d)
+pub past_is : (d : ℤ) → le_z (pos 0) d ≡ true → nat_abs d ≡ past_as (By d)
 past_is (pos n) h = refl
 past_is (negsuc n) h = absurd (false≢true h)
 
-pub behind-is : (d : ℤ) → le_z (pos 0) d ≡ false → 2 ^ 30 ≡ pastAs (By d)
+pub behind-is : (d : ℤ) → le_z (pos 0) d ≡ false → 2 ^ 30 ≡ past_as (By d)
 behind-is (pos n) h = absurd (false≢true (sym h ∙ le-leb 0 n (omega arith)))
 behind-is (negsuc n) h = refl
 

@@ -15,43 +15,43 @@ use Rattle.seq.specs.Numbers.{plus, minus, signed}
 use Rattle.seq.specs.Laws.{minus-lt, signed_low, signed_high, minus-ahead, minus-behind}
 
 -- "2^30 or more either way" (`negsuc m` is −1 − m)
-abbrev pub isFar : ℤ → Bool
-isFar (pos n) = nat_le (2 ^ 30) n
-isFar (negsuc n) = nat_le (2 ^ 30) (n + 1)
+abbrev pub is_far : ℤ → Bool
+is_far (pos n) = nat_le (2 ^ 30) n
+is_far (negsuc n) = nat_le (2 ^ 30) (n + 1)
 
 -- the one place: how far a is from b, or "far"
 unfoldable pub distance_of : ℕ → ℕ → Apart
 unfolding minus signed
-distance_of a b = cond (isFar (signed (minus a b))) Far (By (signed (minus a b)))
+distance_of a b = cond (is_far (signed (minus a b))) Far (By (signed (minus a b)))
 
-abbrev pub isBy : Apart → Bool
-isBy (By d) = true
-isBy Far = false
+abbrev pub is_by : Apart → Bool
+is_by (By d) = true
+is_by Far = false
 
 -- a is not far from b
 unfoldable pub near : ℕ → ℕ → Bool
 unfolding distance_of
-near a b = isBy (distance_of a b)
+near a b = is_by (distance_of a b)
 
-abbrev pub isBehind : Apart → Bool
-isBehind (By (pos n)) = false
-isBehind (By (negsuc n)) = true
-isBehind Far = false
+abbrev pub is_behind : Apart → Bool
+is_behind (By (pos n)) = false
+is_behind (By (negsuc n)) = true
+is_behind Far = false
 
 -- "Number a is before b when a − b is negative (P)."; [5]: "no caller orders such numbers": of two that are far apart neither is before the other
 unfoldable pub before : ℕ → ℕ → Bool
 unfolding distance_of
-before a b = isBehind (distance_of a b)
+before a b = is_behind (distance_of a b)
 
-abbrev pub pastAs : Apart → ℕ
-pastAs (By (pos n)) = n
-pastAs (By (negsuc n)) = 2 ^ 30
-pastAs Far = 2 ^ 30
+abbrev pub past_as : Apart → ℕ
+past_as (By (pos n)) = n
+past_as (By (negsuc n)) = 2 ^ 30
+past_as Far = 2 ^ 30
 
 -- how many numbers past b a is: 2^30, more than any size, where it is before b or far from it
 unfoldable pub past : ℕ → ℕ → ℕ
 unfolding distance_of
-past a b = pastAs (distance_of a b)
+past a b = past_as (distance_of a b)
 
 -- ---- laws: the three cases of the wrapped difference
 
@@ -72,13 +72,13 @@ module _ (a b : ℕ) where
   unfolding distance_of
   distance-ahead h =
       let e = signed_low (minus a b) (omega arith) in
-      ap (λ z. cond (isFar z) Far (By z)) e ∙ (simp (lt-leb (2 ^ 30) (minus a b) h)) ∙ sym (ap By e)
+      ap (λ z. cond (is_far z) Far (By z)) e ∙ (simp (lt-leb (2 ^ 30) (minus a b) h)) ∙ sym (ap By e)
 
   pub distance-behind : 2 ^ 32 - 2 ^ 30 < minus a b → distance_of a b ≡ By (signed (minus a b))
   unfolding distance_of
   distance-behind h =
       let e = signed_high (minus a b) (omega arith) in
-      ap (λ z. cond (isFar z) Far (By z)) e ∙ (simp (lt-leb (2 ^ 30) (2 ^ 32 - 1 - minus a b + 1) (omega (arith, minus-lt a b)))) ∙ sym (ap By e)
+      ap (λ z. cond (is_far z) Far (By z)) e ∙ (simp (lt-leb (2 ^ 30) (2 ^ 32 - 1 - minus a b + 1) (omega (arith, minus-lt a b)))) ∙ sym (ap By e)
 
   pub distance-far : 2 ^ 30 ≤ minus a b → minus a b ≤ 2 ^ 32 - 2 ^ 30 → distance_of a b ≡ Far
   unfolding distance_of
@@ -86,10 +86,10 @@ module _ (a b : ℕ) where
       cases (nat_lt (minus a b) (2 ^ 31))
       (λ t.
       let e = signed_low (minus a b) (ltb-true (minus a b) (2 ^ 31) t) in
-      ap (λ z. cond (isFar z) Far (By z)) e ∙ simp (le-leb (2 ^ 30) (minus a b) low))
+      ap (λ z. cond (is_far z) Far (By z)) e ∙ simp (le-leb (2 ^ 30) (minus a b) low))
       (λ f.
       let e = signed_high (minus a b) (ltb-false (minus a b) (2 ^ 31) f) in
-      ap (λ z. cond (isFar z) Far (By z)) e ∙ simp (le-leb (2 ^ 30) (2 ^ 32 - 1 - minus a b + 1) (omega arith)))
+      ap (λ z. cond (is_far z) Far (By z)) e ∙ simp (le-leb (2 ^ 30) (2 ^ 32 - 1 - minus a b + 1) (omega arith)))
 
   -- the same without `signed`
   pub is-ahead : minus a b < 2 ^ 30 → distance_of a b ≡ By (pos (minus a b))
@@ -104,7 +104,7 @@ module _ (a b : ℕ) where
       elim (stands (minus a b)) [
         | ahead h ↦ let z = sym (distance-ahead h) ∙ e in cc
         | behind h ↦ let z = sym (distance-behind h) ∙ e in cc
-        | far low high ↦ absurd (false≢true (ap isBy (sym (distance-far low high) ∙ e)))
+        | far low high ↦ absurd (false≢true (ap is_by (sym (distance-far low high) ∙ e)))
       ]
 
   -- .. and below 2^30, either way
@@ -113,12 +113,12 @@ module _ (a b : ℕ) where
       elim (stands (minus a b)) [
         | ahead h ↦ let same : pos (minus a b) ≡ d = let z = sym (is-ahead h) ∙ e in cc in omega (arith, ap mag same)
         | behind h ↦ let same : negsuc (2 ^ 32 - 1 - minus a b) ≡ d = let z = sym (is-behind h) ∙ e in cc in omega (arith, ap mag same)
-        | far low high ↦ absurd (false≢true (ap isBy (sym (distance-far low high) ∙ e)))
+        | far low high ↦ absurd (false≢true (ap is_by (sym (distance-far low high) ∙ e)))
       ]
 
   pub past-ahead : minus a b < 2 ^ 30 → past a b ≡ minus a b
   unfolding past
-  past-ahead h = ap pastAs (is-ahead h)
+  past-ahead h = ap past_as (is-ahead h)
 
   -- less than 2^30 past is past by the wrapped difference ..
   pub past_near : past a b < 2 ^ 30 → past a b ≡ minus a b
@@ -126,8 +126,8 @@ module _ (a b : ℕ) where
   past_near h =
       elim (stands (minus a b)) [
         | ahead l ↦ past-ahead l
-        | behind l ↦ absurd (omega (arith, ap pastAs (is-behind l)))
-        | far low high ↦ absurd (omega (arith, ap pastAs (distance-far low high)))
+        | behind l ↦ absurd (omega (arith, ap past_as (is-behind l)))
+        | far low high ↦ absurd (omega (arith, ap past_as (distance-far low high)))
       ]
 
   -- .. and told by the one place
@@ -136,24 +136,24 @@ module _ (a b : ℕ) where
 
   pub before-behind : 2 ^ 32 - 2 ^ 30 < minus a b → before a b ≡ true
   unfolding before
-  before-behind h = ap isBehind (is-behind h)
+  before-behind h = ap is_behind (is-behind h)
 
   not-before-ahead : minus a b < 2 ^ 30 → before a b ≡ false
   unfolding before
-  not-before-ahead h = ap isBehind (is-ahead h)
+  not-before-ahead h = ap is_behind (is-ahead h)
 
   not-near : 2 ^ 30 ≤ minus a b → minus a b ≤ 2 ^ 32 - 2 ^ 30 → near a b ≡ false
   unfolding near
-  not-near low high = ap isBy (distance-far low high)
+  not-near low high = ap is_by (distance-far low high)
 
   -- of two numbers that are far apart neither is before the other
   pub far-unordered : near a b ≡ false → before a b ≡ false
   unfolding near before
   far-unordered f =
       elim (stands (minus a b)) [
-        | ahead h ↦ ap isBehind (is-ahead h)
-        | behind h ↦ absurd (false≢true (sym f ∙ ap isBy (is-behind h)))
-        | far low high ↦ ap isBehind (distance-far low high)
+        | ahead h ↦ ap is_behind (is-ahead h)
+        | behind h ↦ absurd (false≢true (sym f ∙ ap is_by (is-behind h)))
+        | far low high ↦ ap is_behind (distance-far low high)
       ]
 
 pub past-plus : (o k : ℕ) → o < 2 ^ 32 → k < 2 ^ 30 → past (plus o k) o ≡ k
@@ -178,9 +178,9 @@ module _ (a b : ℕ) (ha : a < 2 ^ 32) (hb : b < 2 ^ 32) where
       elim (ℕ_discrete a b) [
         | yes e ↦ rw e refl
         | no ne ↦ elim (stands (minus a b)) [
-          | ahead h ↦ ap isBy (is-ahead a b h) ∙ sym (ap isBy (is-behind b a (omega (arith, turned ne))))
-          | behind h ↦ ap isBy (is-behind a b h) ∙ sym (ap isBy (is-ahead b a (omega (arith, turned ne, minus-lt a b))))
-          | far low high ↦ ap isBy (distance-far a b low high) ∙ sym (ap isBy (distance-far b a (omega (arith, turned ne)) (omega (arith, turned ne))))
+          | ahead h ↦ ap is_by (is-ahead a b h) ∙ sym (ap is_by (is-behind b a (omega (arith, turned ne))))
+          | behind h ↦ ap is_by (is-behind a b h) ∙ sym (ap is_by (is-ahead b a (omega (arith, turned ne, minus-lt a b))))
+          | far low high ↦ ap is_by (distance-far a b low high) ∙ sym (ap is_by (distance-far b a (omega (arith, turned ne)) (omega (arith, turned ne))))
         ]
       ]
 
@@ -210,20 +210,20 @@ module _ (s k l : ℕ) where
 
   pub past-counted : l ≤ k → k < l + 2 ^ 30 → past (plus s k) (plus s l) ≡ k - l
   unfolding past
-  past-counted h g = ap pastAs (counted-ahead h g)
+  past-counted h g = ap past_as (counted-ahead h g)
 
   pub before-counted : k < l → l < k + 2 ^ 30 → before (plus s k) (plus s l) ≡ true
   unfolding before
-  before-counted h g = ap isBehind (counted-behind h g)
+  before-counted h g = ap is_behind (counted-behind h g)
 
   pub not-before-counted : l ≤ k → k < l + 2 ^ 30 → before (plus s k) (plus s l) ≡ false
   unfolding before
-  not-before-counted h g = ap isBehind (counted-ahead h g)
+  not-before-counted h g = ap is_behind (counted-ahead h g)
 
   pub near-counted : l < k + 2 ^ 30 → k < l + 2 ^ 30 → near (plus s k) (plus s l) ≡ true
   unfolding near
   near-counted h g =
       elim (dec_lt k l) [
-        | yes y ↦ ap isBy (counted-behind y h)
-        | no y ↦ ap isBy (counted-ahead (omega arith) g)
+        | yes y ↦ ap is_by (counted-behind y h)
+        | no y ↦ ap is_by (counted-ahead (omega arith) g)
       ]

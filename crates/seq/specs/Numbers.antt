@@ -4,8 +4,8 @@ use Rattle.std.specs.Prelude.{ℕ, ◌+◌, ◌-◌, ◌%◌, ◌^◌, cond, ℤ
 use Rattle.seq.specs.declared.Seq.{Seq}
 
 -- the sequence number of a value
-abbrev pub seqOf : ℕ → Seq
-seqOf n = record { 0 = n }
+abbrev pub seq_of : ℕ → Seq
+seq_of n = record { 0 = n }
 
 -- "Sums .. of numbers wrap at 2^32"
 unfoldable pub plus : ℕ → ℕ → ℕ

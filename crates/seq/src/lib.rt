@@ -1,14 +1,16 @@
 // Sequence numbers (003, seq.rs): 32 bits that wrap at 2^32.
+#![tactic(auto)]
+
 ghost use Rattle.std.specs.Prelude.{◌≡◌, pos, ◌==◌};
-ghost use Rattle.seq.specs.Numbers.{seqOf, plus, minus, signed, USABLE_INTERVAL};
+ghost use Rattle.seq.specs.Numbers.{seq_of, plus, minus, signed, USABLE_INTERVAL};
 ghost use Rattle.seq.specs.Distance.{distance_of, near, before, past};
 
 // A sequence number.
-#[derive(Drop)]
+#[derive(Clone, Copy)]
 pub struct Seq(pub u32);
 
 // How far a number is from another: by so many, negative where it is before it, or too far for the two to be put in an order.
-#[derive(Drop)]
+#[derive(Clone, Copy)]
 pub enum Apart {
     By(i32),
     Far,
@@ -25,7 +27,7 @@ impl Seq {
 
     // The number n past this one.
     pub fn add(self, n: u32) -> Self
-        ensures { result ≡ seqOf (plus self.0 n) }
+        ensures { result ≡ seq_of (plus self.0 n) }
     {
         let a = self.0;
         Self(std::num::wrapping_add_u32(a, n))
@@ -33,7 +35,7 @@ impl Seq {
 
     // The number n before this one.
     pub fn sub(self, n: u32) -> Self
-        ensures { result ≡ seqOf (minus self.0 n) }
+        ensures { result ≡ seq_of (minus self.0 n) }
     {
         let a = self.0;
         Self(std::num::wrapping_sub_u32(a, n))
@@ -107,13 +109,13 @@ impl Seq {
 
 // What the constants are worth, as promises: the code of the layers above has their values in place of their names.
 fn zero() -> Seq
-    ensures { result ≡ seqOf 0 }
+    ensures { result ≡ seq_of 0 }
 {
     Seq::ZERO
 }
 
 fn minus_one() -> Seq
-    ensures { result ≡ seqOf (minus 0 1) }
+    ensures { result ≡ seq_of (minus 0 1) }
 {
     Seq::MINUS_ONE
 }

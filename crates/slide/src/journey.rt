@@ -23,7 +23,7 @@ const RETURN: u64 = 1400;
 // Long after the end of every run that goes well.
 const LAST_TICK: u64 = 20_000;
 
-#[derive(Drop)]
+#[derive(Clone, Copy)]
 struct Ends {
     scanner: State,
     server: State,

@@ -1,6 +1,8 @@
 // Sends a slide from one end to the other, both of them the proved engine, over three links that lose, repeat, delay and reorder
 // frames, one of which dies and comes back under another identity; the numbers wrap on the way. Then twice more for a viewer whose
 // disk stalls, with few receive cells and with many.
+#![tactic(auto)]
+
 mod air;
 mod chance;
 mod end;

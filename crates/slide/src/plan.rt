@@ -35,7 +35,7 @@ pub const STALL: u64 = 400;
 
 pub const STALL_END: u64 = 1200;
 
-#[derive(Drop)]
+#[derive(Clone, Copy)]
 pub struct Plan {
     pub cells: u32,
     pub buffer: u32,

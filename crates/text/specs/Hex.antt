@@ -8,25 +8,25 @@ use Rattle.text.specs.declared.hex.HexByte.{HexByte}
 use Rattle.text.specs.declared.hex.HexByte.TheVariants.{Byte, Bad}
 
 -- `0` to `9` are worth 0 to 9, `a` to `f` 10 to 15; 16 says that a byte is no digit
-unfoldable pub hexValue : ℕ → ℕ
-hexValue b = cond (leb 48 b && leb b 57) (b - 48) (cond (leb 97 b && leb b 102) (b - 87) 16)
+unfoldable pub hex_value : ℕ → ℕ
+hex_value b = cond (leb 48 b && leb b 57) (b - 48) (cond (leb 97 b && leb b 102) (b - 87) 16)
 
 -- the digit of a number's last four bits
-unfoldable pub hexDigit : ℕ → ℕ
-hexDigit n = hex_digit_ascii (n % 16)
+unfoldable pub hex_digit : ℕ → ℕ
+hex_digit n = hex_digit_ascii (n % 16)
 
 -- what two digits read as
-unfoldable pub hexByte : ℕ → ℕ → HexByte
-hexByte high low = cond (leb 16 (hexValue high) || leb 16 (hexValue low)) Bad (Byte (hexValue high * 16 + hexValue low))
+unfoldable pub hex_byte : ℕ → ℕ → HexByte
+hex_byte high low = cond (leb 16 (hex_value high) || leb 16 (hex_value low)) Bad (Byte (hex_value high * 16 + hex_value low))
 
 -- a byte's two digits
-abbrev pub hexPair : ℕ → List ℕ
-hexPair b = hexDigit (b / 16) ∷ hexDigit b ∷ []
+abbrev pub hex_pair : ℕ → List ℕ
+hex_pair b = hex_digit (b / 16) ∷ hex_digit b ∷ []
 
 -- ---- laws
 
-pub a-digit-is-worth-its-number : (n : ℕ) → hexValue (hexDigit n) ≡ n % 16
-unfolding hexValue hexDigit
+pub a-digit-is-worth-its-number : (n : ℕ) → hex_value (hex_digit n) ≡ n % 16
+unfolding hex_value hex_digit
 a-digit-is-worth-its-number n =
     let small : n % 16 < 16 = omega arith in
     cases (ltb (n % 16) 10)
@@ -37,8 +37,8 @@ a-digit-is-worth-its-number n =
     let h = ltb-false (n % 16) 10 f in
     simp (f, le-leb 48 (87 + n % 16) (omega arith), lt-leb (87 + n % 16) 57 (omega arith), le-leb 97 (87 + n % 16) (omega arith), le-leb (87 + n % 16) 102 (omega arith)) (omega arith))
 
-pub a-byte-reads-back : (b : ℕ) → b < 256 → hexByte (hexDigit (b / 16)) (hexDigit b) ≡ Byte b
-unfolding hexByte
+pub a-byte-reads-back : (b : ℕ) → b < 256 → hex_byte (hex_digit (b / 16)) (hex_digit b) ≡ Byte b
+unfolding hex_byte
 a-byte-reads-back b h =
     let e : b / 16 % 16 * 16 + b % 16 ≡ b = omega arith in
     simp (a-digit-is-worth-its-number, lt-leb 16 (b / 16 % 16) (omega arith), lt-leb 16 (b % 16) (omega arith)) (ap Byte e)

@@ -11,7 +11,7 @@ use Rattle.text.specs.declared.hex.HexByte.{HexByte}
 use Rattle.text.specs.declared.hex.HexByte.TheVariants.{Byte, Bad}
 use Rattle.text.specs.declared.hex.HexRun.{HexRun}
 use Rattle.text.specs.declared.hex.HexRun.TheVariants as runs
-use Rattle.text.specs.Hex.{hexByte}
+use Rattle.text.specs.Hex.{hex_byte}
 
 abbrev pub is_byte : HexByte → Bool
 is_byte (Byte b) = true
@@ -26,21 +26,21 @@ before Bad rest = []
 unfoldable pub spells : List ℕ → Bool
 spells [] = true
 spells (high ∷ []) = false
-spells (high ∷ low ∷ rest) = is_byte (hexByte high low) && spells rest
+spells (high ∷ low ∷ rest) = is_byte (hex_byte high low) && spells rest
 
 -- the bytes that the pairs spell, up to the first pair that is no byte
 unfoldable pub spelt : List ℕ → List ℕ
 spelt [] = []
 spelt (high ∷ []) = []
-spelt (high ∷ low ∷ rest) = before (hexByte high low) (spelt rest)
+spelt (high ∷ low ∷ rest) = before (hex_byte high low) (spelt rest)
 
 -- how many bytes a run spells, where it spells bytes and there is room for them
-unfoldable pub readHexOf : List ℕ → ℕ → HexRun
-readHexOf run room = cond (leb (length run / 2) room && spells run) (runs.Count (length run / 2)) runs.Bad
+unfoldable pub read_hex_of : List ℕ → ℕ → HexRun
+read_hex_of run room = cond (leb (length run / 2) room && spells run) (runs.Count (length run / 2)) runs.Bad
 
 -- the buffer afterwards: the spelt bytes at its start and the rest as it was, or all as it was where there is no room
-unfoldable pub readHexIn : List ℕ → List ℕ → List ℕ
-readHexIn run into = cond (leb (length run / 2) (length into)) (spelt run ++ drop (length (spelt run)) into) into
+unfoldable pub read_hex_in : List ℕ → List ℕ → List ℕ
+read_hex_in run into = cond (leb (length run / 2) (length into)) (spelt run ++ drop (length (spelt run)) into) into
 
 -- ---- laws of the loop over a run's pairs
 
@@ -56,20 +56,20 @@ module _ (run : List ℕ) (i : ℕ) (h : i * 2 + 1 < length run) where
       ∙ ap (λ k. get_or run k 0 ∷ drop (suc (suc (i * 2))) run) next
       ∙ ap (λ k. get_or run (i * 2 + 1) 0 ∷ drop k run) after)
 
-  pub spells-good : (b : ℕ) → hexByte (get_or run (i * 2) 0) (get_or run (i * 2 + 1) 0) ≡ Byte b → spells (drop (i * 2) run) ≡ spells (drop ((i + 1) * 2) run)
+  pub spells-good : (b : ℕ) → hex_byte (get_or run (i * 2) 0) (get_or run (i * 2 + 1) 0) ≡ Byte b → spells (drop (i * 2) run) ≡ spells (drop ((i + 1) * 2) run)
   unfolding spells
   spells-good b e = ap spells pair-first ∙ simp e
 
-  pub spells-bad : hexByte (get_or run (i * 2) 0) (get_or run (i * 2 + 1) 0) ≡ Bad → spells (drop (i * 2) run) ≡ false
+  pub spells-bad : hex_byte (get_or run (i * 2) 0) (get_or run (i * 2 + 1) 0) ≡ Bad → spells (drop (i * 2) run) ≡ false
   unfolding spells
   spells-bad e = ap spells pair-first ∙ simp e
 
-  pub spelt-bad : hexByte (get_or run (i * 2) 0) (get_or run (i * 2 + 1) 0) ≡ Bad → spelt (drop (i * 2) run) ≡ []
+  pub spelt-bad : hex_byte (get_or run (i * 2) 0) (get_or run (i * 2 + 1) 0) ≡ Bad → spelt (drop (i * 2) run) ≡ []
   unfolding spelt
   spelt-bad e = ap spelt pair-first ∙ simp e
 
   -- one byte more stands in the buffer, and one less is to come
-  pub spelt-good : (out : List ℕ) (b : ℕ) → i < length out → hexByte (get_or run (i * 2) 0) (get_or run (i * 2 + 1) 0) ≡ Byte b
+  pub spelt-good : (out : List ℕ) (b : ℕ) → i < length out → hex_byte (get_or run (i * 2) 0) (get_or run (i * 2 + 1) 0) ≡ Byte b
       → take (i + 1) (set out i b) ++ spelt (drop ((i + 1) * 2) run) ≡ take i out ++ spelt (drop (i * 2) run)
   unfolding spelt
   spelt-good out b room e =
@@ -104,21 +104,21 @@ module _ (run : List ℕ) where
       (λ f. ap spelt (digit-left (eqb-false (length run % 2) 0 f)))
 
   -- the cases of the answer
-  pub hex-counted : (room : ℕ) → length run / 2 ≤ room → spells run ≡ true → runs.Count (length run / 2) ≡ readHexOf run room
-  unfolding readHexOf
+  pub hex-counted : (room : ℕ) → length run / 2 ≤ room → spells run ≡ true → runs.Count (length run / 2) ≡ read_hex_of run room
+  unfolding read_hex_of
   hex-counted room h t = simp (le-leb (length run / 2) room h, t)
 
-  pub hex-bad : (room : ℕ) → length run / 2 ≤ room → spells run ≡ false → runs.Bad ≡ readHexOf run room
-  unfolding readHexOf
+  pub hex-bad : (room : ℕ) → length run / 2 ≤ room → spells run ≡ false → runs.Bad ≡ read_hex_of run room
+  unfolding read_hex_of
   hex-bad room h f = simp (le-leb (length run / 2) room h, f)
 
-  pub hex-no-room : (into : List ℕ) → length into < length run / 2 → (runs.Bad ≡ readHexOf run (length into)) × (into ≡ readHexIn run into)
-  unfolding readHexOf readHexIn
+  pub hex-no-room : (into : List ℕ) → length into < length run / 2 → (runs.Bad ≡ read_hex_of run (length into)) × (into ≡ read_hex_in run into)
+  unfolding read_hex_of read_hex_in
   hex-no-room into h = (simp (lt-leb (length run / 2) (length into) h), simp (lt-leb (length run / 2) (length into) h))
 
   -- the buffer, where its first i bytes are the spelt ones and the others are as they were
-  pub hex-left : (into out : List ℕ) (i : ℕ) → length run / 2 ≤ length into → i ≤ length out → take i out ≡ spelt run → drop i out ≡ drop i into → out ≡ readHexIn run into
-  unfolding readHexIn
+  pub hex-left : (into out : List ℕ) (i : ℕ) → length run / 2 ≤ length into → i ≤ length out → take i out ≡ spelt run → drop i out ≡ drop i into → out ≡ read_hex_in run into
+  unfolding read_hex_in
   hex-left into out i room h start rest =
       let n : length (spelt run) ≡ i = ap length (sym start) ∙ length-take-le i out h in
       sym (take-append-drop i out)
@@ -129,8 +129,8 @@ module _ (run : List ℕ) where
 -- ---- what the answer says of a run
 
 module _ (run : List ℕ) (room : ℕ) where
-  pub count-says : (n : ℕ) → readHexOf run room ≡ runs.Count n → (n ≡ length run / 2) × (n ≤ room) × (spells run ≡ true)
-  unfolding readHexOf
+  pub count-says : (n : ℕ) → read_hex_of run room ≡ runs.Count n → (n ≡ length run / 2) × (n ≤ room) × (spells run ≡ true)
+  unfolding read_hex_of
   count-says n e =
       cases (leb (length run / 2) room)
       (λ l.
@@ -141,8 +141,8 @@ module _ (run : List ℕ) (room : ℕ) where
       (λ f. let z : ◌≡◌ {A = ℕ} 0 1 = cc (simp (l, f) at e) in absurd (omega arith)))
       (λ l. let z : ◌≡◌ {A = ℕ} 0 1 = cc (simp l at e) in absurd (omega arith))
 
-  pub bad-says : readHexOf run room ≡ runs.Bad → length run / 2 ≤ room → spells run ≡ false
-  unfolding readHexOf
+  pub bad-says : read_hex_of run room ≡ runs.Bad → length run / 2 ≤ room → spells run ≡ false
+  unfolding read_hex_of
   bad-says e h =
       cases (spells run)
       (λ t. let z : ◌≡◌ {A = ℕ} 0 1 = cc (simp (le-leb (length run / 2) room h, t) at e) in absurd (omega arith))
@@ -158,19 +158,19 @@ unfolding spells spelt
 spelt-length [] e = refl
 spelt-length (high ∷ []) e = let z : ◌≡◌ {A = ℕ} 0 1 = cc in absurd (omega arith)
 spelt-length (high ∷ low ∷ rest) e =
-    cases (is_byte (hexByte high low))
-    (λ t. spelt-byte (hexByte high low) (spelt rest) t ∙ omega (arith, spelt-length rest (simp t at e)))
+    cases (is_byte (hex_byte high low))
+    (λ t. spelt-byte (hex_byte high low) (spelt rest) t ∙ omega (arith, spelt-length rest (simp t at e)))
     (λ f. let z : ◌≡◌ {A = ℕ} 0 1 = cc (simp f at e) in absurd (omega arith))
 
 -- the bytes that a counted run spells stand at the buffer's start
-pub hex-start : (run into : List ℕ) → spells run ≡ true → length run / 2 ≤ length into → take (length run / 2) (readHexIn run into) ≡ spelt run
-unfolding readHexIn
+pub hex-start : (run into : List ℕ) → spells run ≡ true → length run / 2 ≤ length into → take (length run / 2) (read_hex_in run into) ≡ spelt run
+unfolding read_hex_in
 hex-start run into t h =
     simp (le-leb (length run / 2) (length into) h)
     (ap (λ k. take k (spelt run ++ drop (length (spelt run)) into)) (sym (spelt-length run t))
     ∙ take-append_seam (spelt run) (drop (length (spelt run)) into))
 
-pub counted_start : (run into left : List ℕ) (n : ℕ) → readHexOf run (length into) ≡ runs.Count n → left ≡ readHexIn run into → take n left ≡ spelt run
+pub counted_start : (run into left : List ℕ) (n : ℕ) → read_hex_of run (length into) ≡ runs.Count n → left ≡ read_hex_in run into → take n left ≡ spelt run
 counted_start run into left n e now =
     let said = count-says run (length into) n e in
     ap (λ k. take k left) said.0 ∙ ap (take (length run / 2)) now ∙ hex-start run into said.2 (omega (arith, said.0, said.1))

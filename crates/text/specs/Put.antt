@@ -8,30 +8,30 @@ use borrow.Table.Steps.{cases}
 use Rattle.io.specs.Digits.{last_digits, IsDigitCount}
 
 -- there is room for the run from the place on
-unfoldable pub hasRoom : List ℕ → List ℕ → ℕ → Bool
-hasRoom run out at = leb (at + length run) (length out)
+unfoldable pub has_room : List ℕ → List ℕ → ℕ → Bool
+has_room run out at = leb (at + length run) (length out)
 
-unfoldable pub putEnd : List ℕ → List ℕ → ℕ → ℕ
-putEnd run out at = cond (hasRoom run out at) (at + length run) at
+unfoldable pub put_end : List ℕ → List ℕ → ℕ → ℕ
+put_end run out at = cond (has_room run out at) (at + length run) at
 
 unfoldable pub put_in : List ℕ → List ℕ → ℕ → List ℕ
-put_in run out at = cond (hasRoom run out at) (take at out ++ (run ++ drop (at + length run) out)) out
+put_in run out at = cond (has_room run out at) (take at out ++ (run ++ drop (at + length run) out)) out
 
 -- runs put one behind the other
-unfoldable pub putsEnd : List (List ℕ) → List ℕ → ℕ → ℕ
-unfolding putEnd put_in
-putsEnd [] out at = at
-putsEnd (run ∷ rest) out at = putsEnd rest (put_in run out at) (putEnd run out at)
+unfoldable pub puts_end : List (List ℕ) → List ℕ → ℕ → ℕ
+unfolding put_end put_in
+puts_end [] out at = at
+puts_end (run ∷ rest) out at = puts_end rest (put_in run out at) (put_end run out at)
 
-unfoldable pub putsIn : List (List ℕ) → List ℕ → ℕ → List ℕ
-unfolding putEnd put_in
-putsIn [] out at = out
-putsIn (run ∷ rest) out at = putsIn rest (put_in run out at) (putEnd run out at)
+unfoldable pub puts_in : List (List ℕ) → List ℕ → ℕ → List ℕ
+unfolding put_end put_in
+puts_in [] out at = out
+puts_in (run ∷ rest) out at = puts_in rest (put_in run out at) (put_end run out at)
 
 -- what a function answers and leaves that puts runs one behind the other
 pub record Puts (parts : List (List ℕ)) (out : List ℕ) (at r : ℕ) (new : List ℕ) : Type 0 where
-  pub end : r ≡ putsEnd parts out at
-  pub holds : new ≡ putsIn parts out at
+  pub end : r ≡ puts_end parts out at
+  pub holds : new ≡ puts_in parts out at
 
 -- a text in parts
 unfoldable pub joined : List (List ℕ) → List ℕ
@@ -44,14 +44,14 @@ places zero n = 1
 places (suc more) n = cond (ltb n 10) 1 (suc (places more (n / 10)))
 
 -- a number in decimal: its digits, as few as hold it
-unfoldable pub decimalText : ℕ → List ℕ
+unfoldable pub decimal_text : ℕ → List ℕ
 unfolding places
-decimalText n = last_digits 10 (places n n) n
+decimal_text n = last_digits 10 (places n n) n
 
 -- ---- laws
 
-pub put_refused : (run out : List ℕ) (at : ℕ) → length out < at + length run → (putEnd run out at ≡ at) × (put_in run out at ≡ out)
-unfolding hasRoom putEnd put_in
+pub put_refused : (run out : List ℕ) (at : ℕ) → length out < at + length run → (put_end run out at ≡ at) × (put_in run out at ≡ out)
+unfolding has_room put_end put_in
 put_refused run out at h =
     let e = lt-leb (at + length run) (length out) h in
     (simp e, simp e)
@@ -59,8 +59,8 @@ put_refused run out at h =
 pub put-done : (run out new : List ℕ) (at : ℕ)
     → at + length run ≤ length out
     → new ≡ take (length run) run ++ drop (length run) (take (at + length run - at) (drop at out))
-    → (at + length run ≡ putEnd run out at) × (take at out ++ (new ++ drop (at + length run - at) (drop at out)) ≡ put_in run out at)
-unfolding hasRoom putEnd put_in
+    → (at + length run ≡ put_end run out at) × (take at out ++ (new ++ drop (at + length run - at) (drop at out)) ≡ put_in run out at)
+unfolding has_room put_end put_in
 put-done run out new at h e =
     let t = le-leb (at + length run) (length out) h in
     let k : at + length run - at ≡ length run = omega arith in
@@ -71,18 +71,18 @@ put-done run out new at h e =
     (simp t, simp (t, e, k, take-length, none, append-nil, drop-drop))
 
 pub puts-append : (first rest : List (List ℕ)) (out : List ℕ) (at : ℕ)
-    → (putsEnd (first ++ rest) out at ≡ putsEnd rest (putsIn first out at) (putsEnd first out at))
-    × (putsIn (first ++ rest) out at ≡ putsIn rest (putsIn first out at) (putsEnd first out at))
-unfolding putsEnd putsIn
+    → (puts_end (first ++ rest) out at ≡ puts_end rest (puts_in first out at) (puts_end first out at))
+    × (puts_in (first ++ rest) out at ≡ puts_in rest (puts_in first out at) (puts_end first out at))
+unfolding puts_end puts_in
 puts-append [] rest out at = (refl, refl)
-puts-append (run ∷ first) rest out at = puts-append first rest (put_in run out at) (putEnd run out at)
+puts-append (run ∷ first) rest out at = puts-append first rest (put_in run out at) (put_end run out at)
 
 -- where there is room for all of them, runs put one behind the other are put as one
 pub puts-fit : (parts : List (List ℕ)) (out : List ℕ) (at : ℕ)
     → at + length (joined parts) ≤ length out
-    → (putsEnd parts out at ≡ at + length (joined parts))
-    × (putsIn parts out at ≡ take at out ++ (joined parts ++ drop (at + length (joined parts)) out))
-unfolding hasRoom putEnd put_in putsEnd putsIn joined
+    → (puts_end parts out at ≡ at + length (joined parts))
+    × (puts_in parts out at ≡ take at out ++ (joined parts ++ drop (at + length (joined parts)) out))
+unfolding has_room put_end put_in puts_end puts_in joined
 puts-fit [] out at h = simp (add-zero, take-append-drop) (refl, refl)
 puts-fit (run ∷ rest) out at h =
     let past = at + length run in
@@ -98,8 +98,8 @@ puts-fit (run ∷ rest) out at h =
     simp (room, both, ← append_assoc) (r.0, r.1 ∙ simp (take_at front (drop past out) past size, behind, ← append_assoc))
 
 -- one run is put
-pub put_one : {run out new : List ℕ} {at r : ℕ} → (r ≡ putEnd run out at) × (new ≡ put_in run out at) → Puts (run ∷ []) out at r new
-unfolding putsEnd putsIn
+pub put_one : {run out new : List ℕ} {at r : ℕ} → (r ≡ put_end run out at) × (new ≡ put_in run out at) → Puts (run ∷ []) out at r new
+unfolding puts_end puts_in
 put_one e = record { end = e.0; holds = e.1 }
 
 -- some runs are put, and others behind them
@@ -132,8 +132,8 @@ digits-many zero n = refl
 digits-many (suc k) n = simp length-append (omega (arith, digits-many k (n / 10)))
 
 -- a number of 64 bits has at most twenty digits
-pub decimal-short : (n : ℕ) → n < 2 ^ 64 → length (decimalText n) ≤ 20
-unfolding decimalText
+pub decimal-short : (n : ℕ) → n < 2 ^ 64 → length (decimal_text n) ≤ 20
+unfolding decimal_text
 decimal-short n h = simp digits-many (places-few n n 19 (omega arith))
 
 -- the fewest digits that hold a number are as many as it has
@@ -162,6 +162,6 @@ fewest-are (suc more) n (suc (suc k)) h f =
     let most : 10 ^ (suc k - 1) ≤ n / 10 = rw same (omega arith) in
     simp (le-ltb n 10 large) (ap suc (fewest-are more (n / 10) (suc k) (omega arith) (omega arith, less, λ _. most)))
 
-pub fewest-text : (n k : ℕ) → IsDigitCount 10 1 n k → last_digits 10 k n ≡ decimalText n
-unfolding decimalText
+pub fewest-text : (n k : ℕ) → IsDigitCount 10 1 n k → last_digits 10 k n ≡ decimal_text n
+unfolding decimal_text
 fewest-text n k f = ap (λ m. last_digits 10 m n) (fewest-are n n k (omega arith) f)

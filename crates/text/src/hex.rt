@@ -1,11 +1,11 @@
 // Hexadecimal digits, in lower case alone.
 ghost use Rattle.std.specs.Prelude.{◌≡◌, ◌+◌, ◌*◌, ◌<◌, length, get_or};
-ghost use Rattle.text.specs.Hex.{hexValue, hexDigit, hexByte};
-ghost use Rattle.text.specs.HexRun.{readHexOf, readHexIn};
+ghost use Rattle.text.specs.Hex.{hex_value, hex_digit, hex_byte};
+ghost use Rattle.text.specs.HexRun.{read_hex_of, read_hex_in};
 
 // What a digit is worth, 0 to 15, and 16 for every byte that is no digit.
 pub fn hex_value(b: u8) -> u8
-    ensures { result ≡ hexValue b }
+    ensures { result ≡ hex_value b }
 {
     match b {
         b'0'..=b'9' => b - b'0',
@@ -16,21 +16,21 @@ pub fn hex_value(b: u8) -> u8
 
 // The digit of a number's last four bits.
 pub fn hex_digit(n: u8) -> u8
-    ensures { result ≡ hexDigit n }
+    ensures { result ≡ hex_digit n }
 {
     let d = n % 16;
     if d < 10 { b'0' + d } else { b'a' - 10 + d }
 }
 
 // What two digits read as.
-#[derive(Drop)]
+#[derive(Clone, Copy)]
 pub enum HexByte {
     Byte(u8),
     Bad,
 }
 
 pub fn hex_byte(high: u8, low: u8) -> HexByte
-    ensures { result ≡ hexByte high low }
+    ensures { result ≡ hex_byte high low }
 {
     let h = hex_value(high);
     let l = hex_value(low);
@@ -44,7 +44,7 @@ pub fn hex_byte(high: u8, low: u8) -> HexByte
 }
 
 // What a run of digits reads as: how many bytes, now at the start of the buffer.
-#[derive(Drop)]
+#[derive(Clone, Copy)]
 pub enum HexRun {
     Count(usize),
     Bad,
@@ -53,7 +53,7 @@ pub enum HexRun {
 // The byte that the pair of digits number i spells.
 fn pair_at(run: &[u8], i: usize) -> HexByte
     requires { i * 2 + 1 < length run.now }
-    ensures { result ≡ hexByte (get_or run.now (i * 2) 0) (get_or run.now (i * 2 + 1) 0) }
+    ensures { result ≡ hex_byte (get_or run.now (i * 2) 0) (get_or run.now (i * 2 + 1) 0) }
 {
     hex_byte(run[i * 2], run[i * 2 + 1])
 }
@@ -61,8 +61,8 @@ fn pair_at(run: &[u8], i: usize) -> HexByte
 // Reads all of a run, two digits a byte. Bad where a byte is no digit, one digit is left over, or the buffer is too short; the
 // bytes before a bad pair have then been written.
 pub fn read_hex(run: &[u8], into: &mut [u8]) -> HexRun
-    ensures value { result ≡ readHexOf run.now (length into.old) }
-    ensures into_after { into.new ≡ readHexIn run.now into.old }
+    ensures value { result ≡ read_hex_of run.now (length into.old) }
+    ensures into_after { into.new ≡ read_hex_in run.now into.old }
 {
     let n = run.len() / 2;
     if into.len() < n {

@@ -1,4 +1,6 @@
 // Numbers and bytes as text: decimal and lower-case hexadecimal, read from words and written into a lent buffer.
+#![tactic(auto)]
+
 pub mod hex;
 pub mod reading;
 pub mod writing;

@@ -1,9 +1,9 @@
 // Decimal numbers, without leading zeros.
 ghost use Rattle.std.specs.Prelude.{◌≡◌};
-ghost use Rattle.text.specs.Decimal.{digitValue, readFrom, decimalOf};
+ghost use Rattle.text.specs.Decimal.{digit_value, read_from, decimal_of};
 
 // What a word reads as.
-#[derive(Drop)]
+#[derive(Clone, Copy)]
 pub enum Decimal {
     Number(u64),
     Bad,
@@ -11,7 +11,7 @@ pub enum Decimal {
 
 // What a digit is worth, 0 to 9, and 10 for every byte that is no digit.
 fn digit_value(b: u8) -> u64
-    ensures { result ≡ digitValue b }
+    ensures { result ≡ digit_value b }
 {
     match b {
         b'0'..=b'9' => (b - b'0') as u64,
@@ -21,7 +21,7 @@ fn digit_value(b: u8) -> u64
 
 // The number that digits spell, up to the limit. The tests come before the product and the sum, so that neither wraps.
 fn spelt(word: &[u8], limit: u64) -> Decimal
-    ensures { result ≡ readFrom 0 word.now limit }
+    ensures { result ≡ read_from 0 word.now limit }
 {
     let mut n: u64 = 0;
     let mut i: usize = 0;
@@ -44,7 +44,7 @@ fn spelt(word: &[u8], limit: u64) -> Decimal
 
 // Reads a number without leading zeros, at most the limit, from all of a word.
 pub fn read_decimal(word: &[u8], limit: u64) -> Decimal
-    ensures { result ≡ decimalOf word.now limit }
+    ensures { result ≡ decimal_of word.now limit }
 {
     if word.len() == 0 {
         return Decimal::Bad;

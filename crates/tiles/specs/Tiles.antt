@@ -2,12 +2,12 @@
 use Rattle.std.specs.Prelude.{Bool, true, false, cond, ◌&&◌, List, [], ◌∷◌, ◌++◌, ℕ, zero, suc, ◌+◌, ◌-◌, ◌*◌, ◌/◌, ◌%◌, eqb, replicate}
 
 -- Tile n has 3 to 1,024 bytes.
-unfoldable pub tileLength : ℕ → ℕ
-tileLength n = 3 + n * 89 % 1022
+unfoldable pub tile_length : ℕ → ℕ
+tile_length n = 3 + n * 89 % 1022
 
 -- Byte j of tile n.
-unfoldable pub tileByte : ℕ → ℕ → ℕ → ℕ
-tileByte shade n j =
+unfoldable pub tile_byte : ℕ → ℕ → ℕ → ℕ
+tile_byte shade n j =
     cond (eqb j 0)
     shade
     (cond (eqb j 1)
@@ -17,26 +17,26 @@ tileByte shade n j =
     ((n * 31 + j * 7 + j / 16) % 256)))
 
 -- The first k bytes of tile n.
-unfoldable pub tileStart : ℕ → ℕ → ℕ → List ℕ
-tileStart shade n zero = []
-tileStart shade n (suc k) = tileStart shade n k ++ (tileByte shade n k ∷ [])
+unfoldable pub tile_start : ℕ → ℕ → ℕ → List ℕ
+tile_start shade n zero = []
+tile_start shade n (suc k) = tile_start shade n k ++ (tile_byte shade n k ∷ [])
 
 unfoldable pub tile : ℕ → ℕ → List ℕ
-tile shade n = tileStart shade n (tileLength n)
+tile shade n = tile_start shade n (tile_length n)
 
 -- Tile n in 1,024 bytes: its own, and zeros behind them.
-unfoldable pub tilePadded : ℕ → ℕ → List ℕ
+unfoldable pub tile_padded : ℕ → ℕ → List ℕ
 unfolding tile
-tilePadded shade n = tile shade n ++ replicate (1024 - tileLength n) 0
+tile_padded shade n = tile shade n ++ replicate (1024 - tile_length n) 0
 
 -- As many bytes, each the same.
-unfoldable pub sameBytes : List ℕ → List ℕ → Bool
-sameBytes [] [] = true
-sameBytes [] (y ∷ ys) = false
-sameBytes (x ∷ xs) [] = false
-sameBytes (x ∷ xs) (y ∷ ys) = eqb x y && sameBytes xs ys
+unfoldable pub same_bytes : List ℕ → List ℕ → Bool
+same_bytes [] [] = true
+same_bytes [] (y ∷ ys) = false
+same_bytes (x ∷ xs) [] = false
+same_bytes (x ∷ xs) (y ∷ ys) = eqb x y && same_bytes xs ys
 
 -- These bytes are tile n, all of it and nothing else.
-unfoldable pub isTile : ℕ → ℕ → List ℕ → Bool
-unfolding sameBytes tile
-isTile shade n bytes = sameBytes bytes (tile shade n)
+unfoldable pub is_tile : ℕ → ℕ → List ℕ → Bool
+unfolding same_bytes tile
+is_tile shade n bytes = same_bytes bytes (tile shade n)

@@ -12,14 +12,14 @@ use msg::ReliableMsg;
 use seq::Seq;
 
 // What the calls that are lent the records are to answer, and what the others.
-#[derive(Drop)]
+#[derive(Clone, Copy)]
 pub struct Dues {
     pub with: u8,
     pub without: u8,
 }
 
 // How many bytes of the received store are lent, and how many records.
-#[derive(Drop)]
+#[derive(Clone, Copy)]
 pub struct Lent {
     pub bytes: usize,
     pub words: usize,

@@ -3,6 +3,8 @@
 // what the records hold, which the calls refuse that are lent them, and the others accept; and states that are sound: what is odd in
 // them stands in an empty slot or in a cell that is not in use, or Sound asks nothing of it. Every call accepts them. Last come lengths
 // that are wrong, fresh states, and numbers past the end.
+#![tactic(auto)]
+
 mod fresh;
 mod gaps;
 mod good;

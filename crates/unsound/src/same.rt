@@ -22,7 +22,7 @@ fn numbers(a: [Seq; ACKS], b: [Seq; ACKS]) -> bool {
 }
 
 // A case and what it holds.
-#[derive(Drop)]
+#[derive(Clone, Copy)]
 struct Case {
     which: u8,
     held: u64,

@@ -6,6 +6,8 @@
 // to b: `<`, `=` or `>`. Numbers less than 2^30 apart have one order on both sides. Of the others the crate seq says that
 // they are far and has no order for them, where the original has one: each such pair is written, so that the file stdout
 // shows it.
+#![tactic(auto)]
+
 ghost use Rattle.std.specs.Prelude.{◌+◌, ◌^◌, ◌≤◌, ◌<◌, length};
 
 use libc::{STDIN_FILENO, STDOUT_FILENO};
@@ -24,7 +26,7 @@ const ORDER: usize = 45;
 const NO_ORDER: u8 = b'?';
 
 // What a line shows.
-#[derive(Drop)]
+#[derive(Clone, Copy)]
 enum Found {
     Alike,
     // all is alike but the order, of which there is none here
@@ -36,7 +38,7 @@ enum Found {
 }
 
 // How many lines showed what.
-#[derive(Drop)]
+#[derive(Clone, Copy)]
 struct Tally {
     compared: u64,
     differing: u64,

@@ -3,7 +3,7 @@ use Rattle.std.specs.Prelude.{◌≡◌, refl, Bool, true, false, cond, List, []
 use Rattle.std.proofs.Common.{sym, ap, ◌∙◌, mod-eq_of_lt, arith}
 use Rattle.refusal.specs.Answers.{flag}
 use Rattle.seq.specs.declared.Seq.{Seq}
-use Rattle.seq.specs.Numbers.{seqOf}
+use Rattle.seq.specs.Numbers.{seq_of}
 use Rattle.link.specs.declared.row.LinkRow.{LinkRow}
 use Rattle.link.specs.declared.row.MaxPing.{MaxPing}
 use Rattle.link.specs.declared.row.MaxPing.TheVariants.{Unlimited, UpTo}
@@ -11,7 +11,7 @@ use Rattle.link.specs.declared.row.Limit.{Limit}
 use Rattle.link.specs.declared.row.Limit.TheVariants.{Clear, At}
 use Rattle.link.specs.declared.row.Ping.{Ping}
 use Rattle.link.specs.declared.row.Ping.TheVariants.{Idle, Since}
-use Rattle.link.specs.Fields.{withAcks}
+use Rattle.link.specs.Fields.{with_acks}
 use Rattle.link.specs.Sizes.{ACKS}
 use Rattle.engine.specs.declared.state.Flushed.{Flushed}
 use Rattle.engine.specs.declared.state.Flushed.TheVariants.{Unflushed, FlushedAt}
@@ -22,10 +22,10 @@ use Rattle.engine.specs.declared.state.SentReliable.{SentReliable}
 use Rattle.engine.specs.declared.state.Held.TheVariants.{Message}
 use Rattle.engine.specs.declared.state.Sending.{Sending}
 use Rattle.engine.specs.declared.state.Receiving.{Receiving}
-use Rattle.engine.specs.Records.{recordOf, held-record}
-use Rattle.engine.specs.Fields.{newFlight, newPacket}
+use Rattle.engine.specs.Records.{record_of, held-record}
+use Rattle.engine.specs.Fields.{new_flight, new_packet}
 use Rattle.words.specs.declared.sending.SendingNumbers.{SendingNumbers}
-use Rattle.words.specs.Meaning.{half, is_set, maxPingOf, limitOf, pingOf, flushedOf, row_of, statusOf, packetHeld, packetOf, txOf, rxOf}
+use Rattle.words.specs.Meaning.{half, is_set, max_ping_of, limit_of, ping_of, flushed_of, row_of, status_of, packet_held, packet_of, tx_of, rx_of}
 
 -- a flag, and a number of 32 bits, come back
 pub set-flag : (b : Bool) → is_set (flag b) ≡ b
@@ -35,13 +35,13 @@ set-flag false = refl
 pub half-small : (n : ℕ) → n < 2 ^ 32 → half n ≡ n
 half-small n h = mod-eq_of_lt h
 
-pub seq-small : (s : Seq) → s.0 < 2 ^ 32 → seqOf (half s.0) ≡ s
-seq-small s h = ap seqOf (half-small s.0 h)
+pub seq-small : (s : Seq) → s.0 < 2 ^ 32 → seq_of (half s.0) ≡ s
+seq-small s h = ap seq_of (half-small s.0 h)
 
 -- ---- the receiving half
 
-abbrev pub rxWords : Receiving → List ℕ
-rxWords rx =
+abbrev pub rx_words : Receiving → List ℕ
+rx_words rx =
     rx.rx_seq.0 ∷ rx.rx_oldest.0 ∷ rx.rxed_reliable_size ∷ rx.rxed_reliable_consumed ∷ rx.recv_buffer ∷ rx.cells ∷ rx.rx_end.0 ∷ []
 
 pub record SmallRx (rx : Receiving) : Type 0 where
@@ -53,8 +53,8 @@ pub record SmallRx (rx : Receiving) : Type 0 where
   pub cells : rx.cells < 2 ^ 32
   pub end : rx.rx_end.0 < 2 ^ 32
 
-pub rx-back : (rx : Receiving) → SmallRx rx → rxOf (rxWords rx) ≡ rx
-unfolding rxOf
+pub rx-back : (rx : Receiving) → SmallRx rx → rx_of (rx_words rx) ≡ rx
+unfolding rx_of
 rx-back rx h = λ i. record {
   rx_seq = seq-small rx.rx_seq h.expected i;
   rx_oldest = seq-small rx.rx_oldest h.oldest i;
@@ -67,8 +67,8 @@ rx-back rx h = λ i. record {
 
 -- ---- the sending half's numbers
 
-abbrev pub numbersOf : Sending → SendingNumbers
-numbersOf tx = record {
+abbrev pub numbers_of : Sending → SendingNumbers
+numbers_of tx = record {
   tx_seq = tx.tx_seq;
   txed_count = tx.txed_count;
   resend_count = tx.resend_count;
@@ -81,8 +81,8 @@ numbersOf tx = record {
 }
 
 -- other numbers, over the same packets and queue
-abbrev pub withCounts : Sending → SendingNumbers → Sending
-withCounts tx n = record {
+abbrev pub with_counts : Sending → SendingNumbers → Sending
+with_counts tx n = record {
   tx_seq = n.tx_seq;
   txed_packets = tx.txed_packets;
   txed_count = n.txed_count;
@@ -96,8 +96,8 @@ withCounts tx n = record {
   write_closed = n.write_closed;
 }
 
-abbrev pub numbersWords : SendingNumbers → List ℕ
-numbersWords n =
+abbrev pub numbers_words : SendingNumbers → List ℕ
+numbers_words n =
     n.tx_seq.0
     ∷ n.txed_count
     ∷ n.resend_count
@@ -116,8 +116,8 @@ pub record SmallNumbers (n : SendingNumbers) : Type 0 where
   pub unconsumable : n.txed_unconsumable < 2 ^ 32
   pub last : n.txed_last_consumed.0 < 2 ^ 32
 
-pub tx-back : (n : SendingNumbers) (tx : Sending) → SmallNumbers n → txOf (numbersWords n) tx.txed_packets tx.resend_queue ≡ withCounts tx n
-unfolding txOf
+pub tx-back : (n : SendingNumbers) (tx : Sending) → SmallNumbers n → tx_of (numbers_words n) tx.txed_packets tx.resend_queue ≡ with_counts tx n
+unfolding tx_of
 tx-back n tx h = λ i. record {
   tx_seq = seq-small n.tx_seq h.next i;
   txed_packets = tx.txed_packets;
@@ -135,55 +135,55 @@ tx-back n tx h = λ i. record {
 -- ---- a row
 
 -- without its acks, which stand elsewhere
-unfoldable pub noAcks : List Seq
-noAcks = replicate ACKS (seqOf 0)
+unfoldable pub no_acks : List Seq
+no_acks = replicate ACKS (seq_of 0)
 
 abbrev pub bare : LinkRow → LinkRow
-bare r = withAcks r noAcks r.ack_count
+bare r = with_acks r no_acks r.ack_count
 
-abbrev pub maxPingSome : MaxPing → ℕ
-maxPingSome Unlimited = 0
-maxPingSome (UpTo v) = 1
+abbrev pub max_ping_some : MaxPing → ℕ
+max_ping_some Unlimited = 0
+max_ping_some (UpTo v) = 1
 
-abbrev pub maxPingWord : MaxPing → ℕ
-maxPingWord Unlimited = 0
-maxPingWord (UpTo v) = v
+abbrev pub max_ping_word : MaxPing → ℕ
+max_ping_word Unlimited = 0
+max_ping_word (UpTo v) = v
 
-abbrev pub limitSome : Limit → ℕ
-limitSome Clear = 0
-limitSome (At m) = 1
+abbrev pub limit_some : Limit → ℕ
+limit_some Clear = 0
+limit_some (At m) = 1
 
-abbrev pub limitWord : Limit → ℕ
-limitWord Clear = 0
-limitWord (At m) = m.0
+abbrev pub limit_word : Limit → ℕ
+limit_word Clear = 0
+limit_word (At m) = m.0
 
-abbrev pub pingSome : Ping → ℕ
-pingSome Idle = 0
-pingSome (Since t) = 1
+abbrev pub ping_some : Ping → ℕ
+ping_some Idle = 0
+ping_some (Since t) = 1
 
-abbrev pub pingWord : Ping → ℕ
-pingWord Idle = 0
-pingWord (Since t) = t
+abbrev pub ping_word : Ping → ℕ
+ping_word Idle = 0
+ping_word (Since t) = t
 
-abbrev pub rowWords : LinkRow → List ℕ
-rowWords r =
+abbrev pub row_words : LinkRow → List ℕ
+row_words r =
     flag r.live
     ∷ r.link_id
     ∷ r.roundtrip
-    ∷ maxPingSome r.max_ping
-    ∷ maxPingWord r.max_ping
+    ∷ max_ping_some r.max_ping
+    ∷ max_ping_word r.max_ping
     ∷ flag r.blocked
     ∷ flag r.unconfirmed
     ∷ flag r.zero_estimate
-    ∷ limitSome r.limit_increased
-    ∷ limitWord r.limit_increased
-    ∷ pingSome r.current_ping_sent
-    ∷ pingWord r.current_ping_sent
+    ∷ limit_some r.limit_increased
+    ∷ limit_word r.limit_increased
+    ∷ ping_some r.current_ping_sent
+    ∷ ping_word r.current_ping_sent
     ∷ r.txed_unacked_data
     ∷ r.ack_count
     ∷ []
 
-max-ping-back : (m : MaxPing) → maxPingOf (maxPingSome m) (maxPingWord m) ≡ m
+max-ping-back : (m : MaxPing) → max_ping_of (max_ping_some m) (max_ping_word m) ≡ m
 max-ping-back Unlimited = refl
 max-ping-back (UpTo v) = refl
 
@@ -192,19 +192,19 @@ abbrev pub SmallLimit : Limit → Type 0
 SmallLimit Clear = Unit
 SmallLimit (At m) = m.0 < 2 ^ 32
 
-pub small-limit : (l : Limit) → limitWord l < 2 ^ 32 → SmallLimit l
+pub small-limit : (l : Limit) → limit_word l < 2 ^ 32 → SmallLimit l
 small-limit Clear h = tt
 small-limit (At m) h = h
 
-pub limit-back : (l : Limit) → SmallLimit l → limitOf (limitSome l) (limitWord l) ≡ l
+pub limit-back : (l : Limit) → SmallLimit l → limit_of (limit_some l) (limit_word l) ≡ l
 limit-back Clear h = refl
 limit-back (At m) h = ap At (seq-small m h)
 
-ping-back : (p : Ping) → pingOf (pingSome p) (pingWord p) ≡ p
+ping-back : (p : Ping) → ping_of (ping_some p) (ping_word p) ≡ p
 ping-back Idle = refl
 ping-back (Since t) = refl
 
-pub row_back : (r : LinkRow) (acks : List Seq) → r.txed_unacked_data < 2 ^ 32 → SmallLimit r.limit_increased → row_of (rowWords r) acks ≡ withAcks r acks r.ack_count
+pub row_back : (r : LinkRow) (acks : List Seq) → r.txed_unacked_data < 2 ^ 32 → SmallLimit r.limit_increased → row_of (row_words r) acks ≡ with_acks r acks r.ack_count
 unfolding row_of
 row_back r acks h l = λ i. record {
   live = set-flag r.live i;
@@ -222,45 +222,45 @@ row_back r acks h l = λ i. record {
 }
 
 -- a row's words after an ack: other ones for the round trip, its flag, the mark and the unacked bytes
-abbrev pub ackedWords : List ℕ → LinkRow → List ℕ
-ackedWords xs r =
-    set (set (set (set (set xs 2 r.roundtrip) 7 (flag r.zero_estimate)) 8 (limitSome r.limit_increased)) 9 (limitWord r.limit_increased)) 12 r.txed_unacked_data
+abbrev pub acked_words : List ℕ → LinkRow → List ℕ
+acked_words xs r =
+    set (set (set (set (set xs 2 r.roundtrip) 7 (flag r.zero_estimate)) 8 (limit_some r.limit_increased)) 9 (limit_word r.limit_increased)) 12 r.txed_unacked_data
 
 -- ---- a packet
 
 -- the tag of a status: 1 Sent, 2 Sent again, 3 Received, 4 ResendQueued
-abbrev pub statusWord : SentReliableStatus → ℕ
-statusWord (Sent flight) = cond flight.resent 2 1
-statusWord Received = 3
-statusWord (ResendQueued link) = 4
+abbrev pub status_word : SentReliableStatus → ℕ
+status_word (Sent flight) = cond flight.resent 2 1
+status_word Received = 3
+status_word (ResendQueued link) = 4
 
 -- the flight that its words are written from; of one that is in none, what is never read is 0
-abbrev pub flightIn : SentReliableStatus → InFlight
-flightIn (Sent flight) = flight
-flightIn Received = newFlight 0 0 0 false
-flightIn (ResendQueued link) = newFlight 0 0 link false
+abbrev pub flight_in : SentReliableStatus → InFlight
+flight_in (Sent flight) = flight
+flight_in Received = new_flight 0 0 0 false
+flight_in (ResendQueued link) = new_flight 0 0 link false
 
-abbrev pub flushedSome : Flushed → ℕ
-flushedSome Unflushed = 0
-flushedSome (FlushedAt t) = 1
+abbrev pub flushed_some : Flushed → ℕ
+flushed_some Unflushed = 0
+flushed_some (FlushedAt t) = 1
 
-abbrev pub flushedWord : Flushed → ℕ
-flushedWord Unflushed = 0
-flushedWord (FlushedAt t) = t
+abbrev pub flushed_word : Flushed → ℕ
+flushed_word Unflushed = 0
+flushed_word (FlushedAt t) = t
 
-abbrev pub packetWords : SentReliable → List ℕ
-packetWords p =
+abbrev pub packet_words : SentReliable → List ℕ
+packet_words p =
     p.seq.0
-    ∷ recordOf (Message p.msg p.len)
-    ∷ statusWord p.status
-    ∷ (flightIn p.status).slot
-    ∷ (flightIn p.status).link
-    ∷ (flightIn p.status).sent
-    ∷ flushedSome (flightIn p.status).flushed
-    ∷ flushedWord (flightIn p.status).flushed
+    ∷ record_of (Message p.msg p.len)
+    ∷ status_word p.status
+    ∷ (flight_in p.status).slot
+    ∷ (flight_in p.status).link
+    ∷ (flight_in p.status).sent
+    ∷ flushed_some (flight_in p.status).flushed
+    ∷ flushed_word (flight_in p.status).flushed
     ∷ []
 
-flushed-back : (f : Flushed) → flushedOf (flushedSome f) (flushedWord f) ≡ f
+flushed-back : (f : Flushed) → flushed_of (flushed_some f) (flushed_word f) ≡ f
 flushed-back Unflushed = refl
 flushed-back (FlushedAt t) = refl
 
@@ -269,31 +269,31 @@ SmallSlot (Sent flight) = flight.slot < 256
 SmallSlot Received = Unit
 SmallSlot (ResendQueued link) = Unit
 
-pub small_slot : (st : SentReliableStatus) → (flightIn st).slot < 256 → SmallSlot st
+pub small_slot : (st : SentReliableStatus) → (flight_in st).slot < 256 → SmallSlot st
 small_slot (Sent flight) h = h
 small_slot Received h = tt
 small_slot (ResendQueued link) h = tt
 
 -- the words of a packet with a status
-abbrev statusWords : ℕ → ℕ → SentReliableStatus → List ℕ
-statusWords seq message st =
-    seq ∷ message ∷ statusWord st ∷ (flightIn st).slot ∷ (flightIn st).link ∷ (flightIn st).sent ∷ flushedSome (flightIn st).flushed ∷ flushedWord (flightIn st).flushed ∷ []
+abbrev status_words : ℕ → ℕ → SentReliableStatus → List ℕ
+status_words seq message st =
+    seq ∷ message ∷ status_word st ∷ (flight_in st).slot ∷ (flight_in st).link ∷ (flight_in st).sent ∷ flushed_some (flight_in st).flushed ∷ flushed_word (flight_in st).flushed ∷ []
 
-sent_back : (seq message : ℕ) (again : Bool) (flight : InFlight) → flight.resent ≡ again → flight.slot < 256 → statusOf (statusWords seq message (Sent flight)) ≡ Sent flight
-unfolding statusOf
+sent_back : (seq message : ℕ) (again : Bool) (flight : InFlight) → flight.resent ≡ again → flight.slot < 256 → status_of (status_words seq message (Sent flight)) ≡ Sent flight
+unfolding status_of
 sent_back seq message true flight e h =
     simp e (λ i. Sent (record { sent = flight.sent; flushed = flushed-back flight.flushed i; slot = mod-eq_of_lt h i; link = flight.link; resent = sym e i }))
 sent_back seq message false flight e h =
     simp e (λ i. Sent (record { sent = flight.sent; flushed = flushed-back flight.flushed i; slot = mod-eq_of_lt h i; link = flight.link; resent = sym e i }))
 
-status-back : (seq message : ℕ) (st : SentReliableStatus) → SmallSlot st → statusOf (statusWords seq message st) ≡ st
-unfolding statusOf
+status-back : (seq message : ℕ) (st : SentReliableStatus) → SmallSlot st → status_of (status_words seq message st) ≡ st
+unfolding status_of
 status-back seq message (Sent flight) h = sent_back seq message flight.resent flight refl h
 status-back seq message Received h = refl
 status-back seq message (ResendQueued link) h = refl
 
-pub packet-back : (p : SentReliable) → p.seq.0 < 2 ^ 32 → p.len < 2 ^ 24 → SmallSlot p.status → packetOf (packetWords p) ≡ p
-unfolding packetOf
+pub packet-back : (p : SentReliable) → p.seq.0 < 2 ^ 32 → p.len < 2 ^ 24 → SmallSlot p.status → packet_of (packet_words p) ≡ p
+unfolding packet_of
 packet-back p n l s =
-    ap (λ h. packetHeld h (seqOf (half p.seq.0)) (statusOf (packetWords p))) (held-record p.msg p.len l)
-    ∙ (λ i. newPacket (seq-small p.seq n i) p.msg p.len (status-back p.seq.0 (recordOf (Message p.msg p.len)) p.status s i))
+    ap (λ h. packet_held h (seq_of (half p.seq.0)) (status_of (packet_words p))) (held-record p.msg p.len l)
+    ∙ (λ i. new_packet (seq-small p.seq n i) p.msg p.len (status-back p.seq.0 (record_of (Message p.msg p.len)) p.status s i))

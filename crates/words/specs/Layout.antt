@@ -19,19 +19,19 @@ abbrev pub READER : ℕ
 READER = 25
 
 -- a slot's row, fourteen words, and its acks
-abbrev pub rowStart : ℕ → ℕ
-rowStart slot = 32 + slot * 16
+abbrev pub row_start : ℕ → ℕ
+row_start slot = 32 + slot * 16
 
-abbrev pub acksStart : ℕ → ℕ
-acksStart slot = 160 + slot * 64
+abbrev pub acks_start : ℕ → ℕ
+acks_start slot = 160 + slot * 64
 
 -- which of its acks is the oldest: the ring starts there
-abbrev pub headAt : ℕ → ℕ
-headAt slot = rowStart slot + 14
+abbrev pub head_at : ℕ → ℕ
+head_at slot = row_start slot + 14
 
 -- a cell of the packet table, eight words
-abbrev pub packetStart : ℕ → ℕ
-packetStart at = 672 + at * 8
+abbrev pub packet_start : ℕ → ℕ
+packet_start at = 672 + at * 8
 
 -- the resend queue
 abbrev pub QUEUE : ℕ

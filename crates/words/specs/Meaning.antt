@@ -4,7 +4,7 @@
 use Rattle.std.specs.Prelude.{◌≡◌, refl, Bool, true, false, cond, not, List, [], map, ℕ, ◌+◌, ◌%◌, eqb, length, get_or}
 use Rattle.std.proofs.Common.{ap, eq-eqb}
 use Rattle.seq.specs.declared.Seq.{Seq}
-use Rattle.seq.specs.Numbers.{seqOf}
+use Rattle.seq.specs.Numbers.{seq_of}
 use Rattle.msg.specs.declared.reliable.ReliableMsg.TheVariants.{Data}
 use Rattle.link.specs.declared.row.LinkRow.{LinkRow}
 use Rattle.link.specs.declared.row.MaxPing.{MaxPing}
@@ -24,34 +24,34 @@ use Rattle.engine.specs.declared.state.Held.TheVariants.{Nothing, Message}
 use Rattle.engine.specs.declared.state.Sending.{Sending}
 use Rattle.engine.specs.declared.state.Receiving.{Receiving}
 use Rattle.engine.specs.declared.state.State.{State}
-use Rattle.engine.specs.Fields.{newPacket}
+use Rattle.engine.specs.Fields.{new_packet}
 use Rattle.engine.specs.Records.{held_of}
 use Rattle.words.specs.Parts.{part, entries}
 use Rattle.words.specs.Ring.{turned}
-use Rattle.words.specs.Layout.{WORDS, TX, RX, TIME, READER, rowStart, acksStart, headAt, packetStart, QUEUE}
+use Rattle.words.specs.Layout.{WORDS, TX, RX, TIME, READER, row_start, acks_start, head_at, packet_start, QUEUE}
 
 -- a number of 32 bits; a sequence number; a flag
 abbrev pub half : ℕ → ℕ
 half v = v % 4294967296
 
-abbrev pub seqWord : ℕ → Seq
-seqWord v = seqOf (half v)
+abbrev pub seq_word : ℕ → Seq
+seq_word v = seq_of (half v)
 
 abbrev pub is_set : ℕ → Bool
 is_set v = not (eqb v 0)
 
 -- what may be missing: a flag, and the value where it is set
-abbrev pub maxPingOf : ℕ → ℕ → MaxPing
-maxPingOf some v = cond (is_set some) (UpTo v) Unlimited
+abbrev pub max_ping_of : ℕ → ℕ → MaxPing
+max_ping_of some v = cond (is_set some) (UpTo v) Unlimited
 
-abbrev pub limitOf : ℕ → ℕ → Limit
-limitOf some v = cond (is_set some) (At (seqWord v)) Clear
+abbrev pub limit_of : ℕ → ℕ → Limit
+limit_of some v = cond (is_set some) (At (seq_word v)) Clear
 
-abbrev pub pingOf : ℕ → ℕ → Ping
-pingOf some v = cond (is_set some) (Since v) Idle
+abbrev pub ping_of : ℕ → ℕ → Ping
+ping_of some v = cond (is_set some) (Since v) Idle
 
-abbrev pub flushedOf : ℕ → ℕ → Flushed
-flushedOf some v = cond (is_set some) (FlushedAt v) Unflushed
+abbrev pub flushed_of : ℕ → ℕ → Flushed
+flushed_of some v = cond (is_set some) (FlushedAt v) Unflushed
 
 -- a row, with its acks
 unfoldable pub row_of : List ℕ → List Seq → LinkRow
@@ -59,12 +59,12 @@ row_of xs acks = record {
   live = is_set (get_or xs 0 0);
   link_id = get_or xs 1 0;
   roundtrip = get_or xs 2 0;
-  max_ping = maxPingOf (get_or xs 3 0) (get_or xs 4 0);
+  max_ping = max_ping_of (get_or xs 3 0) (get_or xs 4 0);
   blocked = is_set (get_or xs 5 0);
   unconfirmed = is_set (get_or xs 6 0);
   zero_estimate = is_set (get_or xs 7 0);
-  limit_increased = limitOf (get_or xs 8 0) (get_or xs 9 0);
-  current_ping_sent = pingOf (get_or xs 10 0) (get_or xs 11 0);
+  limit_increased = limit_of (get_or xs 8 0) (get_or xs 9 0);
+  current_ping_sent = ping_of (get_or xs 10 0) (get_or xs 11 0);
   txed_unacked_data = half (get_or xs 12 0);
   tx_ack_queue = acks;
   ack_count = get_or xs 13 0;
@@ -78,50 +78,50 @@ abbrev pub NO_LENGTH : ℕ
 NO_LENGTH = 16777215
 
 -- a packet's tag: 1 Sent, 2 Sent again, 3 Received, 4 ResendQueued
-abbrev pub flightOf : List ℕ → ℕ → Bool → InFlight
-flightOf xs slot again = record { sent = get_or xs 5 0; flushed = flushedOf (get_or xs 6 0) (get_or xs 7 0); slot = slot; link = get_or xs 4 0; resent = again }
+abbrev pub flight_of : List ℕ → ℕ → Bool → InFlight
+flight_of xs slot again = record { sent = get_or xs 5 0; flushed = flushed_of (get_or xs 6 0) (get_or xs 7 0); slot = slot; link = get_or xs 4 0; resent = again }
 
-unfoldable pub statusOf : List ℕ → SentReliableStatus
-statusOf xs =
-    cond (eqb (get_or xs 2 0) 1) (Sent (flightOf xs (get_or xs 3 0 % 256) false))
-    (cond (eqb (get_or xs 2 0) 2) (Sent (flightOf xs (get_or xs 3 0 % 256) true))
+unfoldable pub status_of : List ℕ → SentReliableStatus
+status_of xs =
+    cond (eqb (get_or xs 2 0) 1) (Sent (flight_of xs (get_or xs 3 0 % 256) false))
+    (cond (eqb (get_or xs 2 0) 2) (Sent (flight_of xs (get_or xs 3 0 % 256) true))
     (cond (eqb (get_or xs 2 0) 3) Received
     (cond (eqb (get_or xs 2 0) 4) (ResendQueued (get_or xs 4 0))
-    (Sent (flightOf xs NO_SLOT false)))))
+    (Sent (flight_of xs NO_SLOT false)))))
 
 -- its message is in one word, as in the record space
-abbrev pub packetHeld : Held → Seq → SentReliableStatus → SentReliable
-packetHeld (Message msg len) seq status = newPacket seq msg len status
-packetHeld Nothing seq status = newPacket seq Data NO_LENGTH status
+abbrev pub packet_held : Held → Seq → SentReliableStatus → SentReliable
+packet_held (Message msg len) seq status = new_packet seq msg len status
+packet_held Nothing seq status = new_packet seq Data NO_LENGTH status
 
-unfoldable pub packetOf : List ℕ → SentReliable
-unfolding statusOf
-packetOf xs = packetHeld (held_of (get_or xs 1 0)) (seqWord (get_or xs 0 0)) (statusOf xs)
+unfoldable pub packet_of : List ℕ → SentReliable
+unfolding status_of
+packet_of xs = packet_held (held_of (get_or xs 1 0)) (seq_word (get_or xs 0 0)) (status_of xs)
 
 -- ---- the parts of the state
 
 -- a slot's acks, oldest first: a ring
-unfoldable pub acksIn : List ℕ → ℕ → List Seq
-acksIn w slot = map seqWord (turned (get_or w (headAt slot) 0) (part (acksStart slot) 64 w))
+unfoldable pub acks_in : List ℕ → ℕ → List Seq
+acks_in w slot = map seq_word (turned (get_or w (head_at slot) 0) (part (acks_start slot) 64 w))
 
 -- where the ring has the ack that stands i behind the oldest
-abbrev pub ackAt : List ℕ → ℕ → ℕ → ℕ
-ackAt w slot i = acksStart slot + (get_or w (headAt slot) 0 + i) % 64
+abbrev pub ack_at : List ℕ → ℕ → ℕ → ℕ
+ack_at w slot i = acks_start slot + (get_or w (head_at slot) 0 + i) % 64
 
-unfoldable pub linksIn : List ℕ → List LinkRow
-unfolding row_of acksIn
-linksIn w = entries 8 (λ slot. row_of (part (rowStart slot) 14 w) (acksIn w slot))
+unfoldable pub links_in : List ℕ → List LinkRow
+unfolding row_of acks_in
+links_in w = entries 8 (λ slot. row_of (part (row_start slot) 14 w) (acks_in w slot))
 
-unfoldable pub packetsIn : List ℕ → List SentReliable
-unfolding packetOf
-packetsIn w = entries 64 (λ at. packetOf (part (packetStart at) 8 w))
+unfoldable pub packets_in : List ℕ → List SentReliable
+unfolding packet_of
+packets_in w = entries 64 (λ at. packet_of (part (packet_start at) 8 w))
 
-unfoldable pub queueIn : List ℕ → List Seq
-queueIn w = map seqWord (part QUEUE 64 w)
+unfoldable pub queue_in : List ℕ → List Seq
+queue_in w = map seq_word (part QUEUE 64 w)
 
-unfoldable pub txOf : List ℕ → List SentReliable → List Seq → Sending
-txOf xs packets queue = record {
-  tx_seq = seqWord (get_or xs 0 0);
+unfoldable pub tx_of : List ℕ → List SentReliable → List Seq → Sending
+tx_of xs packets queue = record {
+  tx_seq = seq_word (get_or xs 0 0);
   txed_packets = packets;
   txed_count = get_or xs 1 0;
   resend_queue = queue;
@@ -129,28 +129,28 @@ txOf xs packets queue = record {
   txed_unacked = half (get_or xs 3 0);
   txed_unconsumed = half (get_or xs 4 0);
   txed_unconsumable = half (get_or xs 5 0);
-  txed_last_consumed = seqWord (get_or xs 6 0);
+  txed_last_consumed = seq_word (get_or xs 6 0);
   send_finish_sent = is_set (get_or xs 7 0);
   write_closed = is_set (get_or xs 8 0);
 }
 
-unfoldable pub rxOf : List ℕ → Receiving
-rxOf xs = record {
-  rx_seq = seqWord (get_or xs 0 0);
-  rx_oldest = seqWord (get_or xs 1 0);
+unfoldable pub rx_of : List ℕ → Receiving
+rx_of xs = record {
+  rx_seq = seq_word (get_or xs 0 0);
+  rx_oldest = seq_word (get_or xs 1 0);
   rxed_reliable_size = half (get_or xs 2 0);
   rxed_reliable_consumed = half (get_or xs 3 0);
   recv_buffer = half (get_or xs 4 0);
   cells = half (get_or xs 5 0);
-  rx_end = seqWord (get_or xs 6 0);
+  rx_end = seq_word (get_or xs 6 0);
 }
 
 unfoldable pub decoded : List ℕ → State
-unfolding linksIn packetsIn queueIn txOf rxOf
+unfolding links_in packets_in queue_in tx_of rx_of
 decoded w = record {
-  links = linksIn w;
-  tx = txOf (part TX 9 w) (packetsIn w) (queueIn w);
-  rx = rxOf (part RX 7 w);
+  links = links_in w;
+  tx = tx_of (part TX 9 w) (packets_in w) (queue_in w);
+  rx = rx_of (part RX 7 w);
   time = get_or w TIME 0;
   read_open = is_set (get_or w READER 0);
 }

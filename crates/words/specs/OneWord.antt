@@ -8,8 +8,8 @@ use Rattle.std.proofs.Math.ListN.{length, get_or}
 use Rattle.refusal.specs.Answers.{flag}
 use Rattle.seq.specs.declared.Seq.{Seq}
 use Rattle.link.specs.declared.row.LinkRow.{LinkRow}
-use Rattle.link.specs.Fields.{withAcks, withSending}
-use Rattle.link.specs.Row.{withUnacked}
+use Rattle.link.specs.Fields.{with_acks, with_sending}
+use Rattle.link.specs.Row.{with_unacked}
 use Rattle.engine.specs.declared.state.SentReliable.{SentReliable}
 use Rattle.engine.specs.declared.state.SentReliableStatus.TheVariants.{Received}
 use Rattle.engine.specs.declared.state.Held.{Held}
@@ -17,14 +17,14 @@ use Rattle.engine.specs.declared.state.Held.TheVariants.{Nothing, Message}
 use Rattle.engine.specs.declared.state.Receiving.{Receiving}
 use Rattle.engine.specs.declared.state.Sending.{Sending}
 use Rattle.engine.specs.declared.state.State.{State}
-use Rattle.engine.specs.Fields.{withStatus, with_row, withTx, withRx, withPackets, with_next, withTotals, withEnds, withNumbers, withBytes, withEnd}
-use Rattle.engine.specs.Packets.{noPacket}
+use Rattle.engine.specs.Fields.{with_status, with_row, with_tx, with_rx, with_packets, with_next, with_totals, with_ends, with_numbers, with_bytes, with_end}
+use Rattle.engine.specs.Packets.{no_packet}
 use Rattle.engine.specs.Records.{held_of}
-use Rattle.engine.specs.Sound.{rowAt}
+use Rattle.engine.specs.Sound.{row_at}
 use Rattle.engine.specs.Stores.{copied}
 use Rattle.words.specs.Parts.{part, part_length, part_at, entries, entries-length, entry_at}
-use Rattle.words.specs.Layout.{WORDS, TX, RX, rowStart, packetStart}
-use Rattle.words.specs.Meaning.{seqWord, row_of, statusOf, packetHeld, packetOf, acksIn, txOf, rxOf, decoded, state_of, stated}
+use Rattle.words.specs.Layout.{WORDS, TX, RX, row_start, packet_start}
+use Rattle.words.specs.Meaning.{seq_word, row_of, status_of, packet_held, packet_of, acks_in, tx_of, rx_of, decoded, state_of, stated}
 use Rattle.words.specs.Encoded.{set-flag, half-small, seq-small}
 use Rattle.words.specs.Read.{row_read, packet-read}
 use Rattle.words.specs.Written.{row_written, packet-written, tx-written, rx-written}
@@ -62,163 +62,163 @@ module _ (w : List ℕ) (long : length w ≡ WORDS) where
   -- ---- a row
 
   module _ (j : ℕ) (lt : j < 8) where
-    abbrev rowPart : List ℕ
-    rowPart = part (rowStart j) 14 w
+    abbrev row_part : List ℕ
+    row_part = part (row_start j) 14 w
 
-    row-long : length rowPart ≡ 14
-    row-long = part_length (rowStart j) 14 w (omega arith)
+    row-long : length row_part ≡ 14
+    row-long = part_length (row_start j) 14 w (omega arith)
 
-    abbrev pub rowWord : ℕ → ℕ
-    rowWord i = get_or rowPart i 0
+    abbrev pub row_word : ℕ → ℕ
+    row_word i = get_or row_part i 0
 
     -- a row in other words is the row with its change
-    pub row-changed : (f : List ℕ → List ℕ) (g : LinkRow → LinkRow) → length (f rowPart) ≡ 14 → row_of (f (entries 14 rowWord)) (acksIn w j) ≡ g (row_of (entries 14 rowWord) (acksIn w j))
-        → state_of (copied w (rowStart j) (f rowPart)) ≡ with_row (state_of w) j (g (rowAt (state_of w) j))
+    pub row-changed : (f : List ℕ → List ℕ) (g : LinkRow → LinkRow) → length (f row_part) ≡ 14 → row_of (f (entries 14 row_word)) (acks_in w j) ≡ g (row_of (entries 14 row_word) (acks_in w j))
+        → state_of (copied w (row_start j) (f row_part)) ≡ with_row (state_of w) j (g (row_at (state_of w) j))
     row-changed f g n h =
-        row_written w long (f rowPart) j lt n
-        ∙ ap (with_row (state_of w) j) (by-words 14 rowPart row-long (λ l. row_of (f l) (acksIn w j)) (λ l. g (row_of l (acksIn w j))) h)
+        row_written w long (f row_part) j lt n
+        ∙ ap (with_row (state_of w) j) (by-words 14 row_part row-long (λ l. row_of (f l) (acks_in w j)) (λ l. g (row_of l (acks_in w j))) h)
         ∙ ap (λ r. with_row (state_of w) j (g r)) (sym (row_read w long j lt))
 
-    row_field : (i v : ℕ) (g : LinkRow → LinkRow) → i < 14 → row_of (set (entries 14 rowWord) i v) (acksIn w j) ≡ g (row_of (entries 14 rowWord) (acksIn w j))
-        → state_of (set w (rowStart j + i) v) ≡ with_row (state_of w) j (g (rowAt (state_of w) j))
+    row_field : (i v : ℕ) (g : LinkRow → LinkRow) → i < 14 → row_of (set (entries 14 row_word) i v) (acks_in w j) ≡ g (row_of (entries 14 row_word) (acks_in w j))
+        → state_of (set w (row_start j + i) v) ≡ with_row (state_of w) j (g (row_at (state_of w) j))
     row_field i v g h e =
-        ap state_of (word-in-part w (rowStart j) 14 i v h (omega arith))
-        ∙ row-changed (λ l. set l i v) g (length-set rowPart i v ∙ row-long) e
+        ap state_of (word-in-part w (row_start j) 14 i v h (omega arith))
+        ∙ row-changed (λ l. set l i v) g (length-set row_part i v ∙ row-long) e
 
-    pub unacked-data-put : (v : ℕ) → v < 2 ^ 32 → state_of (set w (rowStart j + 12) v) ≡ with_row (state_of w) j (withUnacked (rowAt (state_of w) j) v)
-    unfolding row_of withUnacked
+    pub unacked-data-put : (v : ℕ) → v < 2 ^ 32 → state_of (set w (row_start j + 12) v) ≡ with_row (state_of w) j (with_unacked (row_at (state_of w) j) v)
+    unfolding row_of with_unacked
     unacked-data-put v small =
-        row_field 12 v (λ r. withSending r r.limit_increased v) (omega arith)
-        (ap (λ n. withSending (row_of (entries 14 rowWord) (acksIn w j)) (row_of (entries 14 rowWord) (acksIn w j)).limit_increased n) (half-small v small))
+        row_field 12 v (λ r. with_sending r r.limit_increased v) (omega arith)
+        (ap (λ n. with_sending (row_of (entries 14 row_word) (acks_in w j)) (row_of (entries 14 row_word) (acks_in w j)).limit_increased n) (half-small v small))
 
-    pub ack-count-read : (rowAt (state_of w) j).ack_count ≡ get_or w (rowStart j + 13) 0
+    pub ack-count-read : (row_at (state_of w) j).ack_count ≡ get_or w (row_start j + 13) 0
     unfolding row_of
-    ack-count-read = ap (λ (r : LinkRow). r.ack_count) (row_read w long j lt) ∙ part_at (rowStart j) 14 13 w (omega arith)
+    ack-count-read = ap (λ (r : LinkRow). r.ack_count) (row_read w long j lt) ∙ part_at (row_start j) 14 13 w (omega arith)
 
-    pub ack-count-put : (n : ℕ) → state_of (set w (rowStart j + 13) n) ≡ with_row (state_of w) j (withAcks (rowAt (state_of w) j) (rowAt (state_of w) j).tx_ack_queue n)
+    pub ack-count-put : (n : ℕ) → state_of (set w (row_start j + 13) n) ≡ with_row (state_of w) j (with_acks (row_at (state_of w) j) (row_at (state_of w) j).tx_ack_queue n)
     unfolding row_of
-    ack-count-put n = row_field 13 n (λ r. withAcks r r.tx_ack_queue n) (omega arith) refl
+    ack-count-put n = row_field 13 n (λ r. with_acks r r.tx_ack_queue n) (omega arith) refl
 
   -- ---- the sending half
 
-  abbrev txPart : List ℕ
-  txPart = part TX 9 w
+  abbrev tx_part : List ℕ
+  tx_part = part TX 9 w
 
-  abbrev txWord : ℕ → ℕ
-  txWord i = get_or txPart i 0
+  abbrev tx_word : ℕ → ℕ
+  tx_word i = get_or tx_part i 0
 
   tx-field : (i v : ℕ) (g : Sending → Sending) → i < 9
-      → ((ps : List SentReliable) (q : List Seq) → txOf (set (entries 9 txWord) i v) ps q ≡ g (txOf (entries 9 txWord) ps q))
-      → state_of (set w i v) ≡ withTx (state_of w) (g (state_of w).tx)
+      → ((ps : List SentReliable) (q : List Seq) → tx_of (set (entries 9 tx_word) i v) ps q ≡ g (tx_of (entries 9 tx_word) ps q))
+      → state_of (set w i v) ≡ with_tx (state_of w) (g (state_of w).tx)
   unfolding decoded
   tx-field i v g h e =
       let at : TX + i ≡ i = omega arith in
-      let n : length txPart ≡ 9 = part_length TX 9 w (omega arith) in
+      let n : length tx_part ≡ 9 = part_length TX 9 w (omega arith) in
       ap (λ k. state_of (set w k v)) (sym at)
       ∙ ap state_of (word-in-part w TX 9 i v h (omega arith))
-      ∙ tx-written w long (set txPart i v) (length-set txPart i v ∙ n)
-      ∙ ap (λ (s : State). withTx s (txOf (set txPart i v) s.tx.txed_packets s.tx.resend_queue)) (stated w long)
-      ∙ ap (withTx (decoded w)) (by-words 9 txPart n (λ l. txOf (set l i v) (decoded w).tx.txed_packets (decoded w).tx.resend_queue) (λ l. g (txOf l (decoded w).tx.txed_packets (decoded w).tx.resend_queue)) (e (decoded w).tx.txed_packets (decoded w).tx.resend_queue))
-      ∙ ap (λ (s : State). withTx s (g s.tx)) (sym (stated w long))
+      ∙ tx-written w long (set tx_part i v) (length-set tx_part i v ∙ n)
+      ∙ ap (λ (s : State). with_tx s (tx_of (set tx_part i v) s.tx.txed_packets s.tx.resend_queue)) (stated w long)
+      ∙ ap (with_tx (decoded w)) (by-words 9 tx_part n (λ l. tx_of (set l i v) (decoded w).tx.txed_packets (decoded w).tx.resend_queue) (λ l. g (tx_of l (decoded w).tx.txed_packets (decoded w).tx.resend_queue)) (e (decoded w).tx.txed_packets (decoded w).tx.resend_queue))
+      ∙ ap (λ (s : State). with_tx s (g s.tx)) (sym (stated w long))
 
-  pub txed-unacked-put : (v : ℕ) → v < 2 ^ 32 → state_of (set w 3 v) ≡ withTx (state_of w) (withTotals (state_of w).tx v (state_of w).tx.txed_unconsumed (state_of w).tx.txed_unconsumable)
-  unfolding txOf
+  pub txed-unacked-put : (v : ℕ) → v < 2 ^ 32 → state_of (set w 3 v) ≡ with_tx (state_of w) (with_totals (state_of w).tx v (state_of w).tx.txed_unconsumed (state_of w).tx.txed_unconsumable)
+  unfolding tx_of
   txed-unacked-put v small =
-      tx-field 3 v (λ tx. withTotals tx v tx.txed_unconsumed tx.txed_unconsumable) (omega arith)
-      (λ ps q. ap (λ n. let tx = txOf (entries 9 txWord) ps q in withTotals tx n tx.txed_unconsumed tx.txed_unconsumable) (half-small v small))
+      tx-field 3 v (λ tx. with_totals tx v tx.txed_unconsumed tx.txed_unconsumable) (omega arith)
+      (λ ps q. ap (λ n. let tx = tx_of (entries 9 tx_word) ps q in with_totals tx n tx.txed_unconsumed tx.txed_unconsumable) (half-small v small))
 
-  pub txed-unconsumed-put : (v : ℕ) → v < 2 ^ 32 → state_of (set w 4 v) ≡ withTx (state_of w) (withTotals (state_of w).tx (state_of w).tx.txed_unacked v (state_of w).tx.txed_unconsumable)
-  unfolding txOf
+  pub txed-unconsumed-put : (v : ℕ) → v < 2 ^ 32 → state_of (set w 4 v) ≡ with_tx (state_of w) (with_totals (state_of w).tx (state_of w).tx.txed_unacked v (state_of w).tx.txed_unconsumable)
+  unfolding tx_of
   txed-unconsumed-put v small =
-      tx-field 4 v (λ tx. withTotals tx tx.txed_unacked v tx.txed_unconsumable) (omega arith)
-      (λ ps q. ap (λ n. let tx = txOf (entries 9 txWord) ps q in withTotals tx tx.txed_unacked n tx.txed_unconsumable) (half-small v small))
+      tx-field 4 v (λ tx. with_totals tx tx.txed_unacked v tx.txed_unconsumable) (omega arith)
+      (λ ps q. ap (λ n. let tx = tx_of (entries 9 tx_word) ps q in with_totals tx tx.txed_unacked n tx.txed_unconsumable) (half-small v small))
 
-  pub txed-unconsumable-put : (v : ℕ) → v < 2 ^ 32 → state_of (set w 5 v) ≡ withTx (state_of w) (withTotals (state_of w).tx (state_of w).tx.txed_unacked (state_of w).tx.txed_unconsumed v)
-  unfolding txOf
+  pub txed-unconsumable-put : (v : ℕ) → v < 2 ^ 32 → state_of (set w 5 v) ≡ with_tx (state_of w) (with_totals (state_of w).tx (state_of w).tx.txed_unacked (state_of w).tx.txed_unconsumed v)
+  unfolding tx_of
   txed-unconsumable-put v small =
-      tx-field 5 v (λ tx. withTotals tx tx.txed_unacked tx.txed_unconsumed v) (omega arith)
-      (λ ps q. ap (λ n. let tx = txOf (entries 9 txWord) ps q in withTotals tx tx.txed_unacked tx.txed_unconsumed n) (half-small v small))
+      tx-field 5 v (λ tx. with_totals tx tx.txed_unacked tx.txed_unconsumed v) (omega arith)
+      (λ ps q. ap (λ n. let tx = tx_of (entries 9 tx_word) ps q in with_totals tx tx.txed_unacked tx.txed_unconsumed n) (half-small v small))
 
-  pub tx-seq-put : (seq : Seq) → seq.0 < 2 ^ 32 → state_of (set w 0 seq.0) ≡ withTx (state_of w) (with_next (state_of w).tx seq (state_of w).tx.txed_packets (state_of w).tx.txed_count)
-  unfolding txOf
+  pub tx-seq-put : (seq : Seq) → seq.0 < 2 ^ 32 → state_of (set w 0 seq.0) ≡ with_tx (state_of w) (with_next (state_of w).tx seq (state_of w).tx.txed_packets (state_of w).tx.txed_count)
+  unfolding tx_of
   tx-seq-put seq small =
       tx-field 0 seq.0 (λ tx. with_next tx seq tx.txed_packets tx.txed_count) (omega arith)
-      (λ ps q. ap (λ n. let tx = txOf (entries 9 txWord) ps q in with_next tx n tx.txed_packets tx.txed_count) (seq-small seq small))
+      (λ ps q. ap (λ n. let tx = tx_of (entries 9 tx_word) ps q in with_next tx n tx.txed_packets tx.txed_count) (seq-small seq small))
 
-  pub txed-count-put : (n : ℕ) → state_of (set w 1 n) ≡ withTx (state_of w) (with_next (state_of w).tx (state_of w).tx.tx_seq (state_of w).tx.txed_packets n)
-  unfolding txOf
+  pub txed-count-put : (n : ℕ) → state_of (set w 1 n) ≡ with_tx (state_of w) (with_next (state_of w).tx (state_of w).tx.tx_seq (state_of w).tx.txed_packets n)
+  unfolding tx_of
   txed-count-put n = tx-field 1 n (λ tx. with_next tx tx.tx_seq tx.txed_packets n) (omega arith) (λ ps q. refl)
 
-  pub last-consumed-put : (seq : Seq) → seq.0 < 2 ^ 32 → state_of (set w 6 seq.0) ≡ withTx (state_of w) (withEnds (state_of w).tx seq (state_of w).tx.send_finish_sent (state_of w).tx.write_closed)
-  unfolding txOf
+  pub last-consumed-put : (seq : Seq) → seq.0 < 2 ^ 32 → state_of (set w 6 seq.0) ≡ with_tx (state_of w) (with_ends (state_of w).tx seq (state_of w).tx.send_finish_sent (state_of w).tx.write_closed)
+  unfolding tx_of
   last-consumed-put seq small =
-      tx-field 6 seq.0 (λ tx. withEnds tx seq tx.send_finish_sent tx.write_closed) (omega arith)
-      (λ ps q. ap (λ n. let tx = txOf (entries 9 txWord) ps q in withEnds tx n tx.send_finish_sent tx.write_closed) (seq-small seq small))
+      tx-field 6 seq.0 (λ tx. with_ends tx seq tx.send_finish_sent tx.write_closed) (omega arith)
+      (λ ps q. ap (λ n. let tx = tx_of (entries 9 tx_word) ps q in with_ends tx n tx.send_finish_sent tx.write_closed) (seq-small seq small))
 
-  pub finish-sent-put : (b : Bool) → state_of (set w 7 (flag b)) ≡ withTx (state_of w) (withEnds (state_of w).tx (state_of w).tx.txed_last_consumed b (state_of w).tx.write_closed)
-  unfolding txOf
+  pub finish-sent-put : (b : Bool) → state_of (set w 7 (flag b)) ≡ with_tx (state_of w) (with_ends (state_of w).tx (state_of w).tx.txed_last_consumed b (state_of w).tx.write_closed)
+  unfolding tx_of
   finish-sent-put b =
-      tx-field 7 (flag b) (λ tx. withEnds tx tx.txed_last_consumed b tx.write_closed) (omega arith)
-      (λ ps q. ap (λ n. let tx = txOf (entries 9 txWord) ps q in withEnds tx tx.txed_last_consumed n tx.write_closed) (set-flag b))
+      tx-field 7 (flag b) (λ tx. with_ends tx tx.txed_last_consumed b tx.write_closed) (omega arith)
+      (λ ps q. ap (λ n. let tx = tx_of (entries 9 tx_word) ps q in with_ends tx tx.txed_last_consumed n tx.write_closed) (set-flag b))
 
-  pub write-closed-put : (b : Bool) → state_of (set w 8 (flag b)) ≡ withTx (state_of w) (withEnds (state_of w).tx (state_of w).tx.txed_last_consumed (state_of w).tx.send_finish_sent b)
-  unfolding txOf
+  pub write-closed-put : (b : Bool) → state_of (set w 8 (flag b)) ≡ with_tx (state_of w) (with_ends (state_of w).tx (state_of w).tx.txed_last_consumed (state_of w).tx.send_finish_sent b)
+  unfolding tx_of
   write-closed-put b =
-      tx-field 8 (flag b) (λ tx. withEnds tx tx.txed_last_consumed tx.send_finish_sent b) (omega arith)
-      (λ ps q. ap (λ n. let tx = txOf (entries 9 txWord) ps q in withEnds tx tx.txed_last_consumed tx.send_finish_sent n) (set-flag b))
+      tx-field 8 (flag b) (λ tx. with_ends tx tx.txed_last_consumed tx.send_finish_sent b) (omega arith)
+      (λ ps q. ap (λ n. let tx = tx_of (entries 9 tx_word) ps q in with_ends tx tx.txed_last_consumed tx.send_finish_sent n) (set-flag b))
 
   -- ---- the receiving half
 
-  abbrev rxPart : List ℕ
-  rxPart = part RX 7 w
+  abbrev rx_part : List ℕ
+  rx_part = part RX 7 w
 
-  abbrev rxWord : ℕ → ℕ
-  rxWord i = get_or rxPart i 0
+  abbrev rx_word : ℕ → ℕ
+  rx_word i = get_or rx_part i 0
 
-  rx-field : (i v : ℕ) (g : Receiving → Receiving) → i < 7 → rxOf (set (entries 7 rxWord) i v) ≡ g (rxOf (entries 7 rxWord)) → state_of (set w (RX + i) v) ≡ withRx (state_of w) (g (state_of w).rx)
+  rx-field : (i v : ℕ) (g : Receiving → Receiving) → i < 7 → rx_of (set (entries 7 rx_word) i v) ≡ g (rx_of (entries 7 rx_word)) → state_of (set w (RX + i) v) ≡ with_rx (state_of w) (g (state_of w).rx)
   unfolding decoded
   rx-field i v g h e =
-      let n : length rxPart ≡ 7 = part_length RX 7 w (omega arith) in
+      let n : length rx_part ≡ 7 = part_length RX 7 w (omega arith) in
       ap state_of (word-in-part w RX 7 i v h (omega arith))
-      ∙ rx-written w long (set rxPart i v) (length-set rxPart i v ∙ n)
-      ∙ ap (withRx (state_of w)) (by-words 7 rxPart n (λ l. rxOf (set l i v)) (λ l. g (rxOf l)) e)
-      ∙ ap (λ (s : State). withRx (state_of w) (g s.rx)) (sym (stated w long))
+      ∙ rx-written w long (set rx_part i v) (length-set rx_part i v ∙ n)
+      ∙ ap (with_rx (state_of w)) (by-words 7 rx_part n (λ l. rx_of (set l i v)) (λ l. g (rx_of l)) e)
+      ∙ ap (λ (s : State). with_rx (state_of w) (g s.rx)) (sym (stated w long))
 
-  pub rx-seq-put : (seq : Seq) → seq.0 < 2 ^ 32 → state_of (set w 16 seq.0) ≡ withRx (state_of w) (withNumbers (state_of w).rx seq (state_of w).rx.rx_oldest)
-  unfolding rxOf
-  rx-seq-put seq small = rx-field 0 seq.0 (λ rx. withNumbers rx seq rx.rx_oldest) (omega arith) (ap (λ n. let rx = rxOf (entries 7 rxWord) in withNumbers rx n rx.rx_oldest) (seq-small seq small))
+  pub rx-seq-put : (seq : Seq) → seq.0 < 2 ^ 32 → state_of (set w 16 seq.0) ≡ with_rx (state_of w) (with_numbers (state_of w).rx seq (state_of w).rx.rx_oldest)
+  unfolding rx_of
+  rx-seq-put seq small = rx-field 0 seq.0 (λ rx. with_numbers rx seq rx.rx_oldest) (omega arith) (ap (λ n. let rx = rx_of (entries 7 rx_word) in with_numbers rx n rx.rx_oldest) (seq-small seq small))
 
-  pub rx-oldest-put : (seq : Seq) → seq.0 < 2 ^ 32 → state_of (set w 17 seq.0) ≡ withRx (state_of w) (withNumbers (state_of w).rx (state_of w).rx.rx_seq seq)
-  unfolding rxOf
-  rx-oldest-put seq small = rx-field 1 seq.0 (λ rx. withNumbers rx rx.rx_seq seq) (omega arith) (ap (λ n. let rx = rxOf (entries 7 rxWord) in withNumbers rx rx.rx_seq n) (seq-small seq small))
+  pub rx-oldest-put : (seq : Seq) → seq.0 < 2 ^ 32 → state_of (set w 17 seq.0) ≡ with_rx (state_of w) (with_numbers (state_of w).rx (state_of w).rx.rx_seq seq)
+  unfolding rx_of
+  rx-oldest-put seq small = rx-field 1 seq.0 (λ rx. with_numbers rx rx.rx_seq seq) (omega arith) (ap (λ n. let rx = rx_of (entries 7 rx_word) in with_numbers rx rx.rx_seq n) (seq-small seq small))
 
-  pub untaken-put : (v : ℕ) → v < 2 ^ 32 → state_of (set w 18 v) ≡ withRx (state_of w) (withBytes (state_of w).rx v (state_of w).rx.rxed_reliable_consumed)
-  unfolding rxOf
-  untaken-put v small = rx-field 2 v (λ rx. withBytes rx v rx.rxed_reliable_consumed) (omega arith) (ap (λ n. let rx = rxOf (entries 7 rxWord) in withBytes rx n rx.rxed_reliable_consumed) (half-small v small))
+  pub untaken-put : (v : ℕ) → v < 2 ^ 32 → state_of (set w 18 v) ≡ with_rx (state_of w) (with_bytes (state_of w).rx v (state_of w).rx.rxed_reliable_consumed)
+  unfolding rx_of
+  untaken-put v small = rx-field 2 v (λ rx. with_bytes rx v rx.rxed_reliable_consumed) (omega arith) (ap (λ n. let rx = rx_of (entries 7 rx_word) in with_bytes rx n rx.rxed_reliable_consumed) (half-small v small))
 
-  pub untold-put : (v : ℕ) → v < 2 ^ 32 → state_of (set w 19 v) ≡ withRx (state_of w) (withBytes (state_of w).rx (state_of w).rx.rxed_reliable_size v)
-  unfolding rxOf
-  untold-put v small = rx-field 3 v (λ rx. withBytes rx rx.rxed_reliable_size v) (omega arith) (ap (λ n. let rx = rxOf (entries 7 rxWord) in withBytes rx rx.rxed_reliable_size n) (half-small v small))
+  pub untold-put : (v : ℕ) → v < 2 ^ 32 → state_of (set w 19 v) ≡ with_rx (state_of w) (with_bytes (state_of w).rx (state_of w).rx.rxed_reliable_size v)
+  unfolding rx_of
+  untold-put v small = rx-field 3 v (λ rx. with_bytes rx rx.rxed_reliable_size v) (omega arith) (ap (λ n. let rx = rx_of (entries 7 rx_word) in with_bytes rx rx.rxed_reliable_size n) (half-small v small))
 
-  pub rx-end-put : (seq : Seq) → seq.0 < 2 ^ 32 → state_of (set w 22 seq.0) ≡ withRx (state_of w) (withEnd (state_of w).rx seq)
-  unfolding rxOf
-  rx-end-put seq small = rx-field 6 seq.0 (λ rx. withEnd rx seq) (omega arith) (ap (λ n. let rx = rxOf (entries 7 rxWord) in withEnd rx n) (seq-small seq small))
+  pub rx-end-put : (seq : Seq) → seq.0 < 2 ^ 32 → state_of (set w 22 seq.0) ≡ with_rx (state_of w) (with_end (state_of w).rx seq)
+  unfolding rx_of
+  rx-end-put seq small = rx-field 6 seq.0 (λ rx. with_end rx seq) (omega arith) (ap (λ n. let rx = rx_of (entries 7 rx_word) in with_end rx n) (seq-small seq small))
 
   -- ---- a packet: its tag says that it was Received
 
-  received-held : (h : Held) (seq : Seq) (st : _) → packetHeld h seq Received ≡ withStatus (packetHeld h seq st) Received
+  received-held : (h : Held) (seq : Seq) (st : _) → packet_held h seq Received ≡ with_status (packet_held h seq st) Received
   received-held (Message msg len) seq st = refl
   received-held Nothing seq st = refl
 
   pub received-put : (k : ℕ) → k < 64
-      → state_of (set w (packetStart k + 2) 3) ≡ withTx (state_of w) (withPackets (state_of w).tx (set (state_of w).tx.txed_packets k (withStatus (get_or (state_of w).tx.txed_packets k noPacket) Received)))
-  unfolding packetOf statusOf
+      → state_of (set w (packet_start k + 2) 3) ≡ with_tx (state_of w) (with_packets (state_of w).tx (set (state_of w).tx.txed_packets k (with_status (get_or (state_of w).tx.txed_packets k no_packet) Received)))
+  unfolding packet_of status_of
   received-put k lt =
-      let xs = part (packetStart k) 8 w in
-      let n : length xs ≡ 8 = part_length (packetStart k) 8 w (omega arith) in
+      let xs = part (packet_start k) 8 w in
+      let n : length xs ≡ 8 = part_length (packet_start k) 8 w (omega arith) in
       let F : ℕ → ℕ = λ i. get_or xs i 0 in
-      ap state_of (word-in-part w (packetStart k) 8 2 3 (omega arith) (omega arith))
+      ap state_of (word-in-part w (packet_start k) 8 2 3 (omega arith) (omega arith))
       ∙ packet-written w long (set xs 2 3) k lt (length-set xs 2 3 ∙ n)
-      ∙ ap (λ p. withTx (state_of w) (withPackets (state_of w).tx (set (state_of w).tx.txed_packets k p)))
-      (by-words 8 xs n (λ l. packetOf (set l 2 3)) (λ l. withStatus (packetOf l) Received) (received-held (held_of (get_or xs 1 0)) (seqWord (get_or xs 0 0)) (statusOf (entries 8 F))))
-      ∙ ap (λ p. withTx (state_of w) (withPackets (state_of w).tx (set (state_of w).tx.txed_packets k (withStatus p Received)))) (sym (packet-read w long k lt))
+      ∙ ap (λ p. with_tx (state_of w) (with_packets (state_of w).tx (set (state_of w).tx.txed_packets k p)))
+      (by-words 8 xs n (λ l. packet_of (set l 2 3)) (λ l. with_status (packet_of l) Received) (received-held (held_of (get_or xs 1 0)) (seq_word (get_or xs 0 0)) (status_of (entries 8 F))))
+      ∙ ap (λ p. with_tx (state_of w) (with_packets (state_of w).tx (set (state_of w).tx.txed_packets k (with_status p Received)))) (sym (packet-read w long k lt))

@@ -79,23 +79,23 @@ all-written xs vs e =
 
 -- ---- a list with an entry for each number
 
-abbrev pub countFrom : ℕ → ℕ → List ℕ
-countFrom zero at = []
-countFrom (suc n) at = at ∷ countFrom n (suc at)
+abbrev pub count_from : ℕ → ℕ → List ℕ
+count_from zero at = []
+count_from (suc n) at = at ∷ count_from n (suc at)
 
 -- n entries
 abbrev pub entries : {X : Type 0} → ℕ → (ℕ → X) → List X
-entries n F = map F (countFrom n 0)
+entries n F = map F (count_from n 0)
 
 module _ {X : Type 0} (F : ℕ → X) where
-  length_from : (n start : ℕ) → length (map F (countFrom n start)) ≡ n
+  length_from : (n start : ℕ) → length (map F (count_from n start)) ≡ n
   length_from zero start = refl
   length_from (suc n) start = ap suc (length_from n (suc start))
 
   pub entries-length : (n : ℕ) → length (entries n F) ≡ n
   entries-length n = length_from n 0
 
-  entry-from : (n start i : ℕ) (d : X) → i < n → get_or (map F (countFrom n start)) i d ≡ F (start + i)
+  entry-from : (n start i : ℕ) (d : X) → i < n → get_or (map F (count_from n start)) i d ≡ F (start + i)
   entry-from zero start i d h = absurd (omega arith)
   entry-from (suc n) start zero d h = let e : start ≡ start + 0 = omega arith in ap F e
   entry-from (suc n) start (suc i) d h = let e : suc start + i ≡ start + suc i = omega arith in entry-from n (suc start) i d (omega arith) ∙ ap F e
@@ -104,7 +104,7 @@ module _ {X : Type 0} (F : ℕ → X) where
   entry_at n i d h = let e : 0 + i ≡ i = omega arith in entry-from n 0 i d h ∙ ap F e
 
 module _ {X : Type 0} (F G : ℕ → X) where
-  same_from : (n start : ℕ) → ((k : ℕ) → start ≤ k → k < start + n → G k ≡ F k) → map G (countFrom n start) ≡ map F (countFrom n start)
+  same_from : (n start : ℕ) → ((k : ℕ) → start ≤ k → k < start + n → G k ≡ F k) → map G (count_from n start) ≡ map F (count_from n start)
   same_from zero start h = refl
   same_from (suc n) start h = λ t. h start (omega arith) (omega arith) t ∷ same_from n (suc start) (λ k l r. h k (omega arith) (omega arith)) t
 
@@ -113,7 +113,7 @@ module _ {X : Type 0} (F G : ℕ → X) where
   same_entries n h = same_from n 0 (λ k l r. h k (omega arith))
 
   put-from : (n start i : ℕ) (y : X) → i < n → ((k : ℕ) → start ≤ k → k < start + n → (k ≡ start + i → ⊥) → G k ≡ F k) → G (start + i) ≡ y
-      → map G (countFrom n start) ≡ set (map F (countFrom n start)) i y
+      → map G (count_from n start) ≡ set (map F (count_from n start)) i y
   put-from zero start i y lt h e = absurd (omega arith)
   put-from (suc n) start zero y lt h e =
       let z : start ≡ start + 0 = omega arith in

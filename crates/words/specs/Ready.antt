@@ -7,12 +7,12 @@ use Rattle.link.specs.declared.row.LinkRow.{LinkRow}
 use Rattle.link.specs.Row.{no_row}
 use Rattle.link.specs.Sizes.{ACKS}
 use Rattle.engine.specs.declared.state.State.{State}
-use Rattle.engine.specs.Sound.{Sound, Shaped, rowAt}
+use Rattle.engine.specs.Sound.{Sound, Shaped, row_at}
 use Rattle.engine.specs.Decide.{soundb, sound}
 use Rattle.words.specs.Parts.{part, part_length, part_at, entries-length, entry_at}
 use Rattle.words.specs.Ring.{turned-length}
-use Rattle.words.specs.Layout.{WORDS, TX, TIME, rowStart, acksStart, headAt, packetStart, QUEUE}
-use Rattle.words.specs.Meaning.{half, row_of, packetOf, acksIn, linksIn, packetsIn, queueIn, txOf, rxOf, decoded, state_of, stated}
+use Rattle.words.specs.Layout.{WORDS, TX, TIME, row_start, acks_start, head_at, packet_start, QUEUE}
+use Rattle.words.specs.Meaning.{half, row_of, packet_of, acks_in, links_in, packets_in, queue_in, tx_of, rx_of, decoded, state_of, stated}
 
 pub record Ready (w : List ℕ) : Type 0 where
   pub long : length w ≡ WORDS
@@ -34,15 +34,15 @@ half_lt n = mod-lt n (omega arith)
 
 -- what words say has the lengths and ranges of a state's types
 pub shaped-words : (w : List ℕ) → length w ≡ WORDS → Words64 w → Shaped (state_of w)
-unfolding decoded linksIn packetsIn queueIn acksIn row_of txOf rxOf
+unfolding decoded links_in packets_in queue_in acks_in row_of tx_of rx_of
 shaped-words w long small =
-    let row : (j : ℕ) → j < 8 → rowAt (decoded w) j ≡ row_of (part (rowStart j) 14 w) (acksIn w j) = λ j h. entry_at (λ k. row_of (part (rowStart k) 14 w) (acksIn w k)) 8 j no_row h in
+    let row : (j : ℕ) → j < 8 → row_at (decoded w) j ≡ row_of (part (row_start j) 14 w) (acks_in w j) = λ j h. entry_at (λ k. row_of (part (row_start k) 14 w) (acks_in w k)) 8 j no_row h in
     let one : get_or (part TX 9 w) 1 0 ≡ get_or w 1 0 = part_at TX 9 1 w (omega arith) in
     let two : get_or (part TX 9 w) 2 0 ≡ get_or w 2 0 = part_at TX 9 2 w (omega arith) in
     subst Shaped (sym (stated w long)) (record {
-      links-full = entries-length (λ k. row_of (part (rowStart k) 14 w) (acksIn w k)) 8;
-      queues = λ j h. ap (λ (r : LinkRow). length r.tx_ack_queue) (row j h) ∙ simp length-map (turned-length (part (acksStart j) 64 w) (part_length (acksStart j) 64 w (omega arith)) (get_or w (headAt j) 0));
-      packets-full = entries-length (λ k. packetOf (part (packetStart k) 8 w)) 64;
+      links-full = entries-length (λ k. row_of (part (row_start k) 14 w) (acks_in w k)) 8;
+      queues = λ j h. ap (λ (r : LinkRow). length r.tx_ack_queue) (row j h) ∙ simp length-map (turned-length (part (acks_start j) 64 w) (part_length (acks_start j) 64 w (omega arith)) (get_or w (head_at j) 0));
+      packets-full = entries-length (λ k. packet_of (part (packet_start k) 8 w)) 64;
       queue-full = simp length-map (part_length QUEUE 64 w (omega arith));
       next-u32 = half_lt _;
       expected-u32 = half_lt _;

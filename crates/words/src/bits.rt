@@ -1,7 +1,7 @@
 // Single words.
 ghost use Rattle.std.specs.Prelude.{◌≡◌};
 ghost use Rattle.refusal.specs.Answers.{flag};
-ghost use Rattle.words.specs.Meaning.{half, seqWord, is_set};
+ghost use Rattle.words.specs.Meaning.{half, seq_word, is_set};
 
 use seq::Seq;
 
@@ -13,7 +13,7 @@ pub(crate) fn half(word: u64) -> u32
 }
 
 pub(crate) fn seq_word(word: u64) -> Seq
-    ensures { result ≡ seqWord word }
+    ensures { result ≡ seq_word word }
 {
     Seq(half(word))
 }

@@ -1,6 +1,6 @@
 // The last accepted time, and whether the reader is open.
 ghost use Rattle.std.specs.Prelude.{◌≡◌, length};
-ghost use Rattle.engine.specs.Fields.{withTime, withReader};
+ghost use Rattle.engine.specs.Fields.{with_time, with_reader};
 ghost use Rattle.words.specs.Layout.{WORDS};
 ghost use Rattle.words.specs.Meaning.{state_of};
 
@@ -16,7 +16,7 @@ pub fn time(words: &[u64]) -> u64
 
 pub fn put_time(words: &mut [u64], time: u64)
     requires { length words.old ≡ WORDS }
-    ensures { state_of words.new ≡ withTime (state_of words.old) time }
+    ensures { state_of words.new ≡ with_time (state_of words.old) time }
 {
     words[TIME] = time;
 }
@@ -30,7 +30,7 @@ pub fn read_open(words: &[u64]) -> bool
 
 pub fn put_read_open(words: &mut [u64], reads: bool)
     requires { length words.old ≡ WORDS }
-    ensures { state_of words.new ≡ withReader (state_of words.old) reads }
+    ensures { state_of words.new ≡ with_reader (state_of words.old) reads }
 {
     words[READER] = flag(reads);
 }

@@ -1,6 +1,6 @@
 // The tests that every call with a slot or a time makes.
 ghost use Rattle.std.specs.Prelude.{◌≡◌, length};
-ghost use Rattle.engine.specs.Rows.{slotOk, timeOk};
+ghost use Rattle.engine.specs.Rows.{slot_ok, time_ok};
 ghost use Rattle.words.specs.Layout.{WORDS};
 ghost use Rattle.words.specs.Meaning.{state_of};
 
@@ -14,7 +14,7 @@ use refusal::both;
 // Whether a slot holds a link.
 pub fn slot_ok(words: &[u64], slot: u8) -> bool
     requires { length words.now ≡ WORDS }
-    ensures { result ≡ slotOk (state_of words.now) slot }
+    ensures { result ≡ slot_ok (state_of words.now) slot }
 {
     let j = slot as usize;
     if SLOTS <= j {
@@ -26,7 +26,7 @@ pub fn slot_ok(words: &[u64], slot: u8) -> bool
 // Whether a time is neither before the last accepted one nor too late.
 pub fn time_ok(words: &[u64], at: u64) -> bool
     requires { length words.now ≡ WORDS }
-    ensures { result ≡ timeOk (state_of words.now) at }
+    ensures { result ≡ time_ok (state_of words.now) at }
 {
     both(time(words) <= at, at <= MAX_TIME)
 }

@@ -1,10 +1,10 @@
 // A packet of the table, in its eight words.
 ghost use Rattle.std.specs.Prelude.{◌≡◌, ◌<◌, ◌^◌, length, get_or, set};
-ghost use Rattle.engine.specs.Fields.{withStatus, withTx, withPackets};
-ghost use Rattle.engine.specs.Packets.{noPacket};
+ghost use Rattle.engine.specs.Fields.{with_status, with_tx, with_packets};
+ghost use Rattle.engine.specs.Packets.{no_packet};
 ghost use Rattle.words.specs.Layout.{WORDS};
-ghost use Rattle.words.specs.Meaning.{flushedOf, flightOf, statusOf, packetHeld, packetOf, state_of};
-ghost use Rattle.words.specs.Encoded.{statusWord, flightIn, flushedSome, flushedWord, packetWords};
+ghost use Rattle.words.specs.Meaning.{flushed_of, flight_of, status_of, packet_held, packet_of, state_of};
+ghost use Rattle.words.specs.Encoded.{status_word, flight_in, flushed_some, flushed_word, packet_words};
 
 use crate::bits::{is_set, seq_word};
 use crate::layout::{PACKET, PACKETS_START};
@@ -22,7 +22,7 @@ const NO_LENGTH: u32 = 0xFF_FFFF;
 const RECEIVED: u64 = 3;
 
 fn flushed_of(some: u64, at: u64) -> Flushed
-    ensures { result ≡ flushedOf some at }
+    ensures { result ≡ flushed_of some at }
 {
     if is_set(some) {
         return Flushed::FlushedAt(at);
@@ -32,7 +32,7 @@ fn flushed_of(some: u64, at: u64) -> Flushed
 
 fn flight_in(part: &[u64], slot: u8, resent: bool) -> InFlight
     requires { length part.now ≡ 8 }
-    ensures { result ≡ flightOf part.now slot resent }
+    ensures { result ≡ flight_of part.now slot resent }
 {
     let flushed = flushed_of(part[6], part[7]);
     InFlight {
@@ -46,7 +46,7 @@ fn flight_in(part: &[u64], slot: u8, resent: bool) -> InFlight
 
 fn status_in(part: &[u64]) -> SentReliableStatus
     requires { length part.now ≡ 8 }
-    ensures { result ≡ statusOf part.now }
+    ensures { result ≡ status_of part.now }
 {
     let tag = part[2];
     let slot = (part[3] % 0x100) as u8;
@@ -66,7 +66,7 @@ fn status_in(part: &[u64]) -> SentReliableStatus
 }
 
 fn packet_held(held: Held, seq: Seq, status: SentReliableStatus) -> SentReliable
-    ensures { result ≡ packetHeld held seq status }
+    ensures { result ≡ packet_held held seq status }
 {
     match held {
         Held::Message(msg, len) => SentReliable::new(seq, msg, len, status),
@@ -76,7 +76,7 @@ fn packet_held(held: Held, seq: Seq, status: SentReliableStatus) -> SentReliable
 
 fn packet_in(part: &[u64]) -> SentReliable
     requires { length part.now ≡ 8 }
-    ensures { result ≡ packetOf part.now }
+    ensures { result ≡ packet_of part.now }
 {
     let seq = seq_word(part[0]);
     let held = held_of(part[1]);
@@ -87,7 +87,7 @@ fn packet_in(part: &[u64]) -> SentReliable
 // What a cell of the table holds.
 pub fn packet_at(words: &[u64], at: usize) -> SentReliable
     requires { (length words.now ≡ WORDS) × (at < 64) }
-    ensures value { result ≡ get_or (state_of words.now).tx.txed_packets at noPacket }
+    ensures value { result ≡ get_or (state_of words.now).tx.txed_packets at no_packet }
     ensures len_bound { result.len < 2 ^ 24 }
 {
     let start = PACKETS_START + at * PACKET;
@@ -96,7 +96,7 @@ pub fn packet_at(words: &[u64], at: usize) -> SentReliable
 }
 
 fn status_word(status: SentReliableStatus) -> u64
-    ensures { result ≡ statusWord status }
+    ensures { result ≡ status_word status }
 {
     match status {
         SentReliableStatus::Sent(flight) => {
@@ -112,7 +112,7 @@ fn status_word(status: SentReliableStatus) -> u64
 
 // The flight that a status is written from; of one that is in none, what is never read is 0.
 fn flight_of(status: SentReliableStatus) -> InFlight
-    ensures { result ≡ flightIn status }
+    ensures { result ≡ flight_in status }
 {
     match status {
         SentReliableStatus::Sent(flight) => flight,
@@ -122,7 +122,7 @@ fn flight_of(status: SentReliableStatus) -> InFlight
 }
 
 fn flushed_some(flushed: Flushed) -> u64
-    ensures { result ≡ flushedSome flushed }
+    ensures { result ≡ flushed_some flushed }
 {
     match flushed {
         Flushed::Unflushed => 0,
@@ -131,7 +131,7 @@ fn flushed_some(flushed: Flushed) -> u64
 }
 
 fn flushed_word(flushed: Flushed) -> u64
-    ensures { result ≡ flushedWord flushed }
+    ensures { result ≡ flushed_word flushed }
 {
     match flushed {
         Flushed::Unflushed => 0,
@@ -141,8 +141,8 @@ fn flushed_word(flushed: Flushed) -> u64
 
 fn write_packet(part: &mut [u64], p: SentReliable)
     requires { (length part.old ≡ 8) × (p.len < 2 ^ 24) }
-    ensures part_after { part.new ≡ packetWords p }
-    ensures status_bound { (flightIn p.status).slot < 256 }
+    ensures part_after { part.new ≡ packet_words p }
+    ensures status_bound { (flight_in p.status).slot < 256 }
 {
     let status = p.status;
     let msg = p.msg;
@@ -161,7 +161,7 @@ fn write_packet(part: &mut [u64], p: SentReliable)
 // Another packet in a cell of the table.
 pub fn put_packet(words: &mut [u64], at: usize, p: SentReliable)
     requires { (length words.old ≡ WORDS) × (at < 64) × (p.len < 2 ^ 24) }
-    ensures { state_of words.new ≡ withTx (state_of words.old) (withPackets (state_of words.old).tx (set (state_of words.old).tx.txed_packets at p)) }
+    ensures { state_of words.new ≡ with_tx (state_of words.old) (with_packets (state_of words.old).tx (set (state_of words.old).tx.txed_packets at p)) }
 {
     let start = PACKETS_START + at * PACKET;
     let end = start + PACKET;
@@ -171,7 +171,7 @@ pub fn put_packet(words: &mut [u64], at: usize, p: SentReliable)
 // The packet in a cell of the table was Received: its tag says so, and nothing else of it is asked.
 pub fn put_received(words: &mut [u64], at: usize)
     requires { (length words.old ≡ WORDS) × (at < 64) }
-    ensures { state_of words.new ≡ withTx (state_of words.old) (withPackets (state_of words.old).tx (set (state_of words.old).tx.txed_packets at (withStatus (get_or (state_of words.old).tx.txed_packets at noPacket) SentReliableStatus.Received))) }
+    ensures { state_of words.new ≡ with_tx (state_of words.old) (with_packets (state_of words.old).tx (set (state_of words.old).tx.txed_packets at (with_status (get_or (state_of words.old).tx.txed_packets at no_packet) SentReliableStatus.Received))) }
 {
     words[PACKETS_START + at * PACKET + 2] = RECEIVED;
 }

@@ -1,9 +1,9 @@
 // The receiving half.
 ghost use Rattle.std.specs.Prelude.{◌≡◌, length};
-ghost use Rattle.engine.specs.Fields.{withRx, withNumbers, withBytes, withEnd};
+ghost use Rattle.engine.specs.Fields.{with_rx, with_numbers, with_bytes, with_end};
 ghost use Rattle.words.specs.Layout.{WORDS};
 ghost use Rattle.words.specs.Meaning.{state_of};
-ghost use Rattle.words.specs.Encoded.{rxWords};
+ghost use Rattle.words.specs.Encoded.{rx_words};
 
 use crate::bits::{half, seq_word};
 use crate::layout::{RX, RX_END};
@@ -27,7 +27,7 @@ pub fn rx_of(words: &[u64]) -> Receiving
 
 fn write_rx(part: &mut [u64], rx: Receiving)
     requires { length part.old ≡ 7 }
-    ensures { part.new ≡ rxWords rx }
+    ensures { part.new ≡ rx_words rx }
 {
     part[0] = rx.rx_seq.0 as u64;
     part[1] = rx.rx_oldest.0 as u64;
@@ -40,7 +40,7 @@ fn write_rx(part: &mut [u64], rx: Receiving)
 
 pub fn put_rx(words: &mut [u64], rx: Receiving)
     requires { length words.old ≡ WORDS }
-    ensures { state_of words.new ≡ withRx (state_of words.old) rx }
+    ensures { state_of words.new ≡ with_rx (state_of words.old) rx }
 {
     write_rx(&mut words[RX..RX_END], rx);
 }
@@ -48,14 +48,14 @@ pub fn put_rx(words: &mut [u64], rx: Receiving)
 // The next expected and the oldest number.
 pub fn put_rx_seq(words: &mut [u64], seq: Seq)
     requires { length words.old ≡ WORDS }
-    ensures { state_of words.new ≡ withRx (state_of words.old) (withNumbers (state_of words.old).rx seq (state_of words.old).rx.rx_oldest) }
+    ensures { state_of words.new ≡ with_rx (state_of words.old) (with_numbers (state_of words.old).rx seq (state_of words.old).rx.rx_oldest) }
 {
     words[RX] = seq.0 as u64;
 }
 
 pub fn put_rx_oldest(words: &mut [u64], seq: Seq)
     requires { length words.old ≡ WORDS }
-    ensures { state_of words.new ≡ withRx (state_of words.old) (withNumbers (state_of words.old).rx (state_of words.old).rx.rx_seq seq) }
+    ensures { state_of words.new ≡ with_rx (state_of words.old) (with_numbers (state_of words.old).rx (state_of words.old).rx.rx_seq seq) }
 {
     words[RX + 1] = seq.0 as u64;
 }
@@ -63,14 +63,14 @@ pub fn put_rx_oldest(words: &mut [u64], seq: Seq)
 // The untaken bytes, and those taken and untold.
 pub fn put_rxed_reliable_size(words: &mut [u64], bytes: u32)
     requires { length words.old ≡ WORDS }
-    ensures { state_of words.new ≡ withRx (state_of words.old) (withBytes (state_of words.old).rx bytes (state_of words.old).rx.rxed_reliable_consumed) }
+    ensures { state_of words.new ≡ with_rx (state_of words.old) (with_bytes (state_of words.old).rx bytes (state_of words.old).rx.rxed_reliable_consumed) }
 {
     words[RX + 2] = bytes as u64;
 }
 
 pub fn put_rxed_reliable_consumed(words: &mut [u64], bytes: u32)
     requires { length words.old ≡ WORDS }
-    ensures { state_of words.new ≡ withRx (state_of words.old) (withBytes (state_of words.old).rx (state_of words.old).rx.rxed_reliable_size bytes) }
+    ensures { state_of words.new ≡ with_rx (state_of words.old) (with_bytes (state_of words.old).rx (state_of words.old).rx.rxed_reliable_size bytes) }
 {
     words[RX + 3] = bytes as u64;
 }
@@ -78,7 +78,7 @@ pub fn put_rxed_reliable_consumed(words: &mut [u64], bytes: u32)
 // The end of the cells in use.
 pub fn put_rx_end(words: &mut [u64], seq: Seq)
     requires { length words.old ≡ WORDS }
-    ensures { state_of words.new ≡ withRx (state_of words.old) (withEnd (state_of words.old).rx seq) }
+    ensures { state_of words.new ≡ with_rx (state_of words.old) (with_end (state_of words.old).rx seq) }
 {
     words[RX + 6] = seq.0 as u64;
 }

@@ -1,12 +1,12 @@
 // A link's row, in its fourteen words. Its acks stand elsewhere: a row that is read here has none, and writing one leaves those that wait.
 ghost use Rattle.std.specs.Prelude.{◌≡◌, ◌<◌, ◌^◌, length};
-ghost use Rattle.link.specs.Fields.{withAcks, withTrip, withSending};
-ghost use Rattle.link.specs.Row.{withUnacked};
-ghost use Rattle.engine.specs.Sound.{rowAt};
+ghost use Rattle.link.specs.Fields.{with_acks, with_trip, with_sending};
+ghost use Rattle.link.specs.Row.{with_unacked};
+ghost use Rattle.engine.specs.Sound.{row_at};
 ghost use Rattle.engine.specs.Fields.{with_row};
 ghost use Rattle.words.specs.Layout.{WORDS};
-ghost use Rattle.words.specs.Meaning.{maxPingOf, limitOf, pingOf, row_of, state_of};
-ghost use Rattle.words.specs.Encoded.{noAcks, bare, maxPingSome, maxPingWord, limitSome, limitWord, pingSome, pingWord, rowWords, ackedWords};
+ghost use Rattle.words.specs.Meaning.{max_ping_of, limit_of, ping_of, row_of, state_of};
+ghost use Rattle.words.specs.Encoded.{no_acks, bare, max_ping_some, max_ping_word, limit_some, limit_word, ping_some, ping_word, row_words, acked_words};
 
 use crate::bits::{flag, half, is_set, seq_word};
 use crate::layout::{ACK_COUNT, ROW, ROW_WORDS, ROWS};
@@ -15,7 +15,7 @@ use link::{Limit, LinkRow, MaxPing, Ping};
 use seq::Seq;
 
 fn max_ping_of(some: u64, limit: u64) -> MaxPing
-    ensures { result ≡ maxPingOf some limit }
+    ensures { result ≡ max_ping_of some limit }
 {
     if is_set(some) {
         return MaxPing::UpTo(limit);
@@ -24,7 +24,7 @@ fn max_ping_of(some: u64, limit: u64) -> MaxPing
 }
 
 fn limit_of(some: u64, mark: u64) -> Limit
-    ensures { result ≡ limitOf some mark }
+    ensures { result ≡ limit_of some mark }
 {
     if is_set(some) {
         return Limit::At(seq_word(mark));
@@ -33,7 +33,7 @@ fn limit_of(some: u64, mark: u64) -> Limit
 }
 
 fn ping_of(some: u64, since: u64) -> Ping
-    ensures { result ≡ pingOf some since }
+    ensures { result ≡ ping_of some since }
 {
     if is_set(some) {
         return Ping::Since(since);
@@ -43,7 +43,7 @@ fn ping_of(some: u64, since: u64) -> Ping
 
 fn row_in(part: &[u64]) -> LinkRow
     requires { length part.now ≡ 14 }
-    ensures { result ≡ row_of part.now noAcks }
+    ensures { result ≡ row_of part.now no_acks }
 {
     let max_ping = max_ping_of(part[3], part[4]);
     let limit_increased = limit_of(part[8], part[9]);
@@ -67,7 +67,7 @@ fn row_in(part: &[u64]) -> LinkRow
 // The row of a slot.
 pub fn row_at(words: &[u64], slot: usize) -> LinkRow
     requires { (length words.now ≡ WORDS) × (slot < 8) }
-    ensures { result ≡ bare (rowAt (state_of words.now) slot) }
+    ensures { result ≡ bare (row_at (state_of words.now) slot) }
 {
     let start = ROWS + slot * ROW;
     let end = start + ROW_WORDS;
@@ -75,7 +75,7 @@ pub fn row_at(words: &[u64], slot: usize) -> LinkRow
 }
 
 fn max_ping_some(max_ping: MaxPing) -> u64
-    ensures { result ≡ maxPingSome max_ping }
+    ensures { result ≡ max_ping_some max_ping }
 {
     match max_ping {
         MaxPing::Unlimited => 0,
@@ -84,7 +84,7 @@ fn max_ping_some(max_ping: MaxPing) -> u64
 }
 
 fn max_ping_word(max_ping: MaxPing) -> u64
-    ensures { result ≡ maxPingWord max_ping }
+    ensures { result ≡ max_ping_word max_ping }
 {
     match max_ping {
         MaxPing::Unlimited => 0,
@@ -93,7 +93,7 @@ fn max_ping_word(max_ping: MaxPing) -> u64
 }
 
 fn limit_some(limit: Limit) -> u64
-    ensures { result ≡ limitSome limit }
+    ensures { result ≡ limit_some limit }
 {
     match limit {
         Limit::Clear => 0,
@@ -102,7 +102,7 @@ fn limit_some(limit: Limit) -> u64
 }
 
 fn limit_word(limit: Limit) -> u64
-    ensures value { result ≡ limitWord limit }
+    ensures value { result ≡ limit_word limit }
     ensures upper_bound { result < 2 ^ 32 }
 {
     match limit {
@@ -112,7 +112,7 @@ fn limit_word(limit: Limit) -> u64
 }
 
 fn ping_some(ping: Ping) -> u64
-    ensures { result ≡ pingSome ping }
+    ensures { result ≡ ping_some ping }
 {
     match ping {
         Ping::Idle => 0,
@@ -121,7 +121,7 @@ fn ping_some(ping: Ping) -> u64
 }
 
 fn ping_word(ping: Ping) -> u64
-    ensures { result ≡ pingWord ping }
+    ensures { result ≡ ping_word ping }
 {
     match ping {
         Ping::Idle => 0,
@@ -131,8 +131,8 @@ fn ping_word(ping: Ping) -> u64
 
 fn write_row(part: &mut [u64], row: LinkRow)
     requires { length part.old ≡ 14 }
-    ensures part_after { part.new ≡ rowWords row }
-    ensures limit_increased_bound { limitWord row.limit_increased < 2 ^ 32 }
+    ensures part_after { part.new ≡ row_words row }
+    ensures limit_increased_bound { limit_word row.limit_increased < 2 ^ 32 }
 {
     let max_ping = row.max_ping;
     let limit = row.limit_increased;
@@ -156,7 +156,7 @@ fn write_row(part: &mut [u64], row: LinkRow)
 // Another row in a slot.
 pub fn put_row(words: &mut [u64], slot: usize, row: LinkRow)
     requires { (length words.old ≡ WORDS) × (slot < 8) }
-    ensures { state_of words.new ≡ with_row (state_of words.old) slot (withAcks row (rowAt (state_of words.old) slot).tx_ack_queue row.ack_count) }
+    ensures { state_of words.new ≡ with_row (state_of words.old) slot (with_acks row (row_at (state_of words.old) slot).tx_ack_queue row.ack_count) }
 {
     let start = ROWS + slot * ROW;
     let end = start + ROW_WORDS;
@@ -166,7 +166,7 @@ pub fn put_row(words: &mut [u64], slot: usize, row: LinkRow)
 // A slot's link has so many bytes on the way.
 pub fn put_txed_unacked_data(words: &mut [u64], slot: usize, bytes: u32)
     requires { (length words.old ≡ WORDS) × (slot < 8) }
-    ensures { state_of words.new ≡ with_row (state_of words.old) slot (withUnacked (rowAt (state_of words.old) slot) bytes) }
+    ensures { state_of words.new ≡ with_row (state_of words.old) slot (with_unacked (row_at (state_of words.old) slot) bytes) }
 {
     words[ROWS + slot * ROW + 12] = bytes as u64;
 }
@@ -174,7 +174,7 @@ pub fn put_txed_unacked_data(words: &mut [u64], slot: usize, bytes: u32)
 // How many acks of a slot wait: one word.
 pub fn ack_count_at(words: &[u64], slot: usize) -> usize
     requires { (length words.now ≡ WORDS) × (slot < 8) }
-    ensures { result ≡ (rowAt (state_of words.now) slot).ack_count }
+    ensures { result ≡ (row_at (state_of words.now) slot).ack_count }
 {
     words[ROWS + slot * ROW + ACK_COUNT] as usize
 }
@@ -182,15 +182,15 @@ pub fn ack_count_at(words: &[u64], slot: usize) -> usize
 // .. and another count of them.
 pub fn put_ack_count(words: &mut [u64], slot: usize, n: usize)
     requires { (length words.old ≡ WORDS) × (slot < 8) }
-    ensures { state_of words.new ≡ with_row (state_of words.old) slot (withAcks (rowAt (state_of words.old) slot) (rowAt (state_of words.old) slot).tx_ack_queue n) }
+    ensures { state_of words.new ≡ with_row (state_of words.old) slot (with_acks (row_at (state_of words.old) slot) (row_at (state_of words.old) slot).tx_ack_queue n) }
 {
     words[ROWS + slot * ROW + ACK_COUNT] = n as u64;
 }
 
 fn write_acked(part: &mut [u64], row: LinkRow)
     requires { length part.old ≡ 14 }
-    ensures part_after { part.new ≡ ackedWords part.old row }
-    ensures limit_increased_bound { limitWord row.limit_increased < 2 ^ 32 }
+    ensures part_after { part.new ≡ acked_words part.old row }
+    ensures limit_increased_bound { limit_word row.limit_increased < 2 ^ 32 }
 {
     let limit = row.limit_increased;
     part[2] = row.roundtrip;
@@ -203,7 +203,7 @@ fn write_acked(part: &mut [u64], row: LinkRow)
 // What an ack changes of a slot's row: the round trip, its flag, the mark and the unacked bytes are those of another.
 pub fn put_acked(words: &mut [u64], slot: usize, row: LinkRow)
     requires { (length words.old ≡ WORDS) × (slot < 8) }
-    ensures { state_of words.new ≡ with_row (state_of words.old) slot (withTrip (withSending (rowAt (state_of words.old) slot) row.limit_increased row.txed_unacked_data) row.roundtrip row.zero_estimate (rowAt (state_of words.old) slot).current_ping_sent) }
+    ensures { state_of words.new ≡ with_row (state_of words.old) slot (with_trip (with_sending (row_at (state_of words.old) slot) row.limit_increased row.txed_unacked_data) row.roundtrip row.zero_estimate (row_at (state_of words.old) slot).current_ping_sent) }
 {
     let start = ROWS + slot * ROW;
     let end = start + ROW_WORDS;

@@ -1,16 +1,16 @@
 // The sending half's numbers: all of it but the packets and the resend queue.
 ghost use Rattle.std.specs.Prelude.{◌≡◌, length};
-ghost use Rattle.engine.specs.Fields.{withTx, with_next, withTotals, withEnds};
+ghost use Rattle.engine.specs.Fields.{with_tx, with_next, with_totals, with_ends};
 ghost use Rattle.words.specs.Layout.{WORDS};
 ghost use Rattle.words.specs.Meaning.{state_of};
-ghost use Rattle.words.specs.Encoded.{numbersOf, numbersWords, withCounts};
+ghost use Rattle.words.specs.Encoded.{numbers_of, numbers_words, with_counts};
 
 use crate::bits::{flag, half, is_set, seq_word};
 use crate::layout::{TX, TX_END};
 use seq::Seq;
 
 // By the names of `engine::Sending`.
-#[derive(Drop)]
+#[derive(Clone, Copy)]
 pub struct SendingNumbers {
     pub tx_seq: Seq,
     pub txed_count: usize,
@@ -25,7 +25,7 @@ pub struct SendingNumbers {
 
 pub fn tx_of(words: &[u64]) -> SendingNumbers
     requires { length words.now ≡ WORDS }
-    ensures { result ≡ numbersOf (state_of words.now).tx }
+    ensures { result ≡ numbers_of (state_of words.now).tx }
 {
     SendingNumbers {
         tx_seq: seq_word(words[TX]),
@@ -42,7 +42,7 @@ pub fn tx_of(words: &[u64]) -> SendingNumbers
 
 fn write_tx(part: &mut [u64], tx: SendingNumbers)
     requires { length part.old ≡ 9 }
-    ensures { part.new ≡ numbersWords tx }
+    ensures { part.new ≡ numbers_words tx }
 {
     part[0] = tx.tx_seq.0 as u64;
     part[1] = tx.txed_count as u64;
@@ -57,7 +57,7 @@ fn write_tx(part: &mut [u64], tx: SendingNumbers)
 
 pub fn put_tx(words: &mut [u64], tx: SendingNumbers)
     requires { length words.old ≡ WORDS }
-    ensures { state_of words.new ≡ withTx (state_of words.old) (withCounts (state_of words.old).tx tx) }
+    ensures { state_of words.new ≡ with_tx (state_of words.old) (with_counts (state_of words.old).tx tx) }
 {
     write_tx(&mut words[TX..TX_END], tx);
 }
@@ -65,7 +65,7 @@ pub fn put_tx(words: &mut [u64], tx: SendingNumbers)
 // The next number.
 pub fn put_tx_seq(words: &mut [u64], seq: Seq)
     requires { length words.old ≡ WORDS }
-    ensures { state_of words.new ≡ withTx (state_of words.old) (with_next (state_of words.old).tx seq (state_of words.old).tx.txed_packets (state_of words.old).tx.txed_count) }
+    ensures { state_of words.new ≡ with_tx (state_of words.old) (with_next (state_of words.old).tx seq (state_of words.old).tx.txed_packets (state_of words.old).tx.txed_count) }
 {
     words[TX] = seq.0 as u64;
 }
@@ -73,7 +73,7 @@ pub fn put_tx_seq(words: &mut [u64], seq: Seq)
 // How many packets are in the table.
 pub fn put_txed_count(words: &mut [u64], n: usize)
     requires { length words.old ≡ WORDS }
-    ensures { state_of words.new ≡ withTx (state_of words.old) (with_next (state_of words.old).tx (state_of words.old).tx.tx_seq (state_of words.old).tx.txed_packets n) }
+    ensures { state_of words.new ≡ with_tx (state_of words.old) (with_next (state_of words.old).tx (state_of words.old).tx.tx_seq (state_of words.old).tx.txed_packets n) }
 {
     words[TX + 1] = n as u64;
 }
@@ -81,21 +81,21 @@ pub fn put_txed_count(words: &mut [u64], n: usize)
 // The unacked, the unconsumed and the unconsumable bytes.
 pub fn put_txed_unacked(words: &mut [u64], bytes: u32)
     requires { length words.old ≡ WORDS }
-    ensures { state_of words.new ≡ withTx (state_of words.old) (withTotals (state_of words.old).tx bytes (state_of words.old).tx.txed_unconsumed (state_of words.old).tx.txed_unconsumable) }
+    ensures { state_of words.new ≡ with_tx (state_of words.old) (with_totals (state_of words.old).tx bytes (state_of words.old).tx.txed_unconsumed (state_of words.old).tx.txed_unconsumable) }
 {
     words[TX + 3] = bytes as u64;
 }
 
 pub fn put_txed_unconsumed(words: &mut [u64], bytes: u32)
     requires { length words.old ≡ WORDS }
-    ensures { state_of words.new ≡ withTx (state_of words.old) (withTotals (state_of words.old).tx (state_of words.old).tx.txed_unacked bytes (state_of words.old).tx.txed_unconsumable) }
+    ensures { state_of words.new ≡ with_tx (state_of words.old) (with_totals (state_of words.old).tx (state_of words.old).tx.txed_unacked bytes (state_of words.old).tx.txed_unconsumable) }
 {
     words[TX + 4] = bytes as u64;
 }
 
 pub fn put_txed_unconsumable(words: &mut [u64], bytes: u32)
     requires { length words.old ≡ WORDS }
-    ensures { state_of words.new ≡ withTx (state_of words.old) (withTotals (state_of words.old).tx (state_of words.old).tx.txed_unacked (state_of words.old).tx.txed_unconsumed bytes) }
+    ensures { state_of words.new ≡ with_tx (state_of words.old) (with_totals (state_of words.old).tx (state_of words.old).tx.txed_unacked (state_of words.old).tx.txed_unconsumed bytes) }
 {
     words[TX + 5] = bytes as u64;
 }
@@ -103,7 +103,7 @@ pub fn put_txed_unconsumable(words: &mut [u64], bytes: u32)
 // The last consumed number.
 pub fn put_txed_last_consumed(words: &mut [u64], seq: Seq)
     requires { length words.old ≡ WORDS }
-    ensures { state_of words.new ≡ withTx (state_of words.old) (withEnds (state_of words.old).tx seq (state_of words.old).tx.send_finish_sent (state_of words.old).tx.write_closed) }
+    ensures { state_of words.new ≡ with_tx (state_of words.old) (with_ends (state_of words.old).tx seq (state_of words.old).tx.send_finish_sent (state_of words.old).tx.write_closed) }
 {
     words[TX + 6] = seq.0 as u64;
 }
@@ -111,14 +111,14 @@ pub fn put_txed_last_consumed(words: &mut [u64], seq: Seq)
 // Whether sending has ended, and whether the other end's reader has closed.
 pub fn put_send_finish_sent(words: &mut [u64], set: bool)
     requires { length words.old ≡ WORDS }
-    ensures { state_of words.new ≡ withTx (state_of words.old) (withEnds (state_of words.old).tx (state_of words.old).tx.txed_last_consumed set (state_of words.old).tx.write_closed) }
+    ensures { state_of words.new ≡ with_tx (state_of words.old) (with_ends (state_of words.old).tx (state_of words.old).tx.txed_last_consumed set (state_of words.old).tx.write_closed) }
 {
     words[TX + 7] = flag(set);
 }
 
 pub fn put_write_closed(words: &mut [u64], set: bool)
     requires { length words.old ≡ WORDS }
-    ensures { state_of words.new ≡ withTx (state_of words.old) (withEnds (state_of words.old).tx (state_of words.old).tx.txed_last_consumed (state_of words.old).tx.send_finish_sent set) }
+    ensures { state_of words.new ≡ with_tx (state_of words.old) (with_ends (state_of words.old).tx (state_of words.old).tx.txed_last_consumed (state_of words.old).tx.send_finish_sent set) }
 {
     words[TX + 8] = flag(set);
 }

@@ -5,14 +5,14 @@ use native.Mathlib.Omega.{arith}
 use lib.ListN.{length, take, drop, length-drop}
 use lib.Seq.{length-take-le, take_all}
 use Rattle.replaying.specs.Writing.{LINE_TEXT}
-use Rattle.replaying.specs.Feeding.{carrying, fedBy}
+use Rattle.replaying.specs.Feeding.{carrying, fed_by}
 use Rattle.replaying.specs.Pieces.{lent, wrote-within, turn}
 use Rattle.replay.proofs.answer_piece.Statement.{statement}
 use Rattle.replay.proofs.answer_piece.Tie as tie
 
 abbrev invariant-loop : tie.invariant-loop
 invariant-loop store₀ records₀ line₀ piece out₀ going₀ at₀ store records line out going at =
-    (carrying going store records line ≡ lent (fedBy (carrying going₀ store₀ records₀ line₀) (take at piece)))
+    (carrying going store records line ≡ lent (fed_by (carrying going₀ store₀ records₀ line₀) (take at piece)))
     × (at ≤ length piece)
     × (length store ≡ length store₀)
     × (length records ≡ length records₀)
@@ -28,7 +28,7 @@ slice-aggregate-out : tie.Need-slice-aggregate-out invariant-loop decreases-loop
 slice-aggregate-out c = c.before.buffer.ensures
 
 loop-holds : tie.Need-loop-init invariant-loop decreases-loop
-unfolding fedBy
+unfolding fed_by
 loop-holds c = (refl, omega arith, refl, refl, omega (arith, c.before.buffer.ensures))
 
 sub-feed : tie.Need-overflow-sub-feed invariant-loop decreases-loop
@@ -106,7 +106,7 @@ returns-2 : tie.Need-returns-2 invariant-loop decreases-loop
 returns-2 c e =
     let a = c.before.before.before.before.before.before.before.before.args in
     let l = c.before.before.loop in
-    l.invariant.0 ∙ ap (λ p. lent (fedBy (carrying a.session a.store.now a.records.now a.line.now) p)) (take_all l.at a.piece.now (omega arith))
+    l.invariant.0 ∙ ap (λ p. lent (fed_by (carrying a.session a.store.now a.records.now a.line.now) p)) (take_all l.at a.piece.now (omega arith))
 
 pub answer-piece-spec : {M : Type 1} → statement M
 answer-piece-spec =

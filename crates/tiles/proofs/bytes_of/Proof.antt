@@ -7,13 +7,13 @@ use native.Mathlib.Omega.{arith}
 use borrow.Author.Rules.{rules}
 use lib.Seq.{take-suc-set, drop-set-lt, drop-drop}
 use lib.ListN.{length, take, drop, replicate, length-set}
-use Rattle.tiles.specs.Tiles.{tileLength, tileStart, tile}
+use Rattle.tiles.specs.Tiles.{tile_length, tile_start, tile}
 use Rattle.tiles.specs.Laws.{start-next, length-range, padded-is}
 use Rattle.tiles.proofs.bytes_of.Statement.{statement}
 use Rattle.tiles.proofs.bytes_of.Tie as tie
 
 abbrev invariant-loop : tie.invariant-loop
-invariant-loop shade n len out₀ j₀ out j = (len ≡ tileLength n) × (j ≤ len) × (length out ≡ 1024) × (take j out ≡ tileStart shade n j) × (drop j out ≡ drop j (replicate 1024 0))
+invariant-loop shade n len out₀ j₀ out j = (len ≡ tile_length n) × (j ≤ len) × (length out ≡ 1024) × (take j out ≡ tile_start shade n j) × (drop j out ≡ drop j (replicate 1024 0))
 
 abbrev decreases-loop : tie.decreases-loop
 decreases-loop shade n len out₀ j₀ out j = len - j
@@ -22,7 +22,7 @@ length-requires : tie.Need-length-requires invariant-loop decreases-loop
 length-requires c κs = tt
 
 loop-holds : tie.Need-loop-init invariant-loop decreases-loop
-unfolding tileStart
+unfolding tile_start
 loop-holds c = (c.length.ensures, omega arith, search rules, refl, refl)
 
 byte-requires : tie.Need-byte-requires invariant-loop decreases-loop
@@ -44,7 +44,7 @@ loop-again c =
       l.invariant.0,
       omega arith,
       length-set l.out l.j _ ∙ l.invariant.2,
-      simp (add-one) (take-suc-set l.out l.j c.byte.result (omega (arith, (length-range a.n).1)) ∙ ap (λ (front : List ℕ). front ++ (c.byte.result ∷ [])) l.invariant.3 ∙ ap (λ (b : ℕ). tileStart a.shade a.n l.j ++ (b ∷ [])) c.byte.ensures ∙ sym (start-next a.shade a.n l.j)),
+      simp (add-one) (take-suc-set l.out l.j c.byte.result (omega (arith, (length-range a.n).1)) ∙ ap (λ (front : List ℕ). front ++ (c.byte.result ∷ [])) l.invariant.3 ∙ ap (λ (b : ℕ). tile_start a.shade a.n l.j ++ (b ∷ [])) c.byte.ensures ∙ sym (start-next a.shade a.n l.j)),
       drop-set-lt (l.j + 1) l.out l.j _ (omega arith) ∙ sym (drop-drop 1 l.j l.out) ∙ ap (drop 1) l.invariant.4 ∙ drop-drop 1 l.j (replicate 1024 0),
     )
 
@@ -55,9 +55,9 @@ returns c =
     let a = c.before.before.before.args in
     let len = c.before.before.length.result in
     let whole : l.j ≡ len = omega arith in
-    let all : l.j ≡ tileLength a.n = whole ∙ l.invariant.0 in
+    let all : l.j ≡ tile_length a.n = whole ∙ l.invariant.0 in
     padded-is a.shade a.n l.out
-    (ap (λ (k : ℕ). take k l.out) (sym all) ∙ l.invariant.3 ∙ ap (tileStart a.shade a.n) all)
+    (ap (λ (k : ℕ). take k l.out) (sym all) ∙ l.invariant.3 ∙ ap (tile_start a.shade a.n) all)
     (ap (λ (k : ℕ). drop k l.out) (sym all) ∙ l.invariant.4 ∙ ap (λ (k : ℕ). drop k (replicate 1024 0)) all)
 
 pub bytes-of-spec : {M : Type 1} → statement M

@@ -1,6 +1,6 @@
 use mathlib.Core.Path.{refl}
 use borrow.Author.Rules.{rules}
-use Rattle.tiles.specs.Tiles.{tileLength}
+use Rattle.tiles.specs.Tiles.{tile_length}
 use Rattle.tiles.proofs.length.Statement.{statement}
 use Rattle.tiles.proofs.length.Tie as tie
 
@@ -11,7 +11,7 @@ add-result : tie.Need-overflow-add-result
 add-result c = search rules
 
 returns : tie.Need-returns
-unfolding tileLength
+unfolding tile_length
 returns c = refl
 
 pub length_spec : {M : Type 1} → statement M

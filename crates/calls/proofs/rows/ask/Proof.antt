@@ -56,8 +56,8 @@ use Rattle.engine.specs.declared.answer.Outcome.TheVariants as outcomes
 use Rattle.engine.specs.declared.slowness.SlowLinks.{SlowLinks}
 use Rattle.engine.specs.declared.slowness.SlowAnswer.{SlowAnswer}
 use Rattle.engine.specs.declared.slowness.SlowAnswer.TheVariants.{Listed, No}
-use Rattle.refusal.specs.Answers.{toldBy}
-use Rattle.engine.specs.Slowness.{slowSlots, slowVerdict, slowTold, slowLinksOf}
+use Rattle.refusal.specs.Answers.{told_by}
+use Rattle.engine.specs.Slowness.{slow_slots, slow_verdict, slow_told, slow_links_of}
 use Rattle.engine.specs.contracts.answer.Outcome as OT
 use Rattle.engine.proofs.answer.Outcome.TheLaws as OT'
 use Rattle.engine.specs.contracts.slowness.SlowLinks as Lt
@@ -69,7 +69,7 @@ use Rattle.engine.proofs.slow.Symbol as slow-def
 use Rattle.engine.proofs.slow.Symbol.{name as #slow}
 use Rattle.engine.proofs.slow.Met as slow-thm
 use Rattle.calls.specs.declared.rows.Told.{Told}
-use Rattle.calls.specs.Rows.{toldOf}
+use Rattle.calls.specs.Rows.{told_of}
 use Rattle.calls.specs.contracts.rows.Told as TT
 use Rattle.calls.proofs.rows.Told.TheLaws as TT'
 use Rattle.calls.specs.contracts.rows.ask.Key.{name as #ask}
@@ -88,20 +88,20 @@ stayed = (stay_none (λ _. Nine) yes, (stay_none (λ _. usize) yes, (stay_none (
 
 -- ---- the machine values
 
-abbrev linksVal : SlowLinks → Val
-linksVal = LL.val Lt.the_type LT'.the_laws
+abbrev links_val : SlowLinks → Val
+links_val = LL.val Lt.the_type LT'.the_laws
 
 abbrev answer_val : SlowAnswer → Val
 answer_val = EL.val ST.the_type ST'.the_laws
 
-abbrev toldVal : Told → Val
-toldVal = LL.val TT.the_type TT'.the_laws
+abbrev told_val : Told → Val
+told_val = LL.val TT.the_type TT'.the_laws
 
 -- ---- the loan
 
 -- what the engine promises of its answer to a run of rows
 abbrev Said : List LinkRow → SlowAnswer → Type 0
-Said rows r = (r ≡ slowLinksOf rows) × (slowTold r ≡ toldBy (slowVerdict rows) (slowSlots rows))
+Said rows r = (r ≡ slow_links_of rows) × (slow_told r ≡ told_by (slow_verdict rows) (slow_slots rows))
 
 module _ {M : Type 1} {𝓤 : Ura M} (𝓛 : Logic 𝓤) (κ : Lft) (xs : List LinkRow) (n l : ℕ) where
   open 𝓛 use {H, A}
@@ -153,18 +153,18 @@ module _ {M : Type 1} {𝓤 : Ura M} (𝓛 : Logic 𝓤) (κ : Lft) (xs : List L
 
 -- ---- the walk
 
-abbrev listedArm : Body
-listedArm = seq (assign (spot 6 []) (rv_opd (copy (spot 5 (variant 0 ∷ field 1 ∷ []))))) (seq (assign (spot 11 []) (aggregate (int w8 0 ∷ []))) (assign (spot 10 []) (aggregate (copy (spot 11 []) ∷ copy (spot 6 []) ∷ []))))
+abbrev listed_arm : Body
+listed_arm = seq (assign (spot 6 []) (rv_opd (copy (spot 5 (variant 0 ∷ field 1 ∷ []))))) (seq (assign (spot 11 []) (aggregate (int w8 0 ∷ []))) (assign (spot 10 []) (aggregate (copy (spot 11 []) ∷ copy (spot 6 []) ∷ []))))
 
 abbrev no_arm : Body
 no_arm = seq (assign (spot 7 []) (rv_opd (copy (spot 5 (variant 1 ∷ field 1 ∷ []))))) (seq (assign (spot 12 []) (aggregate (int w8 1 ∷ copy (spot 7 []) ∷ []))) (assign (spot 10 []) (aggregate (copy (spot 12 []) ∷ copy (spot 3 []) ∷ []))))
 
 -- the locals' types, with where each stands
 module _ {M : Type 1} (𝓤 : Ura M) (H : Heap 𝓤) where
-  abbrev envOf : List Local → List ℕ → Env 𝓤 H
-  envOf [] ls = []
-  envOf (local τ h ∷ Ls) [] = []
-  envOf (local τ h ∷ Ls) (l ∷ ls) = (τ, l) ∷ envOf Ls ls
+  abbrev env_of : List Local → List ℕ → Env 𝓤 H
+  env_of [] ls = []
+  env_of (local τ h ∷ Ls) [] = []
+  env_of (local τ h ∷ Ls) (l ∷ ls) = (τ, l) ∷ env_of Ls ls
 
 module _ {M : Type 1} {𝓤 : Ura M} {𝓛 : Logic 𝓤} {K : Type 0} {Γ : List (Item 𝓤)} {E : Env 𝓤 𝓛.H} where
   -- a whole local is read
@@ -187,7 +187,7 @@ module _ {M : Type 1} {𝓤 : Ura M} (𝓛 : Logic 𝓤) (mem : Memory → SProp
   x = (rows, (n, (none, tt)))
 
   abbrev v₃ : Val
-  v₃ = linksVal none
+  v₃ = links_val none
 
   abbrev vs : Vals ask.signature tt
   vs = (v₁ ∷ [], (vint w64 n ∷ [], (v₃ ∷ [], tt)))
@@ -196,9 +196,9 @@ module _ {M : Type 1} {𝓤 : Ura M} (𝓛 : Logic 𝓤) (mem : Memory → SProp
   Post = (walk_of 𝓛 ask.ended stayed (ask.clauses 𝓛 mem run)).post ((tt, tt, tt, x, vs), tt)
 
   module _ (g₁ : Is Nine rows (v₁ ∷ [])) (fits : n < 2 ^ 64) (g₃ : Is Lt.the_row none (v₃ ∷ [])) where
-    exits : (t : Told) → Is TT.the_row t (toldVal t ∷ []) → t ≡ toldOf none (slowLinksOf (take n rows)) → ent 𝓤 (emp 𝓤) (Post (toldVal t))
+    exits : (t : Told) → Is TT.the_row t (told_val t ∷ []) → t ≡ told_of none (slow_links_of (take n rows)) → ent 𝓤 (emp 𝓤) (Post (told_val t))
     exits t is e =
-        qed 𝓛 [] ∵ suffices ! _ (ends_at 𝓛 ask.ended stayed (ask.clauses 𝓛 mem run) ((tt, tt, tt, x, vs), tt) (toldVal t) t (tt, (tt, (tt, tt))) (tt, (tt, (tt, tt)))) $ says ! e $
+        qed 𝓛 [] ∵ suffices ! _ (ends_at 𝓛 ask.ended stayed (ask.clauses 𝓛 mem run) ((tt, tt, tt, x, vs), tt) (told_val t) t (tt, (tt, (tt, tt))) (tt, (tt, (tt, tt)))) $ says ! e $
         nothing ! $ owned ! Lt.the_row (Is Lt.the_row) (LL.makes Lt.the_type LT'.the_plain 𝓛) none _ g₃ $ fjoin ! $
         owned ! usize (Is usize) (uint_Makes 𝓛 w64) n _ (refl, fits) $ fjoin ! $
         owned ! Nine (Is Nine) (Array-Makes 𝓛 R (LL.makes T.the_type T'.the_plain 𝓛) 9) rows _ g₁ $ fjoin ! $
@@ -206,7 +206,7 @@ module _ {M : Type 1} {𝓤 : Ura M} (𝓛 : Logic 𝓤) (mem : Memory → SProp
 
     module _ (C : Calls 𝓤 H) (Λ : Loops 𝓤 H) (l₀ l₁ l₂ l₃ l₄ l₅ l₆ l₇ l₈ l₉ l₁₀ l₁₁ l₁₂ : ℕ) where
       abbrev E : Env 𝓤 H
-      E = envOf 𝓤 H code.Mir.locals (l₀ ∷ l₁ ∷ l₂ ∷ l₃ ∷ l₄ ∷ l₅ ∷ l₆ ∷ l₇ ∷ l₈ ∷ l₉ ∷ l₁₀ ∷ l₁₁ ∷ l₁₂ ∷ [])
+      E = env_of 𝓤 H code.Mir.locals (l₀ ∷ l₁ ∷ l₂ ∷ l₃ ∷ l₄ ∷ l₅ ∷ l₆ ∷ l₇ ∷ l₈ ∷ l₉ ∷ l₁₀ ∷ l₁₁ ∷ l₁₂ ∷ [])
 
       abbrev has : ℕ → Val → List (Item 𝓤) → List (Item 𝓤)
       has i v Γ = ‵ (fat full_share (spot_of 𝓤 H E i).0 (spot_of 𝓤 H E i).1 0 v) ∷ ‵ (fdies (spot_of 𝓤 H E i).0 (spot_of 𝓤 H E i).1) ∷ Γ
@@ -222,25 +222,25 @@ module _ {M : Type 1} {𝓤 : Ura M} (𝓛 : Logic 𝓤) (mem : Memory → SProp
       abbrev below : SlowAnswer → List (Item 𝓤)
       below r = has 5 (answer_val r) (empty 4 (has 3 v₃ (has 2 (vint w64 n) (has 1 v₁ (empty 0 [])))))
 
-      matched : (r : SlowAnswer) (v₈ v₉ : Val) → Is ST.the_row r (answer_val r ∷ []) → r ≡ slowLinksOf (take n rows)
+      matched : (r : SlowAnswer) (v₈ v₉ : Val) → Is ST.the_row r (answer_val r ∷ []) → r ≡ slow_links_of (take n rows)
           → Sq 𝓛 (empty 12 (empty 11 (empty 10 (has 9 v₉ (has 8 v₈ (empty 7 (empty 6 (below r)))))))) (runs C Λ E code.Mir.s-5 Then)
       matched (Listed links) v₈ v₉ is e =
           let told : Told = record { outcome = outcomes.Done; links = links } in
-          let got : Is Lt.the_row links (linksVal links ∷ []) = (EL.owed ST.the_type ST'.the_laws (Listed links) _ is).0 in
-          let made : Is TT.the_row told (toldVal told ∷ []) = LL.owes TT.the_type TT'.the_laws told (made-done, (got, tt)) in
-          switches_on ! (load ! (from ! (vrt ! refl (fld ! refl (stop !)))) (look_tag ! 14 (whole !))) $ exec ! C Λ E listedArm Then $
+          let got : Is Lt.the_row links (links_val links ∷ []) = (EL.owed ST.the_type ST'.the_laws (Listed links) _ is).0 in
+          let made : Is TT.the_row told (told_val told ∷ []) = LL.owes TT.the_type TT'.the_laws told (made-done, (got, tt)) in
+          switches_on ! (load ! (from ! (vrt ! refl (fld ! refl (stop !)))) (look_tag ! 14 (whole !))) $ exec ! C Λ E listed_arm Then $
           assigns ! (of_opd ! (load ! (from ! (vrt ! refl (fld ! refl (stop !)))) (look_in ! 14 (in_variant ! 0 0 refl refl (whole !))))) (from ! (stop !)) (init ! 12 refl ((LL.lawful Lt.the_type LT'.the_laws 𝓛).typed links _ got).0) $
           assigns ! (agg ! (and_then ! (lit ! tt) (no_more !))) (from ! (stop !)) (init ! 2 refl ((EL.lawful OT.the_type OT'.the_laws 𝓛 tt).typed outcomes.Done _ made-done).0) $
           assigns_last ! (agg ! (and_then ! (held ! 2 refl) (and_then ! (held ! 12 refl) (no_more !)))) (from ! (stop !)) (init ! 4 refl ((LL.lawful TT.the_type TT'.the_laws 𝓛).typed told _ made).0) $
           exec ! C Λ E code.Mir.t-6 (at_ret E Post) $
           assigns ! (of_opd ! (held ! 4 refl)) (from ! (stop !)) (init ! 24 refl ((LL.lawful TT.the_type TT'.the_laws 𝓛).typed told _ made).0) $
           returns ! (look ! 24 refl) $ move ! (24 ∷ 25 ∷ 22 ∷ 23 ∷ 20 ∷ 21 ∷ 18 ∷ 19 ∷ 16 ∷ 17 ∷ 14 ∷ 15 ∷ 12 ∷ 13 ∷ 10 ∷ 11 ∷ 8 ∷ 9 ∷ 6 ∷ 7 ∷ 4 ∷ 5 ∷ 2 ∷ 3 ∷ 0 ∷ 1 ∷ []) $
-          free-full ! $ free-full ! $ free-full ! $ free-full ! $ free1 ! $ free-full ! $ free-full ! $ free1 ! $ free-full ! $ free-full ! $ free-full ! $ free-full ! $ free1 ! $ free0 ! $ by ! (exits told made (ap (toldOf none) e))
+          free-full ! $ free-full ! $ free-full ! $ free-full ! $ free1 ! $ free-full ! $ free-full ! $ free1 ! $ free-full ! $ free-full ! $ free-full ! $ free-full ! $ free1 ! $ free0 ! $ by ! (exits told made (ap (told_of none) e))
       matched (No why) v₈ v₉ is e =
           let told : Told = record { outcome = outcomes.No why; links = none } in
           let got : Is RT.the_row why (EL.vals RT.the_type RT'.the_laws why) = (EL.owed ST.the_type ST'.the_laws (No why) _ is).0 in
           let made-no : Is OT.the_row (outcomes.No why) (EL.vals OT.the_type OT'.the_laws (outcomes.No why)) = EL.owes OT.the_type OT'.the_laws (outcomes.No why) (got, tt) in
-          let made : Is TT.the_row told (toldVal told ∷ []) = LL.owes TT.the_type TT'.the_laws told (made-no, (g₃, tt)) in
+          let made : Is TT.the_row told (told_val told ∷ []) = LL.owes TT.the_type TT'.the_laws told (made-no, (g₃, tt)) in
           switches_on ! (load ! (from ! (vrt ! refl (fld ! refl (stop !)))) (look_tag ! 14 (whole !))) $ exec ! C Λ E no_arm Then $
           assigns ! (of_opd ! (load ! (from ! (vrt ! refl (fld ! refl (stop !)))) (look_in ! 14 (in_variant ! 1 0 refl refl (whole !))))) (from ! (stop !)) (init ! 10 refl ((EL.lawful RT.the_type RT'.the_laws 𝓛 tt).typed why _ got).0) $
           assigns ! (agg ! (and_then ! (lit ! tt) (and_then ! (held ! 10 refl) (no_more !)))) (from ! (stop !)) (init ! 0 refl ((EL.lawful OT.the_type OT'.the_laws 𝓛 tt).typed (outcomes.No why) _ made-no).0) $
@@ -248,7 +248,7 @@ module _ {M : Type 1} {𝓤 : Ura M} (𝓛 : Logic 𝓤) (mem : Memory → SProp
           exec ! C Λ E code.Mir.t-6 (at_ret E Post) $
           assigns ! (of_opd ! (held ! 4 refl)) (from ! (stop !)) (init ! 24 refl ((LL.lawful TT.the_type TT'.the_laws 𝓛).typed told _ made).0) $
           returns ! (look ! 24 refl) $ move ! (24 ∷ 25 ∷ 22 ∷ 23 ∷ 20 ∷ 21 ∷ 18 ∷ 19 ∷ 16 ∷ 17 ∷ 14 ∷ 15 ∷ 12 ∷ 13 ∷ 10 ∷ 11 ∷ 8 ∷ 9 ∷ 6 ∷ 7 ∷ 4 ∷ 5 ∷ 2 ∷ 3 ∷ 0 ∷ 1 ∷ []) $
-          free-full ! $ free-full ! $ free-full ! $ free-full ! $ free1 ! $ free-full ! $ free1 ! $ free-full ! $ free-full ! $ free-full ! $ free-full ! $ free1 ! $ free-full ! $ free0 ! $ by ! (exits told made (ap (toldOf none) e))
+          free-full ! $ free-full ! $ free-full ! $ free-full ! $ free1 ! $ free-full ! $ free1 ! $ free-full ! $ free-full ! $ free-full ! $ free-full ! $ free1 ! $ free-full ! $ free0 ! $ by ! (exits told made (ap (told_of none) e))
 
 module _ {M : Type 1} {𝓤 : Ura M} (𝓛 : Logic 𝓤) (mem : Memory → SProp 𝓤) (run : Routine → Fun 𝓤) where
   abbrev Slow : Contract 𝓤
@@ -269,13 +269,13 @@ module _ {M : Type 1} {𝓤 : Ura M} (𝓛 : Logic 𝓤) (mem : Memory → SProp
       qed 𝓛 (‵ (flft (α ∷ []) full_share) ∷ ‵ (slice 𝓛 (α ∷ []) rows n l γ) ∷ []) ∵
       nothing ! $ nothing ! $ move ! (2 ∷ 0 ∷ []) $ join ! $ move ! (2 ∷ 1 ∷ []) $ join ! $ move ! (1 ∷ 0 ∷ []) $ join ! $ frame ! $ done !
 
-  walk : (g₁ : Is Nine rows (v₁ ∷ [])) → n < 2 ^ 64 → Is Lt.the_row none (linksVal none ∷ []) → n ≤ 9
-      → ent 𝓤 (on_entry 𝓛 ask.signature tt tt (rows, (n, (none, tt))) (v₁ ∷ [], (vint w64 n ∷ [], (linksVal none ∷ [], tt)))) (WpFn 𝓤 H C Λ code.function (v₁ ∷ vint w64 n ∷ linksVal none ∷ []) (Post 𝓛 mem run rows n none v₁))
+  walk : (g₁ : Is Nine rows (v₁ ∷ [])) → n < 2 ^ 64 → Is Lt.the_row none (links_val none ∷ []) → n ≤ 9
+      → ent 𝓤 (on_entry 𝓛 ask.signature tt tt (rows, (n, (none, tt))) (v₁ ∷ [], (vint w64 n ∷ [], (links_val none ∷ [], tt)))) (WpFn 𝓤 H C Λ code.function (v₁ ∷ vint w64 n ∷ links_val none ∷ []) (Post 𝓛 mem run rows n none v₁))
   walk g₁ fits g₃ h =
       let wt₁ = ((Array-Lawful 𝓛 R (LL.lawful T.the_type T'.the_laws 𝓛) 9).typed rows _ g₁).0 in
       let len : length rows ≡ 9 = g₁.1.0.1 in
       let lent_length : length (take n rows) ≡ n = length-take-le n rows (omega (arith, len, h)) in
-      qed 𝓛 (‵ ftrue ∷ ‵ (owns (Nine ∷ usize ∷ Lt.the_row ∷ []) (rows, (n, (none, tt))) (v₁ ∷ [], (vint w64 n ∷ [], (linksVal none ∷ [], tt)))) ∷ []) ∵ drop ! $ drop ! $ enter ! C Λ code.function (v₁ ∷ vint w64 n ∷ linksVal none ∷ []) _ $
+      qed 𝓛 (‵ ftrue ∷ ‵ (owns (Nine ∷ usize ∷ Lt.the_row ∷ []) (rows, (n, (none, tt))) (v₁ ∷ [], (vint w64 n ∷ [], (links_val none ∷ [], tt)))) ∷ []) ∵ drop ! $ drop ! $ enter ! C Λ code.function (v₁ ∷ vint w64 n ∷ links_val none ∷ []) _ $
       alloc1 ! (λ l₀. alloc1 ! (λ l₁. alloc1 ! (λ l₂. alloc1 ! (λ l₃. alloc1 ! (λ l₄. alloc1 ! (λ l₅. alloc1 ! (λ l₆. alloc1 ! (λ l₇. alloc1 ! (λ l₈. alloc1 ! (λ l₉. alloc1 ! (λ l₁₀. alloc1 ! (λ l₁₁. alloc1 ! (λ l₁₂. alloc0 ! $ params1 ! $
       pass1 ! (init ! 22 refl wt₁) $ pass1 ! (init ! 20 refl (tt, record { fits = fits })) $ pass1 ! (init ! 18 refl ((LL.lawful Lt.the_type LT'.the_laws 𝓛).typed none _ g₃).0) $ pass0 ! $
       assigns ! (of_opd ! (held ! 22 refl)) (from ! (stop !)) (init ! 16 refl wt₁) $

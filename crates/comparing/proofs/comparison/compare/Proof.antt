@@ -1,7 +1,7 @@
 -- Both recordings are scanned, and then compared.
 use mathlib.Core.Path.{ap}
 use borrow.Author.Rules.{rules}
-use Rattle.comparing.specs.Compared.{comparedTold}
+use Rattle.comparing.specs.Compared.{compared_told}
 use Rattle.comparing.proofs.comparison.compare.Statement.{statement}
 use Rattle.comparing.proofs.comparison.compare.Tie as tie
 
@@ -29,7 +29,7 @@ compare-scanned-requires c κs = search rules
 returns : tie.Need-returns
 returns c =
     let said = c.compare-scanned.ensures in
-    (said.0, (ap comparedTold said.0, said.1))
+    (said.0, (ap compared_told said.0, said.1))
 
 pub compare-spec : {M : Type 1} → statement M
 compare-spec =

@@ -3,7 +3,7 @@ use mathlib.Core.Path.{◌∙◌, ap}
 use borrow.Author.Rules.{rules}
 use Rattle.refusal.specs.declared.Refusal.TheVariants.{Bytes, Far, Many}
 use Rattle.comparing.specs.declared.comparison.Side.TheVariants.{First, Second}
-use Rattle.comparing.specs.Judging.{toldAt}
+use Rattle.comparing.specs.Judging.{told_at}
 use Rattle.comparing.proofs.comparison.judge.Statement.{statement}
 use Rattle.comparing.proofs.comparison.judge.Tie as tie
 
@@ -35,10 +35,10 @@ returns : tie.Need-returns
 returns c =
     let a = c.before.before.before.before.before.before.before.before.before.before.args.a in
     let b = c.before.before.before.before.before.before.before.before.before.before.args.b in
-    let many = c.before.before.before.before.before.told2.ensures ∙ ap (toldAt a.counts.many Many First) c.before.before.before.before.before.before.told.ensures in
-    let far = c.before.before.before.told4.ensures ∙ ap (toldAt a.counts.far Far First) (c.before.before.before.before.told3.ensures ∙ ap (toldAt b.counts.far Far Second) many) in
-    let starts = c.before.before.told5.ensures ∙ ap (toldAt c.before.before.before.before.before.before.before.start-differs.result Bytes Second) far in
-    let bad = c.told7.ensures ∙ ap (toldAt a.bad Bytes First) (c.before.told6.ensures ∙ ap (toldAt b.bad Bytes Second) starts) in
+    let many = c.before.before.before.before.before.told2.ensures ∙ ap (told_at a.counts.many Many First) c.before.before.before.before.before.before.told.ensures in
+    let far = c.before.before.before.told4.ensures ∙ ap (told_at a.counts.far Far First) (c.before.before.before.before.told3.ensures ∙ ap (told_at b.counts.far Far Second) many) in
+    let starts = c.before.before.told5.ensures ∙ ap (told_at c.before.before.before.before.before.before.before.start-differs.result Bytes Second) far in
+    let bad = c.told7.ensures ∙ ap (told_at a.bad Bytes First) (c.before.told6.ensures ∙ ap (told_at b.bad Bytes Second) starts) in
     rw c.before.before.before.before.before.before.before.start-differs.ensures at bad
 
 pub judge-spec : {M : Type 1} → statement M

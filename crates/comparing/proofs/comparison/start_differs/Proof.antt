@@ -1,7 +1,7 @@
 -- One start number, or two.
 use mathlib.Core.Path.{sym, ◌∙◌}
 use borrow.Author.Rules.{rules}
-use Rattle.comparing.specs.Judging.{startsPart}
+use Rattle.comparing.specs.Judging.{starts_part}
 use Rattle.comparing.proofs.comparison.start_differs.Statement.{statement}
 use Rattle.comparing.proofs.comparison.start_differs.Tie as tie
 
@@ -9,11 +9,11 @@ eq-requires : tie.Need-eq-requires
 eq-requires c κs = search rules
 
 returns : tie.Need-returns
-unfolding startsPart
+unfolding starts_part
 returns c = simp (sym c.before.eq.ensures ∙ c.if1.true)
 
 returns-2 : tie.Need-returns-2
-unfolding startsPart
+unfolding starts_part
 returns-2 c = simp (sym c.before.eq.ensures ∙ c.if1.false)
 
 pub start-differs-spec : {M : Type 1} → statement M

@@ -2,11 +2,11 @@
 use Prim.Native.Nat.{◌^◌, ◌<◌}
 use native.Mathlib.Omega.{arith}
 use borrow.Author.Rules.{rules}
-use Rattle.comparing.specs.Words.{detailOf, kind-and-detail-fit}
+use Rattle.comparing.specs.Words.{detail_of, kind-and-detail-fit}
 use Rattle.comparing.proofs.listing.detail_of.Statement.{statement}
 use Rattle.comparing.proofs.listing.detail_of.Tie as tie
 
-detail : (c : tie.Start) → detailOf c.args.d < 2 ^ 28
+detail : (c : tie.Start) → detail_of c.args.d < 2 ^ 28
 detail c = (kind-and-detail-fit c.args.d c.requires).1
 
 enum_told : tie.Need-enum-told

@@ -2,7 +2,7 @@
 use native.Mathlib.Omega.{arith}
 use mathlib.Core.Path.{sym, ◌∙◌}
 use borrow.Author.Rules.{rules}
-use Rattle.comparing.specs.Words.{differenceIn, other-kind}
+use Rattle.comparing.specs.Words.{difference_in, other-kind}
 use Rattle.comparing.proofs.listing.difference_of.Statement.{statement}
 use Rattle.comparing.proofs.listing.difference_of.Tie as tie
 
@@ -16,23 +16,23 @@ kind-in-requires : tie.Need-kind-in-requires
 kind-in-requires c κs = search rules
 
 returns : tie.Need-returns
-unfolding differenceIn
+unfolding difference_in
 returns c = simp (sym c.before.kind-in.ensures ∙ c.match.keys1)
 
 returns-2 : tie.Need-returns-2
-unfolding differenceIn
+unfolding difference_in
 returns-2 c = simp (sym c.before.kind-in.ensures ∙ c.match.keys2)
 
 returns-3 : tie.Need-returns-3
-unfolding differenceIn
+unfolding difference_in
 returns-3 c = simp (sym c.before.kind-in.ensures ∙ c.match.keys3)
 
 returns-4 : tie.Need-returns-4
-unfolding differenceIn
+unfolding difference_in
 returns-4 c = simp (sym c.before.kind-in.ensures ∙ c.match.keys4)
 
 returns-5 : tie.Need-returns-5
-unfolding differenceIn
+unfolding difference_in
 returns-5 c = simp (sym c.before.kind-in.ensures ∙ c.match.keys5)
 
 returns-6 : tie.Need-returns-6

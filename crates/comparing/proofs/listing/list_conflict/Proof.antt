@@ -3,9 +3,9 @@ use mathlib.Core.Path.{◌≡◌, ap}
 use native.Mathlib.Omega.{arith}
 use borrow.Author.Rules.{rules}
 use borrow.Author.Tests.{eq-eqb, ne_eqb}
-use Rattle.comparing.specs.Differences.{conflictAs}
-use Rattle.comparing.specs.Says.{flagHeld}
-use Rattle.comparing.specs.Listing.{wordsFor, has_of, pushed_none}
+use Rattle.comparing.specs.Differences.{conflict_as}
+use Rattle.comparing.specs.Says.{flag_held}
+use Rattle.comparing.specs.Listing.{words_for, has_of, pushed_none}
 use Rattle.comparing.proofs.listing.list_conflict.Statement.{statement}
 use Rattle.comparing.proofs.listing.list_conflict.Tie as tie
 
@@ -16,10 +16,10 @@ enum-known-held : tie.Need-enum-known-held
 enum-known-held c = search rules
 
 returns : tie.Need-returns
-unfolding wordsFor
+unfolding words_for
 returns c =
     let a = c.before.before.before.before.before.args in
-    let e : conflictAs (flagHeld a.held) a.d ≡ _ = ap (λ h. conflictAs (flagHeld h) a.d) c.before.before.held.given.1 in
+    let e : conflict_as (flag_held a.held) a.d ≡ _ = ap (λ h. conflict_as (flag_held h) a.d) c.before.before.held.given.1 in
     rw e (simp (eq-eqb _ _ c.if1.true) (pushed_none a.list.now a.n))
 
 push-requires : tie.Need-push-requires
@@ -28,7 +28,7 @@ push-requires c κs =
     (omega (arith, s.requires.0, ap has_of c.before.before.before.held.given.1), s.requires.1)
 
 returns-2 : tie.Need-returns-2
-unfolding wordsFor
+unfolding words_for
 returns-2 c =
     let a = c.before.before.before.args in
     rw c.enum_told.given.1 (pushed_none a.list.now a.n)
@@ -39,7 +39,7 @@ same_length c = search rules
 returns-3 : tie.Need-returns-3
 returns-3 c =
     let a = c.before.before.before.before.before.before.before.before.before.args in
-    let e : conflictAs (flagHeld a.held) a.d ≡ _ = ap (λ h. conflictAs (flagHeld h) a.d) c.before.before.before.before.before.before.held.given.1 in
+    let e : conflict_as (flag_held a.held) a.d ≡ _ = ap (λ h. conflict_as (flag_held h) a.d) c.before.before.before.before.before.before.held.given.1 in
     rw e (simp (ne_eqb _ _ c.before.before.before.before.if1.false) c.before.before.push.ensures)
 
 pub list-conflict-spec : {M : Type 1} → statement M

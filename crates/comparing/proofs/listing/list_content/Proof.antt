@@ -2,7 +2,7 @@
 use mathlib.Core.Path.{ap}
 use native.Mathlib.Omega.{arith}
 use borrow.Author.Rules.{rules}
-use Rattle.comparing.specs.Listing.{wordsFor, place_of, pushed_none}
+use Rattle.comparing.specs.Listing.{words_for, place_of, pushed_none}
 use Rattle.comparing.proofs.listing.list_content.Statement.{statement}
 use Rattle.comparing.proofs.listing.list_content.Tie as tie
 
@@ -26,7 +26,7 @@ push-requires-2 c κs =
     (s.requires.0, omega (arith, s.requires.1, ap place_of c.before.before.content2.given.1))
 
 returns : tie.Need-returns
-unfolding wordsFor
+unfolding words_for
 returns c =
     let a = c.before.before.before.args in
     rw c.enum_told.given.1 (pushed_none a.list.now a.n)

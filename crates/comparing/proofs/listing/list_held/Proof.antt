@@ -2,7 +2,7 @@
 use mathlib.Core.Path.{ap}
 use native.Mathlib.Omega.{arith}
 use borrow.Author.Rules.{rules}
-use Rattle.comparing.specs.Listing.{wordsFor, has_of, pushed_none, part-near}
+use Rattle.comparing.specs.Listing.{words_for, has_of, pushed_none, part-near}
 use Rattle.comparing.proofs.listing.list_held.Statement.{statement}
 use Rattle.comparing.proofs.listing.list_held.Tie as tie
 
@@ -38,7 +38,7 @@ list-content-requires c κs =
     (omega (arith, c.before.before.before.before.before.before.before.before.before.before.before.requires, ap has_of c.before.before.before.before.before.before.a.given.1), part-near _ _ _ _ _ c.before.compare-runs.ensures)
 
 returns : tie.Need-returns
-unfolding wordsFor
+unfolding words_for
 returns c =
     let a = c.before.before.before.before.before.before.before.args in
     rw (c.before.before.enum_told.given.1, c.enum-told2.given.1) (pushed_none a.list.now a.n)

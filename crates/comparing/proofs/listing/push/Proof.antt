@@ -3,7 +3,7 @@ use mathlib.Core.Path.{ap}
 use native.Mathlib.Omega.{arith}
 use lib.ListN.{set}
 use borrow.Author.Rules.{rules}
-use Rattle.comparing.specs.Listing.{wordsFor}
+use Rattle.comparing.specs.Listing.{words_for}
 use Rattle.comparing.proofs.listing.push.Statement.{statement}
 use Rattle.comparing.proofs.listing.push.Tie as tie
 
@@ -23,7 +23,7 @@ same_length : tie.Need-same-length
 same_length c = search rules
 
 returns : tie.Need-returns
-unfolding wordsFor
+unfolding words_for
 returns c =
     let a = c.before.before.args in
     record { count = omega arith; list = ap (set a.list.now a.n) c.word_of.ensures }

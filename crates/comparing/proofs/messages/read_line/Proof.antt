@@ -1,5 +1,5 @@
 -- By what is waited for: a frame is found by what it reads as, a payload by whether it is one.
-use Rattle.comparing.specs.Messages.{lineFound}
+use Rattle.comparing.specs.Messages.{line_found}
 use borrow.Author.Rules.{rules}
 use Rattle.comparing.proofs.messages.read_line.Statement.{statement}
 use Rattle.comparing.proofs.messages.read_line.Tie as tie
@@ -20,11 +20,11 @@ find-payload-requires : tie.Need-find-payload-requires
 find-payload-requires c κs = search rules
 
 returns : tie.Need-returns
-unfolding lineFound
+unfolding line_found
 returns c = simp (c.before.before.enum_told.given.1, c.find-reading.ensures, c.before.read-frame.ensures)
 
 returns-2 : tie.Need-returns-2
-unfolding lineFound
+unfolding line_found
 returns-2 c = simp (c.before.before.waiting.given.1, c.find-payload.ensures)
 
 pub read-line-spec : {M : Type 1} → statement M

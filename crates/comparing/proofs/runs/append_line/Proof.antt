@@ -6,7 +6,7 @@ use native.Mathlib.Omega.{arith}
 use lib.ListN.{length, take, length-take, length-drop}
 use borrow.Rule.Slice.PartMut.{take_put}
 use Rattle.text.specs.HexRun.{count-says, bad-says, counted_start}
-use Rattle.comparing.specs.Runs.{lineBytes, bytes-long, bytes-bad, bytes_good, put-none, put-behind}
+use Rattle.comparing.specs.Runs.{line_bytes, bytes-long, bytes-bad, bytes_good, put-none, put-behind}
 use borrow.Author.Rules.{rules}
 use Rattle.comparing.proofs.runs.append_line.Statement.{statement}
 use Rattle.comparing.proofs.runs.append_line.Tie as tie
@@ -14,7 +14,7 @@ use Rattle.comparing.proofs.runs.append_line.Tie as tie
 returns : tie.Need-returns
 returns c =
     let a = c.before.before.before.args in
-    (put-none a.run.now (lineBytes a.line.now) a.n (bytes-long a.line.now c.if1.true), omega arith)
+    (put-none a.run.now (line_bytes a.line.now) a.n (bytes-long a.line.now c.if1.true), omega arith)
 
 sub-read-hex : tie.Need-overflow-sub-read-hex
 sub-read-hex c = search rules
@@ -42,7 +42,7 @@ returns-2 c =
     let a = c.before.before.before.before.before.before.before.before.before.args in
     let read = c.before.before.before.before.read-hex in
     let bad = bad-says a.line.now _ (sym read.ensures.0 ∙ c.enum_told.given.1) (simp (length-take, length-drop) (omega arith)) in
-    (take_put a.n (length a.run.now - a.n) a.run.now read.new.1.0 (omega arith) ∙ put-none a.run.now (lineBytes a.line.now) a.n (bytes-bad a.line.now bad), omega arith)
+    (take_put a.n (length a.run.now - a.n) a.run.now read.new.1.0 (omega arith) ∙ put-none a.run.now (line_bytes a.line.now) a.n (bytes-bad a.line.now bad), omega arith)
 
 add-result : tie.Need-overflow-add-result
 add-result c =

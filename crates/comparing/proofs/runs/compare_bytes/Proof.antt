@@ -3,12 +3,12 @@ use mathlib.Core.Path.{◌≡◌, refl, sym, ◌∙◌}
 use Prim.Native.Nat.{◌-◌}
 use native.Mathlib.Omega.{arith}
 use lib.ListN.{length, drop}
-use Rattle.comparing.specs.Runs.{contentFrom, contentOf, content-step, content-differ, content-shorter, content-longer, content-equal}
+use Rattle.comparing.specs.Runs.{content_from, content_of, content-step, content-differ, content-shorter, content-longer, content-equal}
 use Rattle.comparing.proofs.runs.compare_bytes.Statement.{statement}
 use Rattle.comparing.proofs.runs.compare_bytes.Tie as tie
 
 abbrev invariant-loop : tie.invariant-loop
-invariant-loop a b i₀ i = contentFrom i (drop i a) (drop i b) ≡ contentOf a b
+invariant-loop a b i₀ i = content_from i (drop i a) (drop i b) ≡ content_of a b
 
 abbrev decreases-loop : tie.decreases-loop
 decreases-loop a b i₀ i = length a - i

@@ -3,7 +3,7 @@ use mathlib.Core.Path.{sym, ◌∙◌, ap}
 use native.Mathlib.Omega.{arith}
 use lib.ListN.{take}
 use lib.Seq.{length-take-le}
-use Rattle.comparing.specs.Runs.{contentOf, run_at}
+use Rattle.comparing.specs.Runs.{content_of, run_at}
 use borrow.Author.Rules.{rules}
 use Rattle.comparing.proofs.runs.compare_runs.Statement.{statement}
 use Rattle.comparing.proofs.runs.compare_runs.Tie as tie
@@ -41,8 +41,8 @@ returns c =
     let first = c.before.before.before.before.before.before.before.read-run in
     let second = c.before.before.before.before.read-run2 in
     c.compare-bytes.ensures
-    ∙ ap (λ l. contentOf l (take second.result second.new.1.1.0)) first.ensures.0
-    ∙ ap (contentOf (run_at a.a.now a.i)) second.ensures.0
+    ∙ ap (λ l. content_of l (take second.result second.new.1.1.0)) first.ensures.0
+    ∙ ap (content_of (run_at a.a.now a.i)) second.ensures.0
 
 pub compare-runs-spec : {M : Type 1} → statement M
 compare-runs-spec =

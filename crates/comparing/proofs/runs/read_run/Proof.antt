@@ -5,7 +5,7 @@ use Prim.Native.Nat.{◌+◌, ◌-◌}
 use native.Mathlib.Omega.{arith}
 use lib.ListN.{take, drop}
 use Rattle.recording.specs.Lines.{until-within}
-use Rattle.comparing.specs.Runs.{lineBytes, payloadAfter, run_none, run-one, run-two}
+use Rattle.comparing.specs.Runs.{line_bytes, payload_after, run_none, run-one, run-two}
 use borrow.Author.Rules.{rules}
 use Rattle.comparing.proofs.runs.read_run.Statement.{statement}
 use Rattle.comparing.proofs.runs.read_run.Tie as tie
@@ -83,8 +83,8 @@ returns-4 c =
     let run = run-two a.input.now a.at first.result first.ensures c.before.before.before.before.before.before.before.before.before.before.before.before.before.before.before.if1.false second.result second.ensures c.before.before.before.before.before.before.before.if3.false in
     let whole =
     behind.0
-    ∙ ap (λ l. l ++ payloadAfter read.result payload) put.0
-    ∙ ap (λ f. lineBytes frame ++ payloadAfter f payload) read.ensures in
+    ∙ ap (λ l. l ++ payload_after read.result payload) put.0
+    ∙ ap (λ f. line_bytes frame ++ payload_after f payload) read.ensures in
     (whole ∙ sym run, omega (arith, behind.1, put.1))
 
 pub read-run-spec : {M : Type 1} → statement M

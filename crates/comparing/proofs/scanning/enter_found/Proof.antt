@@ -2,7 +2,7 @@
 use mathlib.Core.Path.{sym, ◌∙◌, ap}
 use borrow.Author.Rules.{rules}
 use Rattle.comparing.specs.Table.{table_of}
-use Rattle.comparing.specs.Scanning.{enteredFound}
+use Rattle.comparing.specs.Scanning.{entered_found}
 use Rattle.comparing.proofs.scanning.enter_found.Statement.{statement}
 use Rattle.comparing.proofs.scanning.enter_found.Tie as tie
 
@@ -24,12 +24,12 @@ enum-told-3 c = search rules
 returns : tie.Need-returns
 returns c =
     let s = c.before.before.before.before in
-    (sym (ap (enteredFound s.args.input.now s.args.start.0 (table_of s.args.counts s.args.cells.now)) c.enum_told.given.1), s.requires.1.0)
+    (sym (ap (entered_found s.args.input.now s.args.start.0 (table_of s.args.counts s.args.cells.now)) c.enum_told.given.1), s.requires.1.0)
 
 returns-2 : tie.Need-returns-2
 returns-2 c =
     let s = c.before.before.before.before in
-    (sym (ap (enteredFound s.args.input.now s.args.start.0 (table_of s.args.counts s.args.cells.now)) c.enum-told2.given.1), s.requires.1.0)
+    (sym (ap (entered_found s.args.input.now s.args.start.0 (table_of s.args.counts s.args.cells.now)) c.enum-told2.given.1), s.requires.1.0)
 
 same_length : tie.Need-same-length
 same_length c = search rules
@@ -38,12 +38,12 @@ returns-3 : tie.Need-returns-3
 returns-3 c =
     let s = c.before.before.before.before.before.before.before.before.before in
     let e = c.before.before.enter.ensures in
-    (e.0 ∙ sym (ap (enteredFound s.args.input.now s.args.start.0 (table_of s.args.counts s.args.cells.now)) c.before.before.before.before.before.found.given.1), e.1)
+    (e.0 ∙ sym (ap (entered_found s.args.input.now s.args.start.0 (table_of s.args.counts s.args.cells.now)) c.before.before.before.before.before.found.given.1), e.1)
 
 returns-4 : tie.Need-returns-4
 returns-4 c =
     let s = c.before.before.before.before in
-    (sym (ap (enteredFound s.args.input.now s.args.start.0 (table_of s.args.counts s.args.cells.now)) c.enum-told3.given.1), s.requires.1.0)
+    (sym (ap (entered_found s.args.input.now s.args.start.0 (table_of s.args.counts s.args.cells.now)) c.enum-told3.given.1), s.requires.1.0)
 
 pub enter-found-spec : {M : Type 1} → statement M
 enter-found-spec =

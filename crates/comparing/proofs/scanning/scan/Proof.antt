@@ -6,7 +6,7 @@ use borrow.Author.Rules.{rules}
 use Rattle.recording.specs.Lines.{until-within}
 use Rattle.comparing.specs.Messages.{start_of}
 use Rattle.comparing.specs.Rows.{rows_of}
-use Rattle.comparing.specs.Table.{noNumbers, tabled}
+use Rattle.comparing.specs.Table.{no_numbers, tabled}
 use Rattle.comparing.specs.Scanning.{first-bad, first_good, first-long}
 use Rattle.comparing.proofs.scanning.scan.Statement.{statement}
 use Rattle.comparing.proofs.scanning.scan.Tie as tie
@@ -36,7 +36,7 @@ returns c =
     record {
       starts = sym bad.1;
       bads = sym (ap (λ b. b.bad) bad.0);
-      tables = sym (ap (λ b. tabled input (start_of input) noNumbers b.messages) bad.0);
+      tables = sym (ap (λ b. tabled input (start_of input) no_numbers b.messages) bad.0);
       counts = omega arith;
     }
 

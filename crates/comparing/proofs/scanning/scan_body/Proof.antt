@@ -7,10 +7,10 @@ use lib.ListN.{length, take, drop}
 use borrow.Author.Rules.{rules}
 use Rattle.recording.specs.Lines.{until-within}
 use Rattle.comparing.specs.declared.messages.Waiting.TheVariants.{Frame}
-use Rattle.comparing.specs.Messages.{lineFound, waitingAfter}
+use Rattle.comparing.specs.Messages.{line_found, waiting_after}
 use Rattle.comparing.specs.Rows.{Rising, rows_of}
-use Rattle.comparing.specs.Table.{noNumbers, table_of, tabled}
-use Rattle.comparing.specs.Scanning.{isBad, enteredFound, nextLine, bodyLeft, left-bad, left-next, left-none, next-after, found-rising}
+use Rattle.comparing.specs.Table.{no_numbers, table_of, tabled}
+use Rattle.comparing.specs.Scanning.{is_bad, entered_found, next_line, body_left, left-bad, left-next, left-none, next-after, found-rising}
 use Rattle.comparing.proofs.scanning.scan_body.Statement.{statement}
 use Rattle.comparing.proofs.scanning.scan_body.Tie as tie
 
@@ -20,8 +20,8 @@ invariant-loop input start from cells₀ at₀ line₀ waiting₀ counts₀ cell
     × (line ≤ at)
     × (counts.count ≤ 1024)
     × Rising 0 (rows_of counts.count cells)
-    × ((bodyLeft input waiting at line).bad ≡ (bodyLeft input Frame from 2).bad)
-    × (tabled input start.0 (table_of counts cells) (bodyLeft input waiting at line).messages ≡ tabled input start.0 noNumbers (bodyLeft input Frame from 2).messages)
+    × ((body_left input waiting at line).bad ≡ (body_left input Frame from 2).bad)
+    × (tabled input start.0 (table_of counts cells) (body_left input waiting at line).messages ≡ tabled input start.0 no_numbers (body_left input Frame from 2).messages)
 
 abbrev decreases-loop : tie.decreases-loop
 decreases-loop input start from cells₀ at₀ line₀ waiting₀ counts₀ cells at line waiting counts = length input - at
@@ -55,7 +55,7 @@ returns : tie.Need-returns invariant-loop decreases-loop
 returns c =
     let s = c.before.before.before.before.before.before.before.before.before in
     let l = c.before.before.before.before.before.before.loop in
-    let bad = sym (ap isBad c.before.before.read-line.ensures) ∙ sym c.before.is-bad.ensures ∙ c.if1.true in
+    let bad = sym (ap is_bad c.before.before.read-line.ensures) ∙ sym c.before.is-bad.ensures ∙ c.if1.true in
     let left = left-bad s.args.input.now s.args.start.0 (table_of l.counts l.cells) l.waiting l.at l.line c.before.before.before.before.line-end.result c.before.before.before.before.line-end.ensures c.before.before.before.before.before.loop-test.true bad in
     record { starts = refl; bads = left.0 ∙ l.invariant.4; tables = left.1 ∙ l.invariant.5; counts = l.invariant.2 }
 
@@ -88,23 +88,23 @@ loop-again c =
     let start = s.args.start.0 in
     let t = table_of l.counts l.cells in
     let end = c.before.before.before.before.before.before.before.before.before.before.line-end.result in
-    let f = lineFound l.waiting l.at l.line (take (end - l.at) (drop l.at input)) in
+    let f = line_found l.waiting l.at l.line (take (end - l.at) (drop l.at input)) in
     let read : c.before.before.before.before.before.before.before.before.read-line.result ≡ f = c.before.before.before.before.before.before.before.before.read-line.ensures in
-    let good : isBad f ≡ false = sym (ap isBad read) ∙ sym c.before.before.before.before.before.before.before.is-bad.ensures ∙ c.before.before.before.before.before.before.if1.false in
+    let good : is_bad f ≡ false = sym (ap is_bad read) ∙ sym c.before.before.before.before.before.before.before.is-bad.ensures ∙ c.before.before.before.before.before.before.if1.false in
     let next = left-next input start t l.waiting l.at l.line end c.before.before.before.before.before.before.before.before.before.before.line-end.ensures c.before.before.before.before.before.before.before.before.before.before.before.loop-test.true good in
     let on = next-after input l.at end c.before.before.before.before.before.before.before.before.before.before.before.loop-test.true (omega (arith, c.before.before.before.before.before.before.before.before.before.before.line-end.ensures)) in
-    let waits : c.before.wait-after.result ≡ waitingAfter f = c.before.wait-after.ensures ∙ ap waitingAfter read in
+    let waits : c.before.wait-after.result ≡ waiting_after f = c.before.wait-after.ensures ∙ ap waiting_after read in
     let place = c.next-line.ensures in
-    let entered = c.before.before.before.before.enter-found.ensures.0 ∙ ap (enteredFound input start t) read in
-    let left : bodyLeft input c.before.wait-after.result c.next-line.result (l.line + 1) ≡ bodyLeft input (waitingAfter f) (nextLine input end) (l.line + 1) =
-    ap (λ w. bodyLeft input w c.next-line.result (l.line + 1)) waits ∙ ap (λ n. bodyLeft input (waitingAfter f) n (l.line + 1)) place in (
+    let entered = c.before.before.before.before.enter-found.ensures.0 ∙ ap (entered_found input start t) read in
+    let left : body_left input c.before.wait-after.result c.next-line.result (l.line + 1) ≡ body_left input (waiting_after f) (next_line input end) (l.line + 1) =
+    ap (λ w. body_left input w c.next-line.result (l.line + 1)) waits ∙ ap (λ n. body_left input (waiting_after f) n (l.line + 1)) place in (
       search rules,
       omega (arith, on, place, l.invariant.1),
       c.before.before.before.before.enter-found.ensures.1,
       rw (ap (λ x. x.rows) entered) (found-rising input start t f l.invariant.3),
       ap (λ b. b.bad) left ∙ sym next.0 ∙ l.invariant.4,
       ap (λ b. tabled input start (table_of c.before.before.before.before.enter-found.result c.before.before.before.before.enter-found.new.1.1.1.0) b.messages) left
-          ∙ ap (λ x. tabled input start x (bodyLeft input (waitingAfter f) (nextLine input end) (l.line + 1)).messages) entered
+          ∙ ap (λ x. tabled input start x (body_left input (waiting_after f) (next_line input end) (l.line + 1)).messages) entered
           ∙ sym next.1 ∙ l.invariant.5,
     )
 

@@ -5,8 +5,8 @@ use borrow.Author.Rules.{rules}
 use mir.Syntax.{w32}
 use mir.ValLaws.{to_z-of_z}
 use Rattle.seq.specs.Distance.{by-small}
-use Rattle.comparing.specs.Ranks.{rankBy}
-use Rattle.comparing.specs.Table.{table_of, entered_at, enteredBy, entered}
+use Rattle.comparing.specs.Ranks.{rank_by}
+use Rattle.comparing.specs.Table.{table_of, entered_at, entered_by, entered}
 use Rattle.comparing.proofs.table.enter.Statement.{statement}
 use Rattle.comparing.proofs.table.enter.Tie as tie
 
@@ -42,7 +42,7 @@ returns c =
     let d = g.d.given.0.0 in
     let e = sym j.distance.ensures ∙ g.d.given.1 in
     let read = to_z-of_z w32 d (record { sfits = omega (arith, by-small a.m.number.0 a.start.0 d e) }) in
-    (c.before.before.enter-at.ensures.0 ∙ ap (λ q. entered_at a.input.now q a.m t) (k.rank.ensures ∙ ap rankBy read) ∙ sym (ap (λ x. enteredBy x a.input.now t a.m) e), c.before.before.enter-at.ensures.1)
+    (c.before.before.enter-at.ensures.0 ∙ ap (λ q. entered_at a.input.now q a.m t) (k.rank.ensures ∙ ap rank_by read) ∙ sym (ap (λ x. entered_by x a.input.now t a.m) e), c.before.before.enter-at.ensures.1)
 
 returns-2 : tie.Need-returns-2
 unfolding entered
@@ -52,7 +52,7 @@ returns-2 c =
     let a = s.args in
     let t = table_of a.before a.cells.now in
     let e = sym j.distance.ensures ∙ c.before.enum_told.given.1 in
-    (ap (λ far. record { rows = t.rows; far = far; many = t.many }) c.earliest.ensures ∙ sym (ap (λ x. enteredBy x a.input.now t a.m) e), s.requires.1.0)
+    (ap (λ far. record { rows = t.rows; far = far; many = t.many }) c.earliest.ensures ∙ sym (ap (λ x. entered_by x a.input.now t a.m) e), s.requires.1.0)
 
 pub enter_spec : {M : Type 1} → statement M
 enter_spec =

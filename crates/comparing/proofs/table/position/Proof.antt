@@ -1,13 +1,13 @@
 -- The place lies between the bounds, which come together.
 use Prim.Native.Nat.{◌+◌, ◌/◌, ◌-◌, ◌≤◌}
 use native.Mathlib.Omega.{arith}
-use Rattle.comparing.specs.Rows.{rows_of, positionIn, position-within}
+use Rattle.comparing.specs.Rows.{rows_of, position_in, position-within}
 use Rattle.comparing.specs.Cells.{rows-length, cells-after, cells-before}
 use Rattle.comparing.proofs.table.position.Statement.{statement}
 use Rattle.comparing.proofs.table.position.Tie as tie
 
 abbrev invariant-loop : tie.invariant-loop
-invariant-loop cells count rank low₀ high₀ low high = (low ≤ positionIn rank (rows_of count cells)) × (positionIn rank (rows_of count cells) ≤ high) × (high ≤ count)
+invariant-loop cells count rank low₀ high₀ low high = (low ≤ position_in rank (rows_of count cells)) × (position_in rank (rows_of count cells) ≤ high) × (high ≤ count)
 
 abbrev decreases-loop : tie.decreases-loop
 decreases-loop cells count rank low₀ high₀ low high = high - low

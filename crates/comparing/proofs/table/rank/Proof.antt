@@ -9,11 +9,11 @@ use lib.Signed.{mag, non_neg}
 use mir.Syntax.{w32, w64}
 use mir.Val.{to_z, of_z, Fits, SFits}
 use mir.ValLaws.{to_z-of_z}
-use Rattle.comparing.specs.Ranks.{rankBy, rank-by-lt}
+use Rattle.comparing.specs.Ranks.{rank_by, rank-by-lt}
 use Rattle.comparing.proofs.table.rank.Statement.{statement}
 use Rattle.comparing.proofs.table.rank.Tie as tie
 
-raised : (d : ℤ) → mag d < 2 ^ 31 → d +ℤ pos 2147483648 ≡ pos (rankBy d)
+raised : (d : ℤ) → mag d < 2 ^ 31 → d +ℤ pos 2147483648 ≡ pos (rank_by d)
 raised (pos n) h = ap pos (omega arith)
 raised (negsuc n) h = simp (le-ltb 2147483648 (suc n) (omega arith)) (ap pos (omega arith))
 
@@ -21,13 +21,13 @@ module _ (d : ℤ) (h : SFits w32 d) where
   wide : SFits w64 (to_z w32 (of_z w32 d))
   wide = rw (to_z-of_z w32 d h) (record { sfits = omega (arith, h.sfits) })
 
-  sum : to_z w64 (of_z w64 (to_z w32 (of_z w32 d))) +ℤ pos 2147483648 ≡ pos (rankBy d)
+  sum : to_z w64 (of_z w64 (to_z w32 (of_z w32 d))) +ℤ pos 2147483648 ≡ pos (rank_by d)
   sum = ap (λ z. z +ℤ pos 2147483648) (to_z-of_z w64 (to_z w32 (of_z w32 d)) wide ∙ to_z-of_z w32 d h) ∙ raised d h.sfits
 
   sum_fits : SFits w64 (to_z w64 (of_z w64 (to_z w32 (of_z w32 d))) +ℤ pos 2147483648)
   sum_fits = subst⁻¹ (SFits w64) sum (record { sfits = omega (arith, rank-by-lt d h.sfits) })
 
-  read : to_z w64 (of_z w64 (to_z w64 (of_z w64 (to_z w32 (of_z w32 d))) +ℤ pos 2147483648)) ≡ pos (rankBy d)
+  read : to_z w64 (of_z w64 (to_z w64 (of_z w64 (to_z w32 (of_z w32 d))) +ℤ pos 2147483648)) ≡ pos (rank_by d)
   read = to_z-of_z w64 _ sum_fits ∙ sum
 
 cast-result : tie.Need-overflow-cast-result

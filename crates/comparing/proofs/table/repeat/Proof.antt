@@ -2,7 +2,7 @@
 use mathlib.Core.Path.{sym, ◌∙◌, ap}
 use native.Mathlib.Omega.{arith}
 use borrow.Author.Rules.{rules}
-use Rattle.comparing.specs.Runs.{isEqual}
+use Rattle.comparing.specs.Runs.{is_equal}
 use Rattle.comparing.specs.Rows.{rows_of}
 use Rattle.comparing.specs.Cells.{rows-marked}
 use Rattle.comparing.specs.Table.{repeated-equal, repeated-other}
@@ -19,7 +19,7 @@ returns : tie.Need-returns
 returns c =
     let s = c.before.before.before.before.before in
     let a = s.args in
-    let same = sym (ap isEqual c.before.before.compare-runs.ensures) ∙ sym c.before.is-equal.ensures ∙ c.if1.true in
+    let same = sym (ap is_equal c.before.before.compare-runs.ensures) ∙ sym c.before.is-equal.ensures ∙ c.if1.true in
     repeated-equal a.input.now a.first a.at a.i (rows_of a.count a.cells.now) same
 
 mul-cells : tie.Need-overflow-mul-cells
@@ -41,7 +41,7 @@ returns-2 : tie.Need-returns-2
 returns-2 c =
     let s = c.before.before.before.before.before in
     let a = s.args in
-    let other = sym (ap isEqual c.before.before.compare-runs.ensures) ∙ sym c.before.is-equal.ensures ∙ c.if1.false in
+    let other = sym (ap is_equal c.before.before.compare-runs.ensures) ∙ sym c.before.is-equal.ensures ∙ c.if1.false in
     rows-marked a.count a.i a.cells.now (omega (arith, s.requires.0, s.requires.1.0)) s.requires.1.1
     ∙ repeated-other a.input.now a.first a.at a.i (rows_of a.count a.cells.now) other
 

@@ -6,12 +6,12 @@ use native.Mathlib.Omega.{arith}
 use lib.ListN.{length, take, drop}
 use borrow.Author.Rules.{rules}
 use borrow.Author.Tests.{eq-eqb, ne_eqb}
-use Rattle.comparing.specs.Writing.{kindsIn, kinds-past, kinds-next}
+use Rattle.comparing.specs.Writing.{kinds_in, kinds-past, kinds-next}
 use Rattle.comparing.proofs.writing.count_kind.Statement.{statement}
 use Rattle.comparing.proofs.writing.count_kind.Tie as tie
 
 abbrev invariant-loop : tie.invariant-loop
-invariant-loop list n kind count₀ i₀ count i = (i ≤ length list) × (count ≤ i) × (count + kindsIn kind (drop i (take n list)) ≡ kindsIn kind (take n list))
+invariant-loop list n kind count₀ i₀ count i = (i ≤ length list) × (count ≤ i) × (count + kinds_in kind (drop i (take n list)) ≡ kinds_in kind (take n list))
 
 abbrev decreases-loop : tie.decreases-loop
 decreases-loop list n kind count₀ i₀ count i = length list - i

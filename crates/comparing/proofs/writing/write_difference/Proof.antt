@@ -2,7 +2,7 @@
 use borrow.Author.Rules.{rules}
 use native.Mathlib.Omega.{arith}
 use Rattle.text.specs.Put.{puts_then, puts-all}
-use Rattle.comparing.specs.Writing.{lineText, line-short}
+use Rattle.comparing.specs.Writing.{line_text, line-short}
 use Rattle.comparing.proofs.writing.write_difference.Statement.{statement}
 use Rattle.comparing.proofs.writing.write_difference.Tie as tie
 
@@ -19,7 +19,7 @@ put-what-requires : tie.Need-put-what-requires
 put-what-requires c κs = search rules
 
 returns : tie.Need-returns
-unfolding lineText
+unfolding line_text
 returns c =
     let p = c.before.before in
     let d = p.before.before in

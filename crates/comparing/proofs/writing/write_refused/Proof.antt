@@ -2,7 +2,7 @@
 use borrow.Author.Rules.{rules}
 use native.Mathlib.Omega.{arith}
 use Rattle.text.specs.Put.{put_one, puts_then, puts-all}
-use Rattle.comparing.specs.Writing.{refusedText, refused-short}
+use Rattle.comparing.specs.Writing.{refused_text, refused-short}
 use Rattle.comparing.proofs.writing.write_refused.Statement.{statement}
 use Rattle.comparing.proofs.writing.write_refused.Tie as tie
 
@@ -31,7 +31,7 @@ put-count-requires : tie.Need-put-count-requires
 put-count-requires c κs = search rules
 
 returns : tie.Need-returns
-unfolding refusedText
+unfolding refused_text
 returns c =
     let s = c.before.before.before in
     let d = s.before.before in

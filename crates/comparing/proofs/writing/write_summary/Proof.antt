@@ -4,7 +4,7 @@ use native.Mathlib.Omega.{arith}
 use lib.ListN.{length, take, length-take}
 use borrow.Author.Tests.{ne_eqb}
 use Rattle.text.specs.Put.{put_one, puts_then, puts-all}
-use Rattle.comparing.specs.Writing.{summaryText, equal-short, counts-short}
+use Rattle.comparing.specs.Writing.{summary_text, equal-short, counts-short}
 use Rattle.comparing.proofs.writing.write_summary.Statement.{statement}
 use Rattle.comparing.proofs.writing.write_summary.Tie as tie
 
@@ -21,7 +21,7 @@ put-count-requires : tie.Need-put-count-requires
 put-count-requires c κs = search rules
 
 returns : tie.Need-returns
-unfolding summaryText
+unfolding summary_text
 returns c =
     let p = c.before.before.before in
     let s = p.before.before.before in
@@ -35,7 +35,7 @@ put-kinds-requires : tie.Need-put-kinds-requires
 put-kinds-requires c κs = search rules
 
 returns-2 : tie.Need-returns-2
-unfolding summaryText
+unfolding summary_text
 returns-2 c =
     let p = c.before.before.before in
     let s = p.before.before.before in

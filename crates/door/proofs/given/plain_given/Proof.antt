@@ -1,27 +1,27 @@
 -- By the kind.
 use borrow.Author.Tests.{eq-eqb, ne_eqb}
-use Rattle.door.specs.Given.{plainGiven}
+use Rattle.door.specs.Given.{plain_given}
 use Rattle.door.proofs.given.plain_given.Statement.{statement}
 use Rattle.door.proofs.given.plain_given.Tie as tie
 
 returns : tie.Need-returns
-unfolding plainGiven
+unfolding plain_given
 returns c = simp (eq-eqb _ _ c.if1.true)
 
 returns-2 : tie.Need-returns-2
-unfolding plainGiven
+unfolding plain_given
 returns-2 c = simp (ne_eqb _ _ c.before.if1.false, eq-eqb _ _ c.if2.true)
 
 returns-3 : tie.Need-returns-3
-unfolding plainGiven
+unfolding plain_given
 returns-3 c = simp (ne_eqb _ _ c.before.before.if1.false, ne_eqb _ _ c.before.if2.false, eq-eqb _ _ c.if3.true)
 
 returns-4 : tie.Need-returns-4
-unfolding plainGiven
+unfolding plain_given
 returns-4 c = simp (ne_eqb _ _ c.before.before.before.if1.false, ne_eqb _ _ c.before.before.if2.false, ne_eqb _ _ c.before.if3.false, eq-eqb _ _ c.if4.true)
 
 returns-5 : tie.Need-returns-5
-unfolding plainGiven
+unfolding plain_given
 returns-5 c = simp (ne_eqb _ _ c.before.before.before.if1.false, ne_eqb _ _ c.before.before.if2.false, ne_eqb _ _ c.before.if3.false, ne_eqb _ _ c.if4.false)
 
 pub plain-given-spec : {M : Type 1} → statement M

@@ -1,12 +1,12 @@
 -- Words of another length say a half that is all 0.
 use borrow.Author.Tests.{ne_eqb}
-use Rattle.words.specs.Meaning.{state_of, decoded, rxOf}
+use Rattle.words.specs.Meaning.{state_of, decoded, rx_of}
 use borrow.Author.Rules.{rules}
 use Rattle.door.proofs.given.rx_said.Statement.{statement}
 use Rattle.door.proofs.given.rx_said.Tie as tie
 
 returns : tie.Need-returns
-unfolding state_of decoded rxOf
+unfolding state_of decoded rx_of
 returns c = simp (ne_eqb _ _ c.if1.true)
 
 rx-of-requires : tie.Need-rx-of-requires

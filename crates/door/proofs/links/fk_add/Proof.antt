@@ -2,7 +2,7 @@
 use borrow.Author.Tests.{not-true, not-false}
 use mathlib.Core.Path.{refl, sym, ap, ◌∙◌}
 use Rattle.door.specs.Doors.{ready}
-use Rattle.engine.specs.Links.{addOf, addVerdict, addTold}
+use Rattle.engine.specs.Links.{add_of, add_verdict, add_told}
 use lib.Seq.{sets}
 use borrow.Author.Rules.{rules}
 use Rattle.door.proofs.links.fk_add.Statement.{statement}
@@ -15,7 +15,7 @@ same_length : tie.Need-same-length
 same_length c = search rules
 
 returns : tie.Need-returns
-unfolding addOf addVerdict
+unfolding add_of add_verdict
 returns c = simp (sym c.before.is-sound.ensures ∙ not-true c.before.is-sound.result c.if1.true) (refl, (refl, (refl, λ ne. refl)))
 
 max-ping-given-requires : tie.Need-max-ping-given-requires
@@ -34,7 +34,7 @@ returns-2 : tie.Need-returns-2
 returns-2 c =
     let e = rw c.before.before.before.before.before.before.max-ping-given.ensures at c.before.before.before.before.add.ensures in
     let t = c.tell-added.ensures in
-    (t.0 ∙ ap (λ x. (addTold x).number) e.0, (e.1.0, (t.1 ∙ ap (λ x. sets c.before.before.before.before.before.before.before.before.before.before.before.args.values.now 0 (addTold x).values) e.0, λ ne. e.1.1 (λ z. ne (t.0 ∙ z)))))
+    (t.0 ∙ ap (λ x. (add_told x).number) e.0, (e.1.0, (t.1 ∙ ap (λ x. sets c.before.before.before.before.before.before.before.before.before.before.before.args.values.now 0 (add_told x).values) e.0, λ ne. e.1.1 (λ z. ne (t.0 ∙ z)))))
 
 pub fk-add-spec : {M : Type 1} → statement M
 fk-add-spec =

@@ -3,8 +3,8 @@ use borrow.Author.Tests.{not-true, not-false}
 use mathlib.Core.Path.{refl, sym, ap, ◌∙◌}
 use Rattle.door.specs.Doors.{ready}
 use Rattle.engine.specs.Links.{mark_of}
-use Rattle.engine.specs.Gates.{slotVerdict}
-use Rattle.engine.specs.Answer.{outcomeTold}
+use Rattle.engine.specs.Gates.{slot_verdict}
+use Rattle.engine.specs.Answer.{outcome_told}
 use borrow.Author.Rules.{rules}
 use Rattle.door.proofs.links.fk_mark.Statement.{statement}
 use Rattle.door.proofs.links.fk_mark.Tie as tie
@@ -16,7 +16,7 @@ same_length : tie.Need-same-length
 same_length c = search rules
 
 returns : tie.Need-returns
-unfolding mark_of slotVerdict
+unfolding mark_of slot_verdict
 returns c = simp (sym c.before.is-sound.ensures ∙ not-true c.before.is-sound.result c.if1.true) (refl, (refl, λ ne. refl))
 
 mark-requires : tie.Need-mark-requires
@@ -32,7 +32,7 @@ returns-2 : tie.Need-returns-2
 returns-2 c =
     let e = c.before.before.before.mark.ensures in
     let t = c.tell.ensures in
-    (t ∙ ap (λ x. (outcomeTold x).number) e.0, (e.1.0, λ ne. e.1.1 (λ z. ne (t ∙ z))))
+    (t ∙ ap (λ x. (outcome_told x).number) e.0, (e.1.0, λ ne. e.1.1 (λ z. ne (t ∙ z))))
 
 pub fk-mark-spec : {M : Type 1} → statement M
 fk-mark-spec =

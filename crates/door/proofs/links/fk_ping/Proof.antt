@@ -2,9 +2,9 @@
 use borrow.Author.Tests.{not-true, not-false}
 use mathlib.Core.Path.{refl, sym, ap, ◌∙◌}
 use Rattle.door.specs.Doors.{ready}
-use Rattle.engine.specs.Links.{pingOf}
-use Rattle.engine.specs.Gates.{timedVerdict}
-use Rattle.engine.specs.Answer.{outcomeTold}
+use Rattle.engine.specs.Links.{ping_of}
+use Rattle.engine.specs.Gates.{timed_verdict}
+use Rattle.engine.specs.Answer.{outcome_told}
 use borrow.Author.Rules.{rules}
 use Rattle.door.proofs.links.fk_ping.Statement.{statement}
 use Rattle.door.proofs.links.fk_ping.Tie as tie
@@ -16,7 +16,7 @@ same_length : tie.Need-same-length
 same_length c = search rules
 
 returns : tie.Need-returns
-unfolding pingOf timedVerdict
+unfolding ping_of timed_verdict
 returns c = simp (sym c.before.is-sound.ensures ∙ not-true c.before.is-sound.result c.if1.true) (refl, (refl, λ ne. refl))
 
 ping-requires : tie.Need-ping-requires
@@ -32,7 +32,7 @@ returns-2 : tie.Need-returns-2
 returns-2 c =
     let e = c.before.before.before.ping.ensures in
     let t = c.tell.ensures in
-    (t ∙ ap (λ x. (outcomeTold x).number) e.0, (e.1.0, λ ne. e.1.1 (λ z. ne (t ∙ z))))
+    (t ∙ ap (λ x. (outcome_told x).number) e.0, (e.1.0, λ ne. e.1.1 (λ z. ne (t ∙ z))))
 
 pub fk-ping-spec : {M : Type 1} → statement M
 fk-ping-spec =

@@ -1,7 +1,7 @@
 -- By the message that is named.
 use mathlib.Core.Path.{refl, sym, ap, ◌∙◌}
 use lib.Seq.{sets}
-use Rattle.msg.specs.Writing.{writtenTold}
+use Rattle.msg.specs.Writing.{written_told}
 use borrow.Author.Rules.{rules}
 use Rattle.door.proofs.messages.fk_write.Statement.{statement}
 use Rattle.door.proofs.messages.fk_write.Tie as tie
@@ -32,7 +32,7 @@ returns-2 c =
     let w = c.before.before.before.before.write.ensures in
     let t = c.tell-written.ensures in
     simp (sym c.before.before.before.before.before.before.before.before.before.link-given.ensures ∙ c.before.before.before.before.before.before.before.asked.given.1)
-    (t.0 ∙ ap (λ x. (writtenTold x).number) w.0, (w.1.1, t.1 ∙ ap (λ x. sets c.before.before.before.before.before.before.before.before.before.before.before.args.values.now 0 (writtenTold x).values) w.0))
+    (t.0 ∙ ap (λ x. (written_told x).number) w.0, (w.1.1, t.1 ∙ ap (λ x. sets c.before.before.before.before.before.before.before.before.before.before.before.args.values.now 0 (written_told x).values) w.0))
 
 pub fk-write-spec : {M : Type 1} → statement M
 fk-write-spec =

@@ -1,15 +1,15 @@
 -- The number picks its row of the table; past the rows it names none.
 use mathlib.Core.Path.{◌≡◌, refl, ◌∙◌}
 use Prim.Native.Nat.{ℕ, zero, suc}
-use Rattle.door.specs.Messages.{reasonGiven}
+use Rattle.door.specs.Messages.{reason_given}
 use Rattle.door.specs.declared.messages.LinkGiven.TheVariants.{Nothing}
 use borrow.Author.Rules.{rules}
 use Rattle.door.proofs.messages.reason_given.Statement.{statement}
 use Rattle.door.proofs.messages.reason_given.Tie as tie
 
 -- a number that is none of the four names none
-other : (n : ℕ) → (n ≡ 1 → ⊥) → (n ≡ 2 → ⊥) → (n ≡ 3 → ⊥) → (n ≡ 4 → ⊥) → Nothing ≡ reasonGiven n
-unfolding reasonGiven
+other : (n : ℕ) → (n ≡ 1 → ⊥) → (n ≡ 2 → ⊥) → (n ≡ 3 → ⊥) → (n ≡ 4 → ⊥) → Nothing ≡ reason_given n
+unfolding reason_given
 other zero a b c d = refl
 other (suc zero) a b c d = absurd (a refl)
 other (suc (suc zero)) a b c d = absurd (b refl)
@@ -30,19 +30,19 @@ refused-for-requires-4 : tie.Need-refused-for-requires-4
 refused-for-requires-4 c κs = search rules
 
 returns : tie.Need-returns
-unfolding reasonGiven
+unfolding reason_given
 returns c = c.refused-for.ensures ∙ simp c.before.match.keys1
 
 returns-2 : tie.Need-returns-2
-unfolding reasonGiven
+unfolding reason_given
 returns-2 c = c.refused-for2.ensures ∙ simp c.before.match.keys2
 
 returns-3 : tie.Need-returns-3
-unfolding reasonGiven
+unfolding reason_given
 returns-3 c = c.refused-for3.ensures ∙ simp c.before.match.keys3
 
 returns-4 : tie.Need-returns-4
-unfolding reasonGiven
+unfolding reason_given
 returns-4 c = c.refused-for4.ensures ∙ simp c.before.match.keys4
 
 returns-5 : tie.Need-returns-5

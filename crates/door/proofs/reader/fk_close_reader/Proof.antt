@@ -2,8 +2,8 @@
 use borrow.Author.Tests.{not-true, not-false}
 use mathlib.Core.Path.{refl, sym, ap, ◌∙◌}
 use Rattle.door.specs.Doors.{ready}
-use Rattle.engine.specs.Closing.{closeOf}
-use Rattle.engine.specs.Answer.{outcomeTold}
+use Rattle.engine.specs.Closing.{close_of}
+use Rattle.engine.specs.Answer.{outcome_told}
 use borrow.Author.Rules.{rules}
 use Rattle.door.proofs.reader.fk_close_reader.Statement.{statement}
 use Rattle.door.proofs.reader.fk_close_reader.Tie as tie
@@ -15,7 +15,7 @@ same_length : tie.Need-same-length
 same_length c = search rules
 
 returns : tie.Need-returns
-unfolding closeOf
+unfolding close_of
 returns c = simp (sym c.before.is-sound.ensures ∙ not-true c.before.is-sound.result c.if1.true) (refl, (refl, λ ne. refl))
 
 close-reader-requires : tie.Need-close-reader-requires
@@ -31,7 +31,7 @@ returns-2 : tie.Need-returns-2
 returns-2 c =
     let e = c.before.before.before.close-reader.ensures in
     let t = c.tell.ensures in
-    (t ∙ ap (λ x. (outcomeTold x).number) e.0, (e.1.0, λ ne. e.1.1 (λ z. ne (t ∙ z))))
+    (t ∙ ap (λ x. (outcome_told x).number) e.0, (e.1.0, λ ne. e.1.1 (λ z. ne (t ∙ z))))
 
 pub fk-close-reader-spec : {M : Type 1} → statement M
 fk-close-reader-spec =

@@ -3,7 +3,7 @@ use mathlib.Core.Path.{refl, sym, ap, ◌∙◌}
 use borrow.Author.Tests.{not-true, not-false}
 use Rattle.door.specs.Doors.{ready_with}
 use lib.Seq.{sets}
-use Rattle.engine.specs.HandingOut.{showingOf, showVerdict, handOutBy, handOutTold}
+use Rattle.engine.specs.HandingOut.{showing_of, show_verdict, hand_out_by, hand_out_told}
 use borrow.Author.Rules.{rules}
 use Rattle.door.proofs.receiving.fk_showing.Statement.{statement}
 use Rattle.door.proofs.receiving.fk_showing.Tie as tie
@@ -15,14 +15,14 @@ lengths-ok-requires : tie.Need-lengths-ok-requires
 lengths-ok-requires c κs = search rules
 
 returns : tie.Need-returns
-unfolding showingOf showVerdict handOutBy
+unfolding showing_of show_verdict hand_out_by
 returns c = let bad = rw c.before.before.rx-said.ensures at (sym c.before.lengths-ok.ensures ∙ not-true c.before.lengths-ok.result c.if1.true) in simp bad (refl, refl)
 
 is-sound-with-requires : tie.Need-is-sound-with-requires
 is-sound-with-requires c κs = search rules
 
 returns-2 : tie.Need-returns-2
-unfolding showingOf showVerdict handOutBy
+unfolding showing_of show_verdict hand_out_by
 returns-2 c = let long = rw c.before.before.before.before.rx-said.ensures at (sym c.before.before.before.lengths-ok.ensures ∙ not-false c.before.before.before.lengths-ok.result c.before.before.if1.false) in simp (long, (sym c.before.is-sound-with.ensures ∙ not-true c.before.is-sound-with.result c.if2.true)) (refl, refl)
 
 showing-requires : tie.Need-showing-requires
@@ -35,7 +35,7 @@ returns-3 : tie.Need-returns-3
 returns-3 c =
     let e = c.before.before.showing.ensures in
     let t = c.tell-message.ensures in
-    (t.0 ∙ ap (λ x. (handOutTold x).number) e, t.1 ∙ ap (λ x. sets c.before.before.before.before.before.before.before.before.before.before.before.args.values.now 0 (handOutTold x).values) e)
+    (t.0 ∙ ap (λ x. (hand_out_told x).number) e, t.1 ∙ ap (λ x. sets c.before.before.before.before.before.before.before.before.before.before.before.args.values.now 0 (hand_out_told x).values) e)
 
 pub fk-showing-spec : {M : Type 1} → statement M
 fk-showing-spec =

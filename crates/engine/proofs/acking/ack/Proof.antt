@@ -1,6 +1,6 @@
 -- By the verdict: the row, the table and the sweep, each by its own promise.
 use Rattle.std.proofs.Common.{◌≡◌, sym, ap, ◌∙◌, rules}
-use Rattle.engine.specs.Acking.{ackedState, ackOf, ack-passed, acked-count}
+use Rattle.engine.specs.Acking.{acked_state, ack_of, ack-passed, acked-count}
 use Rattle.engine.proofs.acking.ack.Statement.{statement}
 use Rattle.engine.proofs.acking.ack.Tie as tie
 
@@ -30,11 +30,11 @@ sweep-requires c κs =
     rw count (ack-passed _ _ _ _ passed).timed.at.fine.packet-count
 
 returns : tie.Need-returns
-unfolding ackOf
+unfolding ack_of
 returns c = let e = sym c.before.before.before.ack-verdict.ensures ∙ c.before.verdict.given.1 in (simp e, simp e)
 
 returns-2 : tie.Need-returns-2
-unfolding ackOf ackedState
+unfolding ack_of acked_state
 returns-2 c = let e = sym c.before.before.before.before.before.before.ack-verdict.ensures ∙ c.before.before.before.before.enum_told.given.1 in (simp (e, c.sweep.ensures, c.before.with_row.ensures, c.before.before.acked-tx.ensures, c.before.before.before.acked-row.ensures), simp e)
 
 pub ack-spec : {M : Type 1} → statement M

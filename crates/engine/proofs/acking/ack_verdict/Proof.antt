@@ -1,6 +1,6 @@
 -- The gate of its own, after those of every call on a slot at a time.
 use Rattle.std.proofs.Common.{rules}
-use Rattle.engine.specs.Acking.{ackVerdict}
+use Rattle.engine.specs.Acking.{ack_verdict}
 use Rattle.engine.proofs.acking.ack_verdict.Statement.{statement}
 use Rattle.engine.proofs.acking.ack_verdict.Tie as tie
 
@@ -14,7 +14,7 @@ timed-verdict-requires : tie.Need-timed-verdict-requires
 timed-verdict-requires c κs = search rules
 
 returns : tie.Need-returns
-unfolding ackVerdict
+unfolding ack_verdict
 returns c = simp (c.timed-verdict.ensures, c.before.gate.ensures, c.before.before.is-near.ensures)
 
 pub ack-verdict-spec : {M : Type 1} → statement M

@@ -1,6 +1,6 @@
 -- The mark's step, and then the packet's, where there is one.
 use Rattle.engine.proofs.Shapes.{shaped}
-use Rattle.engine.specs.Acking.{ackedRow}
+use Rattle.engine.specs.Acking.{acked_row}
 use Rattle.engine.specs.InTable.{looked-cell}
 use Rattle.std.proofs.Common.{sym, ◌∙◌, rules}
 use borrow.Author.Tests.{not-true, not-false}
@@ -17,7 +17,7 @@ in-table-requires : tie.Need-in-table-requires
 in-table-requires c κs = search rules
 
 returns : tie.Need-returns
-unfolding ackedRow
+unfolding acked_row
 returns c = simp (sym c.before.in-table.ensures ∙ not-true c.before.in-table.result c.if1.true, c.before.before.before.mark-acked.ensures, c.before.before.before.before.row-of.ensures)
 
 packet-of-requires : tie.Need-packet-of-requires
@@ -27,7 +27,7 @@ settle-row-requires : tie.Need-settle-row-requires
 settle-row-requires c κs = search rules
 
 returns-2 : tie.Need-returns-2
-unfolding ackedRow
+unfolding acked_row
 returns-2 c =
     let start = c.before.before.before.before.before.before.before in
     let a = start.args in

@@ -1,5 +1,5 @@
 -- By whether the table holds the number; in a sound state what waits to be consumed stays small.
-use Rattle.engine.specs.Acking.{ackedTx, ack-fits}
+use Rattle.engine.specs.Acking.{acked_tx, ack-fits}
 use Rattle.engine.specs.InTable.{looked-cell}
 use Rattle.std.proofs.Common.{sym, ◌∙◌, rules}
 use borrow.Author.Tests.{not-true, not-false}
@@ -11,7 +11,7 @@ in-table-requires : tie.Need-in-table-requires
 in-table-requires c κs = search rules
 
 returns : tie.Need-returns
-unfolding ackedTx
+unfolding acked_tx
 returns c = simp (sym c.before.in-table.ensures ∙ not-true c.before.in-table.result c.if1.true)
 
 packet-of-requires : tie.Need-packet-of-requires
@@ -28,7 +28,7 @@ settle-tx-requires c κs =
     (rw cell (ack-fits a.s a.seq.0 typed start.requires u32 here), start.requires.packet-count)
 
 returns-2 : tie.Need-returns-2
-unfolding ackedTx
+unfolding acked_tx
 returns-2 c =
     let start = c.before.before.before.before.before in
     let a = start.args in

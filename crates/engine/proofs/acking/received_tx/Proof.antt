@@ -1,8 +1,8 @@
 -- The packet, and the two totals.
 use Rattle.std.proofs.Common.{rules}
 use Rattle.engine.proofs.acking.received_tx.Statement.{statement}
-use Rattle.engine.specs.Acking.{receivedTx}
-use Rattle.engine.specs.Table.{withPacket}
+use Rattle.engine.specs.Acking.{received_tx}
+use Rattle.engine.specs.Table.{with_packet}
 use Rattle.engine.proofs.acking.received_tx.Tie as tie
 
 with-status-requires : tie.Need-with-status-requires
@@ -18,7 +18,7 @@ add-out : tie.Need-overflow-add-out
 add-out c = search rules
 
 returns : tie.Need-returns
-unfolding receivedTx withPacket
+unfolding received_tx with_packet
 returns c = simp (c.before.less.ensures, c.before.before.with-packet.ensures, c.before.before.before.with-status.ensures)
 
 pub received-tx-spec : {M : Type 1} → statement M

@@ -1,5 +1,5 @@
 -- The sweep's three findings take their places.
-use Rattle.engine.specs.Acking.{sweptTx}
+use Rattle.engine.specs.Acking.{swept_tx}
 use Rattle.engine.proofs.acking.sweep.Statement.{statement}
 use Rattle.engine.proofs.acking.sweep.Tie as tie
 
@@ -7,7 +7,7 @@ swept-requires : tie.Need-swept-requires
 swept-requires c κs = c.requires
 
 returns : tie.Need-returns
-unfolding sweptTx
+unfolding swept_tx
 returns c = simp c.before.swept.ensures
 
 pub sweep-spec : {M : Type 1} → statement M

@@ -2,14 +2,14 @@
 use Rattle.std.proofs.Common.{◌≡◌, ◌<◌, sym, ◌∙◌, arith}
 use borrow.Author.Tests.{not-true, not-false}
 use Rattle.engine.specs.Ring.{window, next-cell-lt}
-use Rattle.engine.specs.Packets.{noPacket}
-use Rattle.engine.specs.Acking.{sweepFrom, sweepOf, sweep-on, sweep-stop, sweep-end}
+use Rattle.engine.specs.Packets.{no_packet}
+use Rattle.engine.specs.Acking.{sweep_from, sweep_of, sweep-on, sweep-stop, sweep-end}
 use Rattle.engine.specs.Sizes.{PACKETS}
 use Rattle.engine.proofs.acking.swept.Statement.{statement}
 use Rattle.engine.proofs.acking.swept.Tie as tie
 
 abbrev invariant-loop : tie.invariant-loop
-invariant-loop tx left₀ last₀ held₀ at₀ left last held at = (at < PACKETS) × (sweepFrom (window PACKETS noPacket tx.txed_packets at left) last held ≡ sweepOf tx)
+invariant-loop tx left₀ last₀ held₀ at₀ left last held at = (at < PACKETS) × (sweep_from (window PACKETS no_packet tx.txed_packets at left) last held ≡ sweep_of tx)
 
 abbrev decreases-loop : tie.decreases-loop
 decreases-loop tx left₀ last₀ held₀ at₀ left last held at = left
@@ -18,7 +18,7 @@ first-cell-requires : tie.Need-first-cell-requires invariant-loop decreases-loop
 first-cell-requires c κs = c.before.requires
 
 loop-holds : tie.Need-loop-init invariant-loop decreases-loop
-unfolding sweepOf
+unfolding sweep_of
 loop-holds c = (c.first_Cell.ensures.1, simp c.first_Cell.ensures.0)
 
 mul-p : tie.Need-overflow-mul-p invariant-loop decreases-loop

@@ -1,6 +1,6 @@
 -- Before the next expected, or held.
 use Rattle.std.proofs.Common.{sym, ◌∙◌, rules}
-use Rattle.engine.specs.Cells.{isRepeat}
+use Rattle.engine.specs.Cells.{is_repeat}
 use Rattle.engine.proofs.cells.is_repeat.Statement.{statement}
 use Rattle.engine.proofs.cells.is_repeat.Tie as tie
 
@@ -8,7 +8,7 @@ is-before-requires : tie.Need-is-before-requires
 is-before-requires c κs = search rules
 
 returns : tie.Need-returns
-unfolding isRepeat
+unfolding is_repeat
 returns c = simp (sym c.before.is-before.ensures ∙ c.if1.true)
 
 cell-of-requires : tie.Need-cell-of-requires
@@ -18,7 +18,7 @@ is-full-requires : tie.Need-is-full-requires
 is-full-requires c κs = search rules
 
 returns-2 : tie.Need-returns-2
-unfolding isRepeat
+unfolding is_repeat
 returns-2 c =
     simp (sym c.before.before.before.is-before.ensures ∙ c.before.before.if1.false, c.is-full.ensures, c.before.cell-of.ensures)
 

@@ -1,6 +1,6 @@
 -- A cell in use needs nothing; else the cells from the end up to the number are emptied.
 use Rattle.std.proofs.Common.{sym, ◌∙◌, rules}
-use Rattle.engine.specs.Cells.{endAfter, openedRecords}
+use Rattle.engine.specs.Cells.{end_after, opened_records}
 use Rattle.engine.proofs.cells.open_cells.Statement.{statement}
 use Rattle.engine.proofs.cells.open_cells.Tie as tie
 
@@ -8,7 +8,7 @@ is-used-requires : tie.Need-is-used-requires
 is-used-requires c κs = search rules
 
 returns : tie.Need-returns
-unfolding endAfter openedRecords
+unfolding end_after opened_records
 returns c = let used = sym c.before.is-used.ensures ∙ c.if1.true in (simp used, simp used)
 
 past-requires : tie.Need-past-requires
@@ -26,7 +26,7 @@ same_length : tie.Need-same-length
 same_length c = search rules
 
 returns-2 : tie.Need-returns-2
-unfolding endAfter openedRecords
+unfolding end_after opened_records
 returns-2 c =
     let new = sym c.before.before.before.before.before.before.before.is-used.ensures ∙ c.before.before.before.before.before.before.if1.false in
     (simp (new, c.add.ensures), simp (new, c.before.before.before.empty-cells.ensures, c.before.before.before.before.past.ensures))

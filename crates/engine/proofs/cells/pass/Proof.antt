@@ -1,6 +1,6 @@
 -- The record, the oldest and the next expected number, each by its own promise.
 use Rattle.std.proofs.Common.{arith, rules}
-use Rattle.engine.specs.Cells.{passedOver}
+use Rattle.engine.specs.Cells.{passed_over}
 use Rattle.engine.specs.CellTally.{lent-cell}
 use Rattle.engine.proofs.cells.pass.Statement.{statement}
 use Rattle.engine.proofs.cells.pass.Tie as tie
@@ -39,7 +39,7 @@ same_length : tie.Need-same-length
 same_length c = search rules
 
 returns : tie.Need-returns
-unfolding passedOver
+unfolding passed_over
 returns c = (
   simp (c.oldest-after.ensures, c.before.is-full.ensures, c.before.before.add.ensures, c.before.before.before.held_of.ensures, c.before.before.before.before.kept_record.ensures, c.before.before.before.before.before.before.Cell-at.ensures),
   simp (c.before.before.before.before.kept_record.ensures, c.before.before.before.before.before.before.Cell-at.ensures),

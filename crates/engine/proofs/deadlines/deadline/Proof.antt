@@ -1,7 +1,7 @@
 -- Neither the time that a packet was definitely sent at nor the wait is above 2^56.
 use Rattle.std.proofs.Common.{arith, rules}
 use Rattle.link.specs.Timeout.{duration-between, bounded}
-use Rattle.engine.specs.Deadlines.{deadlineOf}
+use Rattle.engine.specs.Deadlines.{deadline_of}
 use Rattle.engine.proofs.deadlines.deadline.Statement.{statement}
 use Rattle.engine.proofs.deadlines.deadline.Tie as tie
 
@@ -23,7 +23,7 @@ add-result c =
     record { fits = omega (arith, c.definitely-sent.ensures, c.before.duration.ensures, pre.0, wait.1, bounds.within) }
 
 returns : tie.Need-returns
-unfolding deadlineOf
+unfolding deadline_of
 returns c = simp (c.definitely-sent.ensures, c.before.duration.ensures, c.before.before.row-of.ensures)
 
 pub deadline-spec : {M : Type 1} → statement M

@@ -1,14 +1,14 @@
 -- What is left of the table has the same first Sent packet at each turn.
 use Rattle.std.proofs.Common.{◌≡◌, ◌<◌, sym, ◌∙◌, arith}
 use Rattle.engine.specs.Ring.{window, next-cell-lt}
-use Rattle.engine.specs.Packets.{noPacket, packets}
-use Rattle.engine.specs.Deadlines.{firstSent, first-here, first_on, first-end}
+use Rattle.engine.specs.Packets.{no_packet, packets}
+use Rattle.engine.specs.Deadlines.{first_sent, first-here, first_on, first-end}
 use Rattle.engine.specs.Sizes.{PACKETS}
 use Rattle.engine.proofs.deadlines.first_sent.Statement.{statement}
 use Rattle.engine.proofs.deadlines.first_sent.Tie as tie
 
 abbrev invariant-loop : tie.invariant-loop
-invariant-loop tx left₀ at₀ left at = (at < PACKETS) × (firstSent (window PACKETS noPacket tx.txed_packets at left) ≡ firstSent (packets tx))
+invariant-loop tx left₀ at₀ left at = (at < PACKETS) × (first_sent (window PACKETS no_packet tx.txed_packets at left) ≡ first_sent (packets tx))
 
 abbrev decreases-loop : tie.decreases-loop
 decreases-loop tx left₀ at₀ left at = left

@@ -1,6 +1,6 @@
 -- By the verdict; a call that passes is given a sound state, whose count is within its size.
 use Rattle.std.proofs.Common.{sym, ◌∙◌, rules}
-use Rattle.engine.specs.Flushing.{flushOf}
+use Rattle.engine.specs.Flushing.{flush_of}
 use Rattle.engine.specs.Gates.{timed-passed}
 use Rattle.refusal.specs.declared.verdict.Verdict.TheVariants.{Pass}
 use Rattle.engine.proofs.flushing.flush.Statement.{statement}
@@ -19,11 +19,11 @@ flushed-state-requires : tie.Need-flushed-state-requires
 flushed-state-requires c κs = (timed-passed c.before.before.before.args.s c.before.before.before.args.slot c.before.before.before.args.time Pass (sym c.before.before.timed-verdict.ensures ∙ c.enum_told.given.1)).0.at.fine.packet-count
 
 returns : tie.Need-returns
-unfolding flushOf
+unfolding flush_of
 returns c = let e = sym c.before.before.before.timed-verdict.ensures ∙ c.before.verdict.given.1 in (simp e, simp e)
 
 returns-2 : tie.Need-returns-2
-unfolding flushOf
+unfolding flush_of
 returns-2 c = let e = sym c.before.before.before.timed-verdict.ensures ∙ c.before.enum_told.given.1 in (simp (e, c.flushed-state.ensures), simp e)
 
 pub flush-spec : {M : Type 1} → statement M

@@ -1,8 +1,8 @@
 -- The packets that are left, changed in their places, give the same cells at each turn.
 use Rattle.std.proofs.Common.{◌≡◌, ◌<◌, ◌≤◌, map, sym, refl, ◌∙◌, arith}
 use Rattle.engine.specs.Ring.{window, refilled, next-cell-lt, change-step, change-none}
-use Rattle.engine.specs.Packets.{noPacket}
-use Rattle.engine.specs.Flushing.{flushedPacket}
+use Rattle.engine.specs.Packets.{no_packet}
+use Rattle.engine.specs.Flushing.{flushed_packet}
 use Rattle.engine.specs.Sizes.{PACKETS}
 use Rattle.engine.proofs.flushing.flush_packets.Statement.{statement}
 use Rattle.engine.proofs.flushing.flush_packets.Tie as tie
@@ -10,8 +10,8 @@ use Rattle.engine.proofs.flushing.flush_packets.Tie as tie
 abbrev invariant-loop : tie.invariant-loop
 invariant-loop first count slot time out₀ at₀ left₀ out at left =
     (at < PACKETS) × (left ≤ PACKETS)
-    × (refilled PACKETS out at (map (flushedPacket slot time) (window PACKETS noPacket out at left))
-    ≡ refilled PACKETS out₀ first (map (flushedPacket slot time) (window PACKETS noPacket out₀ first count)))
+    × (refilled PACKETS out at (map (flushed_packet slot time) (window PACKETS no_packet out at left))
+    ≡ refilled PACKETS out₀ first (map (flushed_packet slot time) (window PACKETS no_packet out₀ first count)))
 
 abbrev decreases-loop : tie.decreases-loop
 decreases-loop first count slot time out₀ at₀ left₀ out at left = left
@@ -48,7 +48,7 @@ loop-again c =
     let l = c.before.before.before.before.loop in
     let a = c.before.before.before.before.before.args in
     let next = c.next-cell.ensures in
-    let step = change-step PACKETS noPacket (flushedPacket a.slot a.time) l.out l.at l.left l.invariant.0 c.before.before.before.loop-test.true l.invariant.1 in (
+    let step = change-step PACKETS no_packet (flushed_packet a.slot a.time) l.out l.at l.left l.invariant.0 c.before.before.before.loop-test.true l.invariant.1 in (
       rw next (next-cell-lt PACKETS l.at (omega arith)),
       omega (arith, l.invariant.1),
       rw (next, c.before.flush-packet.ensures) (sym step ∙ l.invariant.2),
@@ -58,7 +58,7 @@ returns : tie.Need-returns invariant-loop decreases-loop
 returns c =
     let l = c.before.loop in
     let a = c.before.before.args in
-    sym (change-none PACKETS noPacket (flushedPacket a.slot a.time) l.out l.at l.left c.loop-test.false) ∙ l.invariant.2
+    sym (change-none PACKETS no_packet (flushed_packet a.slot a.time) l.out l.at l.left c.loop-test.false) ∙ l.invariant.2
 
 pub flush-packets-spec : {M : Type 1} → statement M
 flush-packets-spec =

@@ -1,6 +1,6 @@
 -- The packets' promise, inside the state, and the time.
-use Rattle.engine.specs.Flushing.{flushedState}
-use Rattle.engine.specs.Table.{withTable}
+use Rattle.engine.specs.Flushing.{flushed_state}
+use Rattle.engine.specs.Table.{with_table}
 use Rattle.engine.proofs.flushing.flushed_state.Statement.{statement}
 use Rattle.engine.proofs.flushing.flushed_state.Tie as tie
 
@@ -11,7 +11,7 @@ flush-packets-requires : tie.Need-flush-packets-requires
 flush-packets-requires c κs = (c.before.first_Cell.ensures.1, c.before.before.before.requires)
 
 returns : tie.Need-returns
-unfolding flushedState withTable
+unfolding flushed_state with_table
 returns c = simp (c.flush-packets.ensures, c.before.before.first_Cell.ensures.0)
 
 pub flushed-state-spec : {M : Type 1} → statement M

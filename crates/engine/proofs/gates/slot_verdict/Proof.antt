@@ -1,5 +1,5 @@
 -- The gates, in the order of their numbers.
-use Rattle.engine.specs.Gates.{slotVerdict}
+use Rattle.engine.specs.Gates.{slot_verdict}
 use Rattle.std.proofs.Common.{rules}
 use Rattle.engine.proofs.gates.slot_verdict.Statement.{statement}
 use Rattle.engine.proofs.gates.slot_verdict.Tie as tie
@@ -17,7 +17,7 @@ gate-requires-2 : tie.Need-gate-requires-2
 gate-requires-2 c κs = search rules
 
 returns : tie.Need-returns
-unfolding slotVerdict
+unfolding slot_verdict
 returns c = simp (c.gate2.ensures, c.before.gate.ensures, c.before.before.slot_ok.ensures, c.before.before.before.is-sound.ensures)
 
 pub slot-verdict-spec : {M : Type 1} → statement M

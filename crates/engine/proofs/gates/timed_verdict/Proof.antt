@@ -1,5 +1,5 @@
 -- The gates, in the order of their numbers.
-use Rattle.engine.specs.Gates.{timedVerdict}
+use Rattle.engine.specs.Gates.{timed_verdict}
 use Rattle.std.proofs.Common.{rules}
 use Rattle.engine.proofs.gates.timed_verdict.Statement.{statement}
 use Rattle.engine.proofs.gates.timed_verdict.Tie as tie
@@ -23,7 +23,7 @@ gate-requires-3 : tie.Need-gate-requires-3
 gate-requires-3 c κs = search rules
 
 returns : tie.Need-returns
-unfolding timedVerdict
+unfolding timed_verdict
 returns c =
     simp (c.gate3.ensures, c.before.gate2.ensures, c.before.before.gate.ensures, c.before.before.before.slot_ok.ensures, c.before.before.before.before.time-ok.ensures, c.before.before.before.before.before.is-sound.ensures)
 

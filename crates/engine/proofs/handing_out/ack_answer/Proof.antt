@@ -1,6 +1,6 @@
 -- By the verdict, and then the oldest ack.
 use Rattle.std.proofs.Common.{sym, ◌∙◌, rules}
-use Rattle.engine.specs.HandingOut.{ackAnswer}
+use Rattle.engine.specs.HandingOut.{ack_answer}
 use Rattle.engine.proofs.handing_out.ack_answer.Statement.{statement}
 use Rattle.engine.proofs.handing_out.ack_answer.Tie as tie
 
@@ -23,11 +23,11 @@ ack-in-requires : tie.Need-ack-in-requires
 ack-in-requires c κs = search rules
 
 returns : tie.Need-returns
-unfolding ackAnswer
+unfolding ack_answer
 returns c = simp (sym c.before.before.before.take-ack-verdict.ensures ∙ c.before.verdict.given.1)
 
 returns-2 : tie.Need-returns-2
-unfolding ackAnswer
+unfolding ack_answer
 returns-2 c = simp (sym c.before.before.before.before.before.take-ack-verdict.ensures ∙ c.before.before.before.enum_told.given.1, c.ack-in.ensures, c.before.oldest-ack.ensures, c.before.before.row-of.ensures)
 
 pub ack-answer-spec : {M : Type 1} → statement M

@@ -1,5 +1,5 @@
 -- By the verdict.
-use Rattle.engine.specs.HandingOut.{handOutBy}
+use Rattle.engine.specs.HandingOut.{hand_out_by}
 use Rattle.std.proofs.Common.{rules}
 use Rattle.engine.proofs.handing_out.hand_out.Statement.{statement}
 use Rattle.engine.proofs.handing_out.hand_out.Tie as tie
@@ -20,11 +20,11 @@ held-bytes-requires : tie.Need-held-bytes-requires
 held-bytes-requires c κs = search rules
 
 returns : tie.Need-returns
-unfolding handOutBy
+unfolding hand_out_by
 returns c = simp c.before.verdict.given.1
 
 returns-2 : tie.Need-returns-2
-unfolding handOutBy
+unfolding hand_out_by
 returns-2 c = simp (c.before.before.before.before.enum_told.given.1, c.before.before.msg-in.ensures, c.held_bytes.ensures, c.before.before.before.oldest-ready.ensures)
 
 pub hand-out-spec : {M : Type 1} → statement M

@@ -1,5 +1,5 @@
 -- What is shown lies within the store.
-use Rattle.engine.specs.HandingOut.{shownOf, shown-within, part_same, shownAt}
+use Rattle.engine.specs.HandingOut.{shown_of, shown-within, part_same, shown_at}
 use Rattle.std.proofs.Common.{sym, ◌∙◌, arith, rules}
 use Rattle.engine.proofs.Shapes.{shaped}
 use Rattle.engine.proofs.handing_out.show.Statement.{statement}
@@ -50,13 +50,13 @@ part-result-end c =
     omega (arith, w.1, c.before.Cell-at.ensures, c.data-length.ensures)
 
 returns : tie.Need-returns
-unfolding shownOf shownAt
+unfolding shown_of shown_at
 returns c =
     let e = sym c.before.before.before.showing.ensures.0 ∙ c.before.enum_told.given.1 in
     (simp e, simp e)
 
 returns-2 : tie.Need-returns-2
-unfolding shownOf shownAt
+unfolding shown_of shown_at
 returns-2 c =
     let e = sym c.before.before.before.before.before.before.showing.ensures.0 ∙ c.before.before.before.before.answer.given.1 in
     (simp (e, c.before.data-length.ensures, c.before.before.Cell-at.ensures, part_same), simp (e, c.before.before.Cell-at.ensures))

@@ -1,7 +1,7 @@
 -- Each refusal by its own test.
 use Rattle.std.proofs.Common.{sym, ◌∙◌, rules}
 use borrow.Author.Tests.{not-true, not-false}
-use Rattle.engine.specs.HandingOut.{showVerdict}
+use Rattle.engine.specs.HandingOut.{show_verdict}
 use Rattle.engine.specs.Receiving.{sound-lent}
 use Rattle.engine.proofs.handing_out.show_verdict.Statement.{statement}
 use Rattle.engine.proofs.handing_out.show_verdict.Tie as tie
@@ -10,14 +10,14 @@ lengths-ok-requires : tie.Need-lengths-ok-requires
 lengths-ok-requires c κs = search rules
 
 returns : tie.Need-returns
-unfolding showVerdict
+unfolding show_verdict
 returns c = simp (sym c.before.lengths-ok.ensures ∙ not-true c.before.lengths-ok.result c.if1.true)
 
 is-sound-with-requires : tie.Need-is-sound-with-requires
 is-sound-with-requires c κs = search rules
 
 returns-2 : tie.Need-returns-2
-unfolding showVerdict
+unfolding show_verdict
 returns-2 c =
     let long = sym c.before.before.before.lengths-ok.ensures ∙ not-false c.before.before.before.lengths-ok.result c.before.before.if1.false in
     simp (long, sym c.before.is-sound-with.ensures ∙ not-true c.before.is-sound-with.result c.if2.true)
@@ -32,7 +32,7 @@ gate-requires : tie.Need-gate-requires
 gate-requires c κs = search rules
 
 returns-3 : tie.Need-returns-3
-unfolding showVerdict
+unfolding show_verdict
 returns-3 c =
     let long = sym c.before.before.before.before.before.before.lengths-ok.ensures ∙ not-false c.before.before.before.before.before.before.lengths-ok.result c.before.before.before.before.before.if1.false in
     let ok = sym c.before.before.before.before.is-sound-with.ensures ∙ not-false c.before.before.before.before.is-sound-with.result c.before.before.before.if2.false in

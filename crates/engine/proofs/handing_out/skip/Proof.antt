@@ -1,7 +1,7 @@
 -- As many turns as are left skip from there to the same number, and none changes the cell count.
 use Rattle.std.proofs.Common.{◌≡◌, sym, refl, ap, ◌∙◌, arith}
 use borrow.Author.Tests.{not-true, not-false}
-use Rattle.engine.specs.HandingOut.{canSkip, passed_by, skipped}
+use Rattle.engine.specs.HandingOut.{can_skip, passed_by, skipped}
 use Rattle.engine.specs.declared.state.Receiving.{Receiving}
 use Rattle.engine.specs.Turns.{turn_on, turn-off, turn-out}
 use Rattle.engine.proofs.handing_out.skip.Statement.{statement}
@@ -25,8 +25,8 @@ returns c =
     let l = c.before.before.before.loop in
     let rx = c.before.before.before.before.before.args.rx in
     let N = rx.cells in
-    let test = canSkip N c.before.before.before.before.before.args.records.now in
-    let same : test l.out ≡ c.before.can-skip.result = ap (λ n. canSkip n c.before.before.before.before.before.args.records.now l.out) (sym l.invariant.1) ∙ sym c.before.can-skip.ensures in
+    let test = can_skip N c.before.before.before.before.before.args.records.now in
+    let same : test l.out ≡ c.before.can-skip.result = ap (λ n. can_skip n c.before.before.before.before.before.args.records.now l.out) (sym l.invariant.1) ∙ sym c.before.can-skip.ensures in
     turn-off test passed_by l.left l.out _ l.invariant.0 (same ∙ not-true c.before.can-skip.result c.if1.true)
 
 pass-by-requires : tie.Need-pass-by-requires invariant-loop decreases-loop
@@ -44,14 +44,14 @@ loop-again c =
     let l = c.before.before.before.before.loop in
     let rx = c.before.before.before.before.before.before.args.rx in
     let N = rx.cells in
-    let test = canSkip N c.before.before.before.before.before.before.args.records.now in
-    let same : test l.out ≡ c.before.before.can-skip.result = ap (λ n. canSkip n c.before.before.before.before.before.before.args.records.now l.out) (sym l.invariant.1) ∙ sym c.before.before.can-skip.ensures in (
+    let test = can_skip N c.before.before.before.before.before.before.args.records.now in
+    let same : test l.out ≡ c.before.before.can-skip.result = ap (λ n. can_skip n c.before.before.before.before.before.before.args.records.now l.out) (sym l.invariant.1) ∙ sym c.before.before.can-skip.ensures in (
       simp c.pass-by.ensures (turn_on test passed_by l.left l.out _ l.invariant.0 c.before.before.before.loop-test.true (same ∙ not-false c.before.before.can-skip.result c.before.if1.false)),
       ap (λ (x : Receiving). x.cells) c.pass-by.ensures ∙ l.invariant.1,
     )
 
 returns-2 : tie.Need-returns-2 invariant-loop decreases-loop
-returns-2 c = let l = c.before.loop in turn-out (canSkip c.before.before.before.args.rx.cells c.before.before.before.args.records.now) passed_by l.left l.out _ l.invariant.0 c.loop-test.false
+returns-2 c = let l = c.before.loop in turn-out (can_skip c.before.before.before.args.rx.cells c.before.before.before.args.records.now) passed_by l.left l.out _ l.invariant.0 c.loop-test.false
 
 pub skip-spec : {M : Type 1} → statement M
 skip-spec =

@@ -2,10 +2,10 @@
 use Rattle.std.proofs.Common.{eqb, length, sym, ap, ◌∙◌, rules}
 use Rattle.refusal.specs.Verdicts.{gate-pass}
 use Rattle.engine.specs.CellCount.{cell-count}
-use Rattle.engine.specs.Decide.{soundWithb}
+use Rattle.engine.specs.Decide.{sound_withb}
 use Rattle.engine.specs.Received.{table_of}
 use Rattle.engine.specs.Receiving.{sound-lent}
-use Rattle.engine.specs.HandingOut.{takeVerdict, take_of, takeRecords, taking, hand-told, handOutTold}
+use Rattle.engine.specs.HandingOut.{take_verdict, take_of, take_records, taking, hand-told, hand_out_told}
 use Rattle.engine.proofs.handing_out.take.Statement.{statement}
 use Rattle.engine.proofs.handing_out.take.Tie as tie
 
@@ -13,12 +13,12 @@ take-verdict-requires : tie.Need-take-verdict-requires
 take-verdict-requires c κs = search rules
 
 hand-out-requires : tie.Need-hand-out-requires
-unfolding takeVerdict
+unfolding take_verdict
 hand-out-requires c κs = λ e.
     let s = c.before.before.before.before.before.args.s in
     let records = c.before.before.before.before.before.args.records.now in
     let e2 = gate-pass (eqb (length records) s.rx.cells) _ _ (sym c.before.take-verdict.ensures ∙ e) in
-    sound-lent s records (gate-pass (soundWithb s records) _ _ e2.1).0
+    sound-lent s records (gate-pass (sound_withb s records) _ _ e2.1).0
 
 enum_told : tie.Need-enum-told
 enum_told c = search rules
@@ -43,7 +43,7 @@ same_length : tie.Need-same-length
 same_length c = search rules
 
 returns : tie.Need-returns
-unfolding take_of takeRecords
+unfolding take_of take_records
 returns c =
     let v = sym c.before.before.before.before.take-verdict.ensures in
     let h = sym c.before.before.hand-out.ensures in
@@ -59,14 +59,14 @@ same-length-2 : tie.Need-same-length-2
 same-length-2 c = search rules
 
 returns-2 : tie.Need-returns-2
-unfolding take_of takeRecords
+unfolding take_of take_records
 returns-2 c =
     let v = sym c.before.before.before.before.before.before.before.before.before.before.before.take-verdict.ensures in
     let h = sym c.before.before.before.before.before.before.before.before.before.hand-out.ensures in
     let m = c.before.before.before.before.before.before.before.answer.given.1 in (
       simp (v, h, m, c.with-rx.ensures, c.before.before.before.take-message.ensures.0, c.before.before.before.before.data-length.ensures),
       (
-        ap handOutTold (sym c.before.before.before.before.before.before.before.answer.given.1) ∙ hand-told c.before.before.before.before.before.before.before.before.before.before.before.take-verdict.result _ (table_of c.before.before.before.before.before.before.before.before.before.before.before.before.before.before.before.args.s.rx c.before.before.before.before.before.before.before.before.before.before.before.before.before.before.before.args.records.now) c.before.before.before.before.before.before.before.before.before.hand-out.ensures c.before.before.before.before.before.before.before.before.before.before.before.take-verdict.ensures,
+        ap hand_out_told (sym c.before.before.before.before.before.before.before.answer.given.1) ∙ hand-told c.before.before.before.before.before.before.before.before.before.before.before.take-verdict.result _ (table_of c.before.before.before.before.before.before.before.before.before.before.before.before.before.before.before.args.s.rx c.before.before.before.before.before.before.before.before.before.before.before.before.before.before.before.args.records.now) c.before.before.before.before.before.before.before.before.before.hand-out.ensures c.before.before.before.before.before.before.before.before.before.before.before.take-verdict.ensures,
         simp (v, h, m, c.before.before.before.take-message.ensures.1, c.before.before.before.before.data-length.ensures),
       ),
     )

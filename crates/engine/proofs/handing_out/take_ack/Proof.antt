@@ -1,6 +1,6 @@
 -- By the answer.
 use Rattle.std.proofs.Common.{sym, ap, ◌∙◌, rules}
-use Rattle.engine.specs.HandingOut.{takeAckOf, takeAckTold, answer-told}
+use Rattle.engine.specs.HandingOut.{take_ack_of, take_ack_told, answer-told}
 use Rattle.engine.proofs.handing_out.take_ack.Statement.{statement}
 use Rattle.engine.proofs.handing_out.take_ack.Tie as tie
 
@@ -17,17 +17,17 @@ taken-ack-state-requires : tie.Need-taken-ack-state-requires
 taken-ack-state-requires c κs = search rules
 
 returns : tie.Need-returns
-unfolding takeAckOf
+unfolding take_ack_of
 returns c = (
   simp (sym c.before.before.ack-answer.ensures, c.enum_told.given.1),
-  ap takeAckTold c.before.before.ack-answer.ensures ∙ answer-told c.before.before.before.args.s c.before.before.before.args.slot,
+  ap take_ack_told c.before.before.ack-answer.ensures ∙ answer-told c.before.before.before.args.s c.before.before.before.args.slot,
 )
 
 returns-2 : tie.Need-returns-2
-unfolding takeAckOf
+unfolding take_ack_of
 returns-2 c = (
   simp (sym c.before.before.before.ack-answer.ensures, c.before.enum-told2.given.1, c.taken-ack-state.ensures),
-  ap takeAckTold c.before.before.before.ack-answer.ensures ∙ answer-told c.before.before.before.before.args.s c.before.before.before.before.args.slot,
+  ap take_ack_told c.before.before.before.ack-answer.ensures ∙ answer-told c.before.before.before.before.args.s c.before.before.before.before.args.slot,
 )
 
 pub take-ack-spec : {M : Type 1} → statement M

@@ -1,5 +1,5 @@
 -- Each refusal by its own test.
-use Rattle.engine.specs.HandingOut.{takeAckVerdict}
+use Rattle.engine.specs.HandingOut.{take_ack_verdict}
 use Rattle.std.proofs.Common.{rules}
 use Rattle.engine.proofs.handing_out.take_ack_verdict.Statement.{statement}
 use Rattle.engine.proofs.handing_out.take_ack_verdict.Tie as tie
@@ -29,7 +29,7 @@ gate-requires-3 : tie.Need-gate-requires-3
 gate-requires-3 c κs = search rules
 
 returns : tie.Need-returns
-unfolding takeAckVerdict
+unfolding take_ack_verdict
 returns c =
     simp (c.gate3.ensures, c.before.is-sound.ensures, c.before.before.gate2.ensures, c.before.before.before.slot_ok.ensures, c.before.before.before.before.gate.ensures, c.before.before.before.before.before.is-waiting.ensures, c.before.before.before.before.before.before.oldest-ack.ensures, c.before.before.before.before.before.before.before.row-of.ensures)
 

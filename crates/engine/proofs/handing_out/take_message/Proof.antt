@@ -1,7 +1,7 @@
 -- The record emptied, the sums moved, and then the empty numbers skipped.
 use Rattle.std.proofs.Common.{sym, ap, ◌∙◌, mod-lt, arith, length-set, rules}
 use Rattle.engine.specs.declared.state.Receiving.{Receiving}
-use Rattle.engine.specs.HandingOut.{takenIn, passed_by}
+use Rattle.engine.specs.HandingOut.{taken_in, passed_by}
 use Rattle.engine.proofs.handing_out.take_message.Statement.{statement}
 use Rattle.engine.proofs.handing_out.take_message.Tie as tie
 
@@ -34,7 +34,7 @@ same_length : tie.Need-same-length
 same_length c = search rules
 
 returns : tie.Need-returns
-unfolding takenIn passed_by
+unfolding taken_in passed_by
 returns c = (simp (c.skip.ensures, c.before.before.before.less.ensures, c.before.before.before.before.pass-by.ensures, c.before.before.before.before.before.Cell-at.ensures), simp c.before.before.before.before.before.Cell-at.ensures)
 
 pub take-message-spec : {M : Type 1} → statement M

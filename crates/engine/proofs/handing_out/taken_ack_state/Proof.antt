@@ -1,5 +1,5 @@
 -- The row's own promise, inside the state.
-use Rattle.engine.specs.HandingOut.{takenAckState}
+use Rattle.engine.specs.HandingOut.{taken_ack_state}
 use Rattle.std.proofs.Common.{rules}
 use Rattle.engine.proofs.handing_out.taken_ack_state.Statement.{statement}
 use Rattle.engine.proofs.handing_out.taken_ack_state.Tie as tie
@@ -14,7 +14,7 @@ with-row-requires : tie.Need-with-row-requires
 with-row-requires c κs = search rules
 
 returns : tie.Need-returns
-unfolding takenAckState
+unfolding taken_ack_state
 returns c = simp (c.with_row.ensures, c.before.take-ack.ensures, c.before.before.row-of.ensures)
 
 pub taken-ack-state-spec : {M : Type 1} → statement M

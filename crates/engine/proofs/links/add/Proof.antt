@@ -1,15 +1,15 @@
 -- The lowest empty slot is the one that the definition names, and the verdict says which arm.
 use Rattle.std.proofs.Common.{sym, ◌∙◌, rules}
-use Rattle.engine.specs.Links.{addOf}
+use Rattle.engine.specs.Links.{add_of}
 use Rattle.engine.proofs.links.add.Statement.{statement}
 use Rattle.engine.proofs.links.add.Tie as tie
 
 returns : tie.Need-returns
-unfolding addOf
+unfolding add_of
 returns c = let e = sym c.before.before.before.add-verdict.ensures ∙ c.before.verdict.given.1 in (simp e, simp e)
 
 returns-2 : tie.Need-returns-2
-unfolding addOf
+unfolding add_of
 returns-2 c = let e = sym c.before.before.before.before.add-verdict.ensures ∙ c.before.before.enum_told.given.1 in (simp (e, c.with_row.ensures, c.before.fresh.ensures, c.before.before.before.before.before.lowest-empty.ensures.0), simp (e, c.before.before.before.before.before.lowest-empty.ensures.0))
 
 pub add_spec : {M : Type 1} → statement M

@@ -1,5 +1,5 @@
 -- The row's own promise, inside the state.
-use Rattle.engine.specs.Answer.{told_of}
+use Rattle.engine.specs.Answer.{told-of}
 use Rattle.engine.specs.Links.{block_of}
 use Rattle.std.proofs.Common.{rules}
 use Rattle.engine.proofs.links.block.Statement.{statement}
@@ -24,7 +24,7 @@ returns : tie.Need-returns
 unfolding block_of
 returns c = (
   simp (c.change.ensures, c.before.with_row.ensures, c.before.before.block.ensures, c.before.before.before.row-of.ensures, c.before.before.before.before.slot-verdict.ensures),
-  told_of c.before.before.before.before.slot-verdict.result _ c.before.before.before.before.before.args.s c.before.with_row.result c.change.ensures c.before.before.before.before.slot-verdict.ensures,
+  told-of c.before.before.before.before.slot-verdict.result _ c.before.before.before.before.before.args.s c.before.with_row.result c.change.ensures c.before.before.before.before.slot-verdict.ensures,
 )
 
 pub block_spec : {M : Type 1} → statement M

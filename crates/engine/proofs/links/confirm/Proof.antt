@@ -1,6 +1,6 @@
 -- The row's own promise, inside the state.
-use Rattle.engine.specs.Answer.{told_of}
-use Rattle.engine.specs.Links.{confirmOf}
+use Rattle.engine.specs.Answer.{told-of}
+use Rattle.engine.specs.Links.{confirm_of}
 use Rattle.std.proofs.Common.{rules}
 use Rattle.engine.proofs.links.confirm.Statement.{statement}
 use Rattle.engine.proofs.links.confirm.Tie as tie
@@ -21,10 +21,10 @@ change-requires : tie.Need-change-requires
 change-requires c κs = search rules
 
 returns : tie.Need-returns
-unfolding confirmOf
+unfolding confirm_of
 returns c = (
   simp (c.change.ensures, c.before.with_row.ensures, c.before.before.confirm.ensures, c.before.before.before.row-of.ensures, c.before.before.before.before.slot-verdict.ensures),
-  told_of c.before.before.before.before.slot-verdict.result _ c.before.before.before.before.before.args.s c.before.with_row.result c.change.ensures c.before.before.before.before.slot-verdict.ensures,
+  told-of c.before.before.before.before.slot-verdict.result _ c.before.before.before.before.before.args.s c.before.with_row.result c.change.ensures c.before.before.before.before.slot-verdict.ensures,
 )
 
 pub confirm-spec : {M : Type 1} → statement M

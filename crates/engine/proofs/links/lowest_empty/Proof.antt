@@ -2,12 +2,12 @@
 use Rattle.std.proofs.Common.{◌≡◌, ◌-◌, ◌≤◌, length, get_or, drop, sym, refl, ◌∙◌, arith, rules}
 use Rattle.link.specs.Row.{no_row}
 use borrow.Author.Tests.{not-true, not-false}
-use Rattle.engine.specs.Links.{lowestEmpty, lowest_step, lowest-none}
+use Rattle.engine.specs.Links.{lowest_empty, lowest_step, lowest-none}
 use Rattle.engine.proofs.links.lowest_empty.Statement.{statement}
 use Rattle.engine.proofs.links.lowest_empty.Tie as tie
 
 abbrev invariant-loop : tie.invariant-loop
-invariant-loop links j₀ j = (j ≤ 8) × (lowestEmpty (drop j links) j ≡ lowestEmpty links 0)
+invariant-loop links j₀ j = (j ≤ 8) × (lowest_empty (drop j links) j ≡ lowest_empty links 0)
 
 abbrev decreases-loop : tie.decreases-loop
 decreases-loop links j₀ j = 8 - j

@@ -1,5 +1,5 @@
 -- The row's own promise, inside the state.
-use Rattle.engine.specs.Answer.{told_of}
+use Rattle.engine.specs.Answer.{told-of}
 use Rattle.engine.specs.Links.{mark_of}
 use Rattle.std.proofs.Common.{rules}
 use Rattle.engine.proofs.links.mark.Statement.{statement}
@@ -24,7 +24,7 @@ returns : tie.Need-returns
 unfolding mark_of
 returns c = (
   simp (c.change.ensures, c.before.with_row.ensures, c.before.before.mark.ensures, c.before.before.before.row-of.ensures, c.before.before.before.before.slot-verdict.ensures),
-  told_of c.before.before.before.before.slot-verdict.result _ c.before.before.before.before.before.args.s c.before.with_row.result c.change.ensures c.before.before.before.before.slot-verdict.ensures,
+  told-of c.before.before.before.before.slot-verdict.result _ c.before.before.before.before.before.args.s c.before.with_row.result c.change.ensures c.before.before.before.before.slot-verdict.ensures,
 )
 
 pub mark_spec : {M : Type 1} → statement M

@@ -1,6 +1,6 @@
 -- The row's own promise, inside the state, and the time.
-use Rattle.engine.specs.Answer.{told_of}
-use Rattle.engine.specs.Links.{pongOf}
+use Rattle.engine.specs.Answer.{told-of}
+use Rattle.engine.specs.Links.{pong_of}
 use Rattle.std.proofs.Common.{rules}
 use Rattle.engine.proofs.links.pong.Statement.{statement}
 use Rattle.engine.proofs.links.pong.Tie as tie
@@ -24,10 +24,10 @@ change-requires : tie.Need-change-requires
 change-requires c κs = search rules
 
 returns : tie.Need-returns
-unfolding pongOf
+unfolding pong_of
 returns c = (
   simp (c.change.ensures, c.before.with-time.ensures, c.before.before.with_row.ensures, c.before.before.before.pong.ensures, c.before.before.before.before.row-of.ensures, c.before.before.before.before.before.timed-verdict.ensures),
-  told_of c.before.before.before.before.before.timed-verdict.result _ c.before.before.before.before.before.before.args.s c.before.with-time.result c.change.ensures c.before.before.before.before.before.timed-verdict.ensures,
+  told-of c.before.before.before.before.before.timed-verdict.result _ c.before.before.before.before.before.before.args.s c.before.with-time.result c.change.ensures c.before.before.before.before.before.timed-verdict.ensures,
 )
 
 pub pong-spec : {M : Type 1} → statement M

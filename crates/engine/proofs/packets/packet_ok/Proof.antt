@@ -1,5 +1,5 @@
 -- The three tests, joined.
-use Rattle.engine.specs.Tally.{packetOk}
+use Rattle.engine.specs.Tally.{packet_ok}
 use Rattle.std.proofs.Common.{rules}
 use Rattle.engine.proofs.packets.packet_ok.Statement.{statement}
 use Rattle.engine.proofs.packets.packet_ok.Tie as tie
@@ -23,7 +23,7 @@ both-requires-2 : tie.Need-both-requires-2
 both-requires-2 c κs = search rules
 
 returns : tie.Need-returns
-unfolding packetOk
+unfolding packet_ok
 returns c = simp (c.both2.ensures, c.before.both.ensures, c.before.before.eq.ensures, c.before.before.before.status-ok.ensures, c.before.before.before.before.length-ok.ensures)
 
 pub packet-ok-spec : {M : Type 1} → statement M

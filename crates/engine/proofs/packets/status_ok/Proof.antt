@@ -1,7 +1,7 @@
 -- Each arm knows which status it is in.
 use Rattle.std.proofs.Common.{rules}
 use Rattle.engine.proofs.packets.status_ok.Statement.{statement}
-use Rattle.engine.specs.Tally.{statusOk}
+use Rattle.engine.specs.Tally.{status_ok}
 use Rattle.engine.proofs.packets.status_ok.Tie as tie
 
 enum-known-status : tie.Need-enum-known-status
@@ -32,15 +32,15 @@ eq-requires : tie.Need-eq-requires
 eq-requires c κs = search rules
 
 returns : tie.Need-returns
-unfolding statusOk
+unfolding status_ok
 returns c = simp (c.before.before.before.before.before.before.before.status.given.1, c.both2.ensures, c.before.both.ensures, c.before.before.before.flushed-ok.ensures, c.before.before.before.before.lives-in.ensures)
 
 returns-2 : tie.Need-returns-2
-unfolding statusOk
+unfolding status_ok
 returns-2 c = simp c.enum_told.given.1
 
 returns-3 : tie.Need-returns-3
-unfolding statusOk
+unfolding status_ok
 returns-3 c = simp (c.eq.ensures, c.before.enum-told2.given.1)
 
 pub status-ok-spec : {M : Type 1} → statement M

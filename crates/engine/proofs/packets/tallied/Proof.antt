@@ -1,15 +1,15 @@
 -- What is left of the table, weighed on top of the tally so far, gives the same tally at each turn.
 use Rattle.std.proofs.Common.{◌≡◌, ◌<◌, sym, ◌∙◌, arith}
 use Rattle.engine.specs.Ring.{window, next-cell-lt}
-use Rattle.engine.specs.Packets.{noPacket}
-use Rattle.engine.specs.Tally.{tallyFrom, tally_of, tally-step, tally-none}
+use Rattle.engine.specs.Packets.{no_packet}
+use Rattle.engine.specs.Tally.{tally_from, tally_of, tally-step, tally-none}
 use Rattle.engine.specs.Sizes.{PACKETS}
 use Rattle.engine.proofs.packets.tallied.Statement.{statement}
 use Rattle.engine.proofs.packets.tallied.Tie as tie
 
 abbrev invariant-loop : tie.invariant-loop
 invariant-loop roster time tx t₀ left₀ n₀ at₀ t left n at =
-    (at < PACKETS) × (tallyFrom tx.resend_queue roster time (window PACKETS noPacket tx.txed_packets at left) n.0 t ≡ tally_of tx roster time)
+    (at < PACKETS) × (tally_from tx.resend_queue roster time (window PACKETS no_packet tx.txed_packets at left) n.0 t ≡ tally_of tx roster time)
 
 abbrev decreases-loop : tie.decreases-loop
 decreases-loop roster time tx t₀ left₀ n₀ at₀ t left n at = left

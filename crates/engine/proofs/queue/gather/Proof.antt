@@ -2,14 +2,14 @@
 use Rattle.std.proofs.Common.{◌≡◌, ◌<◌, length, refl, ap, arith}
 use lib.ListN.{length-map}
 use Rattle.engine.specs.Ring.{window, window-step, window-none, window-length, next-cell-lt}
-use Rattle.engine.specs.Packets.{noPacket, packets, queuedOf}
+use Rattle.engine.specs.Packets.{no_packet, packets, queued_of}
 use Rattle.engine.specs.Queue.{Gathering, gather-turn, gather-end}
 use Rattle.engine.specs.Sizes.{PACKETS}
 use Rattle.engine.proofs.queue.gather.Statement.{statement}
 use Rattle.engine.proofs.queue.gather.Tie as tie
 
 abbrev invariant-loop : tie.invariant-loop
-invariant-loop tx g₀ left₀ at₀ g left at = (at < PACKETS) × Gathering tx.resend_queue (queuedOf (packets tx)) g (window PACKETS noPacket tx.txed_packets at left)
+invariant-loop tx g₀ left₀ at₀ g left at = (at < PACKETS) × Gathering tx.resend_queue (queued_of (packets tx)) g (window PACKETS no_packet tx.txed_packets at left)
 
 abbrev decreases-loop : tie.decreases-loop
 decreases-loop tx g₀ left₀ at₀ g left at = left
@@ -24,10 +24,10 @@ loop-holds c =
     let long : length tx.resend_queue ≡ PACKETS = simp length-map at c.before.before.well-formed.0.1.1.1.1.1.0.1.0.1 in (
       c.first_Cell.ensures.1,
       record {
-        front = ap (λ k. queuedOf (window PACKETS noPacket tx.txed_packets k tx.txed_count)) e;
+        front = ap (λ k. queued_of (window PACKETS no_packet tx.txed_packets k tx.txed_count)) e;
         back = refl;
         full = long;
-        room = omega (arith, c.before.before.requires, window-length PACKETS noPacket tx.txed_packets c.first_Cell.result tx.txed_count);
+        room = omega (arith, c.before.before.requires, window-length PACKETS no_packet tx.txed_packets c.first_Cell.result tx.txed_count);
       },
     )
 
@@ -41,7 +41,7 @@ put-requires : tie.Need-put-requires invariant-loop decreases-loop
 put-requires c κs =
     let l = c.before.before.loop in
     let tx = c.before.before.before.before.before.args.t1 in
-    omega (arith, l.invariant.1.room, c.before.loop-test.true, window-length PACKETS noPacket tx.txed_packets l.at l.left)
+    omega (arith, l.invariant.1.room, c.before.loop-test.true, window-length PACKETS no_packet tx.txed_packets l.at l.left)
 
 next-cell-requires : tie.Need-next-cell-requires invariant-loop decreases-loop
 next-cell-requires c κs = tt
@@ -57,17 +57,17 @@ loop-again c =
     let l = c.before.before.before.before.loop in
     let tx = c.before.before.before.before.before.before.before.args.t1 in
     let next = c.next-cell.ensures in
-    let step = window-step PACKETS noPacket tx.txed_packets l.at l.left c.before.before.before.loop-test.true in (
+    let step = window-step PACKETS no_packet tx.txed_packets l.at l.left c.before.before.before.loop-test.true in (
       rw next (next-cell-lt PACKETS l.at (omega arith)),
-      rw (next, c.before.put.ensures) (gather-turn tx.resend_queue (queuedOf (packets tx)) l.g _ _ (rw step at l.invariant.1)),
+      rw (next, c.before.put.ensures) (gather-turn tx.resend_queue (queued_of (packets tx)) l.g _ _ (rw step at l.invariant.1)),
     )
 
 returns : tie.Need-returns invariant-loop decreases-loop
 returns c =
     let l = c.before.loop in
     let tx = c.before.before.before.before.args.t1 in
-    let none = window-none PACKETS noPacket tx.txed_packets l.at l.left c.loop-test.false in
-    let e = gather-end tx.resend_queue (queuedOf (packets tx)) l.g (rw none at l.invariant.1) in
+    let none = window-none PACKETS no_packet tx.txed_packets l.at l.left c.loop-test.false in
+    let e = gather-end tx.resend_queue (queued_of (packets tx)) l.g (rw none at l.invariant.1) in
     (ap (λ g. g.numbers) e, ap (λ g. g.count) e)
 
 pub gather-spec : {M : Type 1} → statement M

@@ -1,7 +1,7 @@
 -- The end is the next expected number, or the record before the end says a message.
 use Rattle.std.proofs.Common.{sym, ◌∙◌, arith, rules}
 use Rattle.engine.specs.Received.{held_at}
-use Rattle.engine.specs.CellTally.{newestOk, lent-cell}
+use Rattle.engine.specs.CellTally.{newest_ok, lent-cell}
 use Rattle.engine.proofs.received.newest_ok.Statement.{statement}
 use Rattle.engine.proofs.received.newest_ok.Tie as tie
 
@@ -9,7 +9,7 @@ eq-requires : tie.Need-eq-requires
 eq-requires c κs = search rules
 
 returns : tie.Need-returns
-unfolding newestOk
+unfolding newest_ok
 returns c = simp (sym c.before.eq.ensures ∙ c.if1.true)
 
 sub-requires : tie.Need-sub-requires
@@ -31,7 +31,7 @@ is-full-requires : tie.Need-is-full-requires
 is-full-requires c κs = search rules
 
 returns-2 : tie.Need-returns-2
-unfolding newestOk held_at
+unfolding newest_ok held_at
 returns-2 c =
     simp (sym c.before.before.before.before.before.before.eq.ensures ∙ c.before.before.before.before.before.if1.false, c.is-full.ensures, c.before.held_of.ensures, c.before.before.before.Cell-at.ensures, c.before.before.before.before.sub.ensures)
 

@@ -3,15 +3,15 @@ use Rattle.std.proofs.Common.{◌≡◌, ◌+◌, ◌-◌, ◌/◌, ◌%◌, ◌
 use borrow.Author.Tests.{not-true, not-false}
 use Rattle.seq.specs.Numbers.{plus}
 use Rattle.engine.specs.Received.{table_of}
-use Rattle.engine.specs.CellTally.{CellTally, wordOk, recordTallyFrom, recordTallyOf, well-weighed, record-tally-step, record-tally-none, record-tally-spoilt}
-use Rattle.engine.specs.Ring.{window, nextCell, next-cell-lt}
+use Rattle.engine.specs.CellTally.{CellTally, word_ok, record_tally_from, record_tally_of, well-weighed, record-tally-step, record-tally-none, record-tally-spoilt}
+use Rattle.engine.specs.Ring.{window, next_cell, next-cell-lt}
 use Rattle.engine.proofs.received.records_ok.Statement.{statement}
 use Rattle.engine.proofs.received.records_ok.Tie as tie
 
 abbrev invariant-loop : tie.invariant-loop
 invariant-loop rx records cells expected used size₀ at₀ k₀ size at k =
     (at < cells) × (k ≤ used)
-    × (recordTallyFrom (window cells 0 records at (used - k)) k expected (record { ok = true; size = size }) ≡ recordTallyFrom (window cells 0 records at₀ used) 0 expected (record { ok = true; size = 0 }))
+    × (record_tally_from (window cells 0 records at (used - k)) k expected (record { ok = true; size = size }) ≡ record_tally_from (window cells 0 records at₀ used) 0 expected (record { ok = true; size = 0 }))
 
 abbrev decreases-loop : tie.decreases-loop
 decreases-loop rx records cells expected used size₀ at₀ k₀ size at k = used - k
@@ -47,19 +47,19 @@ record-ok-requires : tie.Need-record-ok-requires invariant-loop decreases-loop
 record-ok-requires c κs = tt
 
 returns : tie.Need-returns invariant-loop decreases-loop
-unfolding recordTallyOf
+unfolding record_tally_of
 returns c =
     let s = c.before.before.before.before.before.before.before.before.before.before.args in
     let N = s.rx.cells in
     let l = c.before.before.before.before.loop in
     let e = c.before.before.before.before.before.before.before.past.result in
     let u = c.before.before.before.before.before.before.past2.result in
-    let all : recordTallyFrom (window N 0 s.records.now c.before.before.before.before.before.Cell-at.result u) 0 e (record { ok = true; size = 0 }) ≡ recordTallyOf N (table_of s.rx s.records.now) =
+    let all : record_tally_from (window N 0 s.records.now c.before.before.before.before.before.Cell-at.result u) 0 e (record { ok = true; size = 0 }) ≡ record_tally_of N (table_of s.rx s.records.now) =
     simp (c.before.before.before.before.before.Cell-at.ensures, c.before.before.before.before.before.before.past2.ensures, c.before.before.before.before.before.before.before.past.ensures) in
-    let bad : (recordTallyOf N (table_of s.rx s.records.now)).ok ≡ false =
+    let bad : (record_tally_of N (table_of s.rx s.records.now)).ok ≡ false =
     ap (λ (t : CellTally). t.ok) (sym (l.invariant.2 ∙ all))
     ∙ record-tally-spoilt N s.records.now l.at (u - l.k) l.k e (record { ok = true; size = l.size }) (omega arith) (sym c.before.record-ok.ensures ∙ not-true c.before.record-ok.result c.if1.true) in
-    sym (ap (λ b. b && eqb (recordTallyOf N (table_of s.rx s.records.now)).size s.rx.rxed_reliable_size) bad)
+    sym (ap (λ b. b && eqb (record_tally_of N (table_of s.rx s.records.now)).size s.rx.rxed_reliable_size) bad)
 
 length-in-requires : tie.Need-length-in-requires invariant-loop decreases-loop
 length-in-requires c κs = tt
@@ -89,25 +89,25 @@ loop-again c =
     let u = c.before.before.before.before.before.before.before.before.before.past2.result in
     let word = get_or s.args.records.now l.at 0 in
     let k : u - (l.k + 1) ≡ u - l.k - 1 = omega arith in
-    let ok : wordOk word l.k e ≡ true = sym c.before.before.before.before.record-ok.ensures ∙ not-false c.before.before.before.before.record-ok.result c.before.before.before.if1.false in
+    let ok : word_ok word l.k e ≡ true = sym c.before.before.before.before.record-ok.ensures ∙ not-false c.before.before.before.before.record-ok.result c.before.before.before.if1.false in
     let sum : c.before.wrapping-add-u32.result ≡ plus l.size (word / 256 % 16777216) = c.before.wrapping-add-u32.ensures ∙ ap (plus l.size) c.before.before.length-in.ensures in (
       rw c.next-cell.ensures (next-cell-lt N l.at s.requires.lent.some),
       omega arith,
-      (λ i. recordTallyFrom (window N 0 s.args.records.now (c.next-cell.ensures i) (k i)) (l.k + 1) e (record { ok = true; size = sum i }))
-          ∙ ap (recordTallyFrom (window N 0 s.args.records.now (nextCell N l.at) (u - l.k - 1)) (l.k + 1) e) (sym (well-weighed l.size word l.k e ok))
+      (λ i. record_tally_from (window N 0 s.args.records.now (c.next-cell.ensures i) (k i)) (l.k + 1) e (record { ok = true; size = sum i }))
+          ∙ ap (record_tally_from (window N 0 s.args.records.now (next_cell N l.at) (u - l.k - 1)) (l.k + 1) e) (sym (well-weighed l.size word l.k e ok))
           ∙ sym (record-tally-step N s.args.records.now l.at (u - l.k) l.k e (record { ok = true; size = l.size }) (omega arith))
           ∙ l.invariant.2,
     )
 
 returns-2 : tie.Need-returns-2 invariant-loop decreases-loop
-unfolding recordTallyOf
+unfolding record_tally_of
 returns-2 c =
     let s = c.before.before.before.before.before.before.before.before.args in
     let N = s.rx.cells in
     let l = c.before.before.loop in
     let e = c.before.before.before.before.before.past.result in
     let u = c.before.before.before.before.past2.result in
-    let all : record { ok = true; size = l.size } ≡ recordTallyOf N (table_of s.rx s.records.now) =
+    let all : record { ok = true; size = l.size } ≡ record_tally_of N (table_of s.rx s.records.now) =
     sym (record-tally-none N s.records.now l.at (u - l.k) l.k e (record { ok = true; size = l.size }) (omega arith))
     ∙ l.invariant.2
     ∙ simp (c.before.before.before.Cell-at.ensures, c.before.before.before.before.past2.ensures, c.before.before.before.before.before.past.ensures) in

@@ -1,7 +1,7 @@
 -- Three fields, each by the kind or the count.
 use Rattle.std.proofs.Common.{rules}
 use Rattle.engine.proofs.receiving.effect_tx.Statement.{statement}
-use Rattle.engine.specs.Receiving.{effectTx}
+use Rattle.engine.specs.Receiving.{effect_tx}
 use Rattle.engine.proofs.receiving.effect_tx.Tie as tie
 
 kind-requires : tie.Need-kind-requires
@@ -20,7 +20,7 @@ either-requires-2 : tie.Need-either-requires-2
 either-requires-2 c κs = search rules
 
 returns : tie.Need-returns
-unfolding effectTx
+unfolding effect_tx
 returns c = simp (c.either2.ensures, c.before.either.ensures, c.before.before.before.count.ensures, c.before.before.before.before.kind.ensures)
 
 pub effect-tx-spec : {M : Type 1} → statement M

@@ -1,5 +1,5 @@
 -- The gates, in the order of the definition.
-use Rattle.engine.specs.Receiving.{messageVerdict}
+use Rattle.engine.specs.Receiving.{message_verdict}
 use Rattle.std.proofs.Common.{rules}
 use Rattle.engine.proofs.receiving.message_verdict.Statement.{statement}
 use Rattle.engine.proofs.receiving.message_verdict.Tie as tie
@@ -68,7 +68,7 @@ gate-requires-8 : tie.Need-gate-requires-8
 gate-requires-8 c κs = search rules
 
 returns : tie.Need-returns
-unfolding messageVerdict
+unfolding message_verdict
 returns c = simp (c.gate8.ensures, c.before.slot_ok.ensures, c.before.before.gate7.ensures, c.before.before.before.length-ok.ensures, c.before.before.before.before.gate6.ensures, c.before.before.before.before.before.is-near.ensures, c.before.before.before.before.before.before.gate5.ensures, c.before.before.before.before.before.before.before.gate4.ensures, c.before.before.before.before.before.before.before.before.gate3.ensures, c.before.before.before.before.before.before.before.before.before.gate2.ensures, c.before.before.before.before.before.before.before.before.before.before.gate.ensures, c.before.before.before.before.before.before.before.before.before.before.before.either4.ensures, c.before.before.before.before.before.before.before.before.before.before.before.before.before.count.ensures, c.before.before.before.before.before.before.before.before.before.before.before.before.before.before.either3.ensures, c.before.before.before.before.before.before.before.before.before.before.before.before.before.before.before.sum_fits.ensures, c.before.before.before.before.before.before.before.before.before.before.before.before.before.before.before.before.before.row-of.ensures, c.before.before.before.before.before.before.before.before.before.before.before.before.before.before.before.before.before.before.either2.ensures, c.before.before.before.before.before.before.before.before.before.before.before.before.before.before.before.before.before.before.before.near-oldest.ensures, c.before.before.before.before.before.before.before.before.before.before.before.before.before.before.before.before.before.before.before.before.either.ensures, c.before.before.before.before.before.before.before.before.before.before.before.before.before.before.before.before.before.before.before.before.before.past.ensures, c.before.before.before.before.before.before.before.before.before.before.before.before.before.before.before.before.before.before.before.before.before.before.is-repeat.ensures)
 
 pub message-verdict-spec : {M : Type 1} → statement M

@@ -2,7 +2,7 @@
 use Rattle.std.proofs.Common.{◌*◌, ◌^◌, ◌<◌, sym, ap, ◌∙◌, mod-lt, arith, rules}
 use Rattle.engine.specs.Stores.{copied, mid-copied}
 use Rattle.engine.specs.CellCount.{cell-count}
-use Rattle.engine.specs.Receiving.{receive-passed, storing, receiveOf, receivedState, receiveStore, receiveRecords}
+use Rattle.engine.specs.Receiving.{receive-passed, storing, receive_of, received_state, receive_store, receive_records}
 use Rattle.engine.specs.Sizes.{DATA_BYTES}
 use Rattle.engine.proofs.Shapes.{shaped}
 use Rattle.engine.proofs.receiving.receive.Statement.{statement}
@@ -31,7 +31,7 @@ same_length : tie.Need-same-length
 same_length c = search rules
 
 returns : tie.Need-returns
-unfolding receiveOf receiveStore receiveRecords
+unfolding receive_of receive_store receive_records
 returns c =
     let e = sym c.before.before.before.before.before.before.before.receive-verdict.ensures ∙ c.before.before.before.before.before.enum_told.given.1 in
     let r = sym c.before.before.is-repeat.ensures ∙ c.before.if1.true in
@@ -101,7 +101,7 @@ same-length-2 : tie.Need-same-length-2
 same-length-2 c = search rules
 
 returns-2 : tie.Need-returns-2
-unfolding receiveOf receiveStore receiveRecords
+unfolding receive_of receive_store receive_records
 returns-2 c =
     let e = sym c.before.before.before.receive-verdict.ensures ∙ c.before.verdict.given.1 in
     (simp e, (simp e, (simp e, simp e)))
@@ -113,7 +113,7 @@ same-length-4 : tie.Need-same-length-4
 same-length-4 c = search rules
 
 returns-3 : tie.Need-returns-3
-unfolding receiveOf receivedState receiveStore receiveRecords
+unfolding receive_of received_state receive_store receive_records
 returns-3 c =
     let a = c.before.before.before.before.before.before.before.before.before.before.before.before.before.before.before.before.before.before.before.before.before.args in
     let e = sym c.before.before.before.before.before.before.before.before.before.before.before.before.before.before.before.before.receive-verdict.ensures ∙ c.before.before.before.before.before.before.before.before.before.before.before.before.before.before.enum_told.given.1 in

@@ -1,7 +1,7 @@
 -- Each refusal by its own test.
 use Rattle.std.proofs.Common.{sym, ◌∙◌, rules}
 use borrow.Author.Tests.{not-true, not-false}
-use Rattle.engine.specs.Receiving.{receiveVerdict, sound-lent}
+use Rattle.engine.specs.Receiving.{receive_verdict, sound-lent}
 use Rattle.engine.proofs.receiving.receive_verdict.Statement.{statement}
 use Rattle.engine.proofs.receiving.receive_verdict.Tie as tie
 
@@ -9,14 +9,14 @@ lengths-ok-requires : tie.Need-lengths-ok-requires
 lengths-ok-requires c κs = search rules
 
 returns : tie.Need-returns
-unfolding receiveVerdict
+unfolding receive_verdict
 returns c = simp (sym c.before.lengths-ok.ensures ∙ not-true c.before.lengths-ok.result c.if1.true)
 
 is-sound-with-requires : tie.Need-is-sound-with-requires
 is-sound-with-requires c κs = search rules
 
 returns-2 : tie.Need-returns-2
-unfolding receiveVerdict
+unfolding receive_verdict
 returns-2 c =
     let long = sym c.before.before.before.lengths-ok.ensures ∙ not-false c.before.before.before.lengths-ok.result c.before.before.if1.false in
     simp (long, sym c.before.is-sound-with.ensures ∙ not-true c.before.is-sound-with.result c.if2.true)
@@ -25,7 +25,7 @@ message-verdict-requires : tie.Need-message-verdict-requires
 message-verdict-requires c κs = sound-lent c.before.before.before.before.before.args.s c.before.before.before.before.before.args.records.now (sym c.before.is-sound-with.ensures ∙ not-false c.before.is-sound-with.result c.if2.false)
 
 returns-3 : tie.Need-returns-3
-unfolding receiveVerdict
+unfolding receive_verdict
 returns-3 c =
     let long = sym c.before.before.before.before.lengths-ok.ensures ∙ not-false c.before.before.before.before.lengths-ok.result c.before.before.before.if1.false in
     let ok = sym c.before.before.is-sound-with.ensures ∙ not-false c.before.before.is-sound-with.result c.before.if2.false in

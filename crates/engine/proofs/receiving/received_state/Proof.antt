@@ -1,5 +1,5 @@
 -- The row and the two halves, each by its own promise.
-use Rattle.engine.specs.Receiving.{effectState}
+use Rattle.engine.specs.Receiving.{effect_state}
 use Rattle.std.proofs.Common.{rules}
 use Rattle.engine.proofs.receiving.received_state.Statement.{statement}
 use Rattle.engine.proofs.receiving.received_state.Tie as tie
@@ -17,7 +17,7 @@ effect-tx-requires : tie.Need-effect-tx-requires
 effect-tx-requires c κs = search rules
 
 returns : tie.Need-returns
-unfolding effectState
+unfolding effect_state
 returns c = simp (c.effect-tx.ensures, c.before.with_row.ensures, c.before.before.queue-ack.ensures, c.before.before.before.row-of.ensures)
 
 pub received-state-spec : {M : Type 1} → statement M

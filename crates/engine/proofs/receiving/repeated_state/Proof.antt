@@ -1,5 +1,5 @@
 -- The row's own promise, inside the state.
-use Rattle.engine.specs.Receiving.{repeatedState}
+use Rattle.engine.specs.Receiving.{repeated_state}
 use Rattle.std.proofs.Common.{rules}
 use Rattle.engine.proofs.receiving.repeated_state.Statement.{statement}
 use Rattle.engine.proofs.receiving.repeated_state.Tie as tie
@@ -14,7 +14,7 @@ with-row-requires : tie.Need-with-row-requires
 with-row-requires c κs = search rules
 
 returns : tie.Need-returns
-unfolding repeatedState
+unfolding repeated_state
 returns c = simp (c.with_row.ensures, c.before.queue-ack.ensures, c.before.before.row-of.ensures)
 
 pub repeated-state-spec : {M : Type 1} → statement M

@@ -1,6 +1,6 @@
 -- The word stays where what it says does.
 use Rattle.std.proofs.Common.{sym, rules}
-use Rattle.engine.specs.Records.{keptRecord}
+use Rattle.engine.specs.Records.{kept_record}
 use Rattle.engine.proofs.records.kept_record.Statement.{statement}
 use Rattle.engine.proofs.records.kept_record.Tie as tie
 
@@ -14,12 +14,12 @@ is-full-requires : tie.Need-is-full-requires
 is-full-requires c κs = search rules
 
 returns : tie.Need-returns
-unfolding keptRecord
+unfolding kept_record
 returns c =
     simp (sym c.before.before.before.held_of.ensures, sym c.before.before.kept.ensures, sym c.before.is-full.ensures, c.if1.true)
 
 returns-2 : tie.Need-returns-2
-unfolding keptRecord
+unfolding kept_record
 returns-2 c =
     simp (sym c.before.before.before.held_of.ensures, sym c.before.before.kept.ensures, sym c.before.is-full.ensures, c.if1.false)
 

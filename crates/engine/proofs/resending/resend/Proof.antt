@@ -1,7 +1,7 @@
 -- By the verdict.
 use Rattle.engine.proofs.Shapes.{shaped}
 use Rattle.std.proofs.Common.{sym, ◌∙◌, rules}
-use Rattle.engine.specs.Resending.{resendOf, resend-cell}
+use Rattle.engine.specs.Resending.{resend_of, resend-cell}
 use Rattle.engine.proofs.resending.resend.Statement.{statement}
 use Rattle.engine.proofs.resending.resend.Tie as tie
 
@@ -21,11 +21,11 @@ resent-state-requires : tie.Need-resent-state-requires
 resent-state-requires c κs = sym c.before.before.before.before.resend-verdict.ensures ∙ c.before.before.enum_told.given.1
 
 returns : tie.Need-returns
-unfolding resendOf
+unfolding resend_of
 returns c = let e = sym c.before.before.before.resend-verdict.ensures ∙ c.before.verdict.given.1 in (simp e, simp e)
 
 returns-2 : tie.Need-returns-2
-unfolding resendOf
+unfolding resend_of
 returns-2 c =
     let a = c.before.before.before.before.before.before.args in
     let e = sym c.before.before.before.before.before.resend-verdict.ensures ∙ c.before.before.before.enum_told.given.1 in

@@ -1,9 +1,9 @@
 -- In a sound state the link's unacked bytes stay small; the rest is each callee's promise.
 use Rattle.std.proofs.Common.{◌∙◌, rules}
-use Rattle.engine.specs.Table.{withPacket}
+use Rattle.engine.specs.Table.{with_packet}
 use Rattle.engine.proofs.resending.resent_state.Statement.{statement}
 use Rattle.engine.proofs.Shapes.{shaped}
-use Rattle.engine.specs.Resending.{resentState, resend-fits, resend-cell, resend-passed}
+use Rattle.engine.specs.Resending.{resent_state, resend-fits, resend-cell, resend-passed}
 use Rattle.engine.proofs.resending.resent_state.Tie as tie
 
 row-of-requires : tie.Need-row-of-requires
@@ -37,11 +37,11 @@ with-packet-requires : tie.Need-with-packet-requires
 with-packet-requires c κs = search rules
 
 requeue-requires : tie.Need-requeue-requires
-unfolding withPacket
+unfolding with_packet
 requeue-requires c κs = rw c.with-packet.ensures (resend-passed c.before.before.before.before.before.before.before.before.before.before.args.s c.before.before.before.before.before.before.before.before.before.before.args.slot c.before.before.before.before.before.before.before.before.before.before.args.time c.before.before.before.before.before.before.before.before.before.before.args.seq.0 (shaped c.before.before.before.before.before.before.before.before.before.before.args.s c.before.before.before.before.before.before.before.before.before.before.well-formed.0) c.before.before.before.before.before.before.before.before.before.before.well-formed.1.1.1.0.1.1.0.1 c.before.before.before.before.before.before.before.before.before.before.requires).timed.at.fine.packet-count
 
 returns : tie.Need-returns
-unfolding resentState
+unfolding resent_state
 returns c =
     let a = c.before.before.before.before.before.before.before.before.before.before.before.args in
     let cell = c.before.before.before.before.before.before.before.before.packet-of.ensures ∙ resend-cell a.s a.slot a.time a.seq.0 (shaped a.s c.before.before.before.before.before.before.before.before.before.before.before.well-formed.0) c.before.before.before.before.before.before.before.before.before.before.before.well-formed.1.1.1.0.1.1.0.1 c.before.before.before.before.before.before.before.before.before.before.before.requires in

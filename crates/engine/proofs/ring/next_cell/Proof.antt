@@ -2,14 +2,14 @@
 use Rattle.std.proofs.Common.{◌+◌, ltb, arith, rules, ltb-false, ltb-true, le-ltb}
 use borrow.Table.Steps.{cases}
 use Rattle.engine.proofs.ring.next_cell.Statement.{statement}
-use Rattle.engine.specs.Ring.{nextCell}
+use Rattle.engine.specs.Ring.{next_cell}
 use Rattle.engine.proofs.ring.next_cell.Tie as tie
 
 wrapping-add-usize-requires : tie.Need-wrapping-add-usize-requires
 wrapping-add-usize-requires c κs = search rules
 
 returns : tie.Need-returns
-unfolding nextCell
+unfolding next_cell
 returns c =
     let a = c.before.before.args in
     cases (ltb (a.at + 1) a.cells)
@@ -17,7 +17,7 @@ returns c =
     (λ t. let h = ltb-false (a.at + 1) a.cells t in simp t (omega arith))
 
 returns-2 : tie.Need-returns-2
-unfolding nextCell
+unfolding next_cell
 returns-2 c =
     let a = c.before.before.args in
     simp (le-ltb (a.at + 1) a.cells (omega arith))

@@ -4,7 +4,7 @@ use lib.ListN.{length-map}
 use lib.Seq.{set_out}
 use Rattle.link.specs.declared.row.LinkRow.{LinkRow}
 use Rattle.engine.specs.declared.state.State.{State}
-use Rattle.engine.specs.Fields.{withParts}
+use Rattle.engine.specs.Fields.{with_parts}
 use Rattle.engine.proofs.rows.with_row.Statement.{statement}
 use Rattle.engine.proofs.rows.with_row.Tie as tie
 
@@ -14,7 +14,7 @@ returns c =
     let s : State = a.s in
     let g = c.before.well-formed.0.1.1.0 in
     let h : length s.links ≡ 8 = simp length-map at g.1.0.1 in
-    ap {B = State} (λ (l : List LinkRow). withParts s l s.tx s.rx s.time)
+    ap {B = State} (λ (l : List LinkRow). with_parts s l s.tx s.rx s.time)
     (sym (set_out s.links a.slot a.row (omega (arith, c.if1.true))))
 
 mul-row : tie.Need-overflow-mul-row

@@ -1,7 +1,7 @@
 -- By the verdict; what was accepted has room, so that the copy stays within the cell.
 use Rattle.std.proofs.Common.{sym, ◌∙◌, arith, rules}
-use Rattle.engine.specs.Stores.{cellStart, mid-copied}
-use Rattle.engine.specs.Sending.{send-passed, sendOf, sendStore}
+use Rattle.engine.specs.Stores.{cell_start, mid-copied}
+use Rattle.engine.specs.Sending.{send-passed, send_of, send_store}
 use Rattle.engine.specs.Sizes.{PACKETS}
 use Rattle.engine.proofs.sending.send.Statement.{statement}
 use Rattle.engine.proofs.sending.send.Tie as tie
@@ -52,7 +52,7 @@ sent-state-requires c κs =
     p.room
 
 returns : tie.Need-returns
-unfolding sendOf sendStore
+unfolding send_of send_store
 returns c =
     let e = sym c.before.before.before.send-verdict.ensures ∙ c.before.verdict.given.1 in
     (simp e, (simp e, simp e))
@@ -61,11 +61,11 @@ same_length : tie.Need-same-length
 same_length c = search rules
 
 returns-2 : tie.Need-returns-2
-unfolding sendOf sendStore
+unfolding send_of send_store
 returns-2 c =
     let a = c.before.before.before.before.before.before.before.before.before.before.before.before.args in
     let e = sym c.before.before.before.before.before.before.before.before.before.send-verdict.ensures ∙ c.before.before.before.before.before.before.before.enum_told.given.1 in
-    (simp (e, c.sent-state.ensures), (simp e, simp e (mid-copied a.store.now a.payload.now _ (cellStart PACKETS a.s.tx.tx_seq.0) c.before.before.before.copy.ensures.1)))
+    (simp (e, c.sent-state.ensures), (simp e, simp e (mid-copied a.store.now a.payload.now _ (cell_start PACKETS a.s.tx.tx_seq.0) c.before.before.before.copy.ensures.1)))
 
 pub send-spec : {M : Type 1} → statement M
 send-spec =

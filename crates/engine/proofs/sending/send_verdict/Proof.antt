@@ -1,5 +1,5 @@
 -- The gates, in the order of the definition.
-use Rattle.engine.specs.Sending.{sendVerdict}
+use Rattle.engine.specs.Sending.{send_verdict}
 use Rattle.std.proofs.Common.{rules}
 use Rattle.engine.proofs.sending.send_verdict.Statement.{statement}
 use Rattle.engine.proofs.sending.send_verdict.Tie as tie
@@ -47,7 +47,7 @@ gate-requires-8 : tie.Need-gate-requires-8
 gate-requires-8 c κs = search rules
 
 returns : tie.Need-returns
-unfolding sendVerdict
+unfolding send_verdict
 returns c =
     simp (c.gate8.ensures, c.before.gate7.ensures, c.before.before.gate6.ensures, c.before.before.before.gate5.ensures, c.before.before.before.before.gate4.ensures, c.before.before.before.before.before.gate3.ensures, c.before.before.before.before.before.before.gate2.ensures, c.before.before.before.before.before.before.before.gate.ensures, c.before.before.before.before.before.before.before.before.before.totals-ok.ensures, c.before.before.before.before.before.before.before.before.before.before.open-ok.ensures, c.before.before.before.before.before.before.before.before.before.before.before.length-ok.ensures, c.before.before.before.before.before.before.before.before.before.before.before.before.slot_ok.ensures, c.before.before.before.before.before.before.before.before.before.before.before.before.before.time-ok.ensures, c.before.before.before.before.before.before.before.before.before.before.before.before.before.before.is-sound.ensures)
 

@@ -1,5 +1,5 @@
 -- The row, the two halves and the time, each by its own promise.
-use Rattle.engine.specs.Sending.{sentState}
+use Rattle.engine.specs.Sending.{sent_state}
 use Rattle.std.proofs.Common.{rules}
 use Rattle.engine.proofs.sending.sent_state.Statement.{statement}
 use Rattle.engine.proofs.sending.sent_state.Tie as tie
@@ -23,7 +23,7 @@ told-rx-requires : tie.Need-told-rx-requires
 told-rx-requires c κs = search rules
 
 returns : tie.Need-returns
-unfolding sentState
+unfolding sent_state
 returns c = simp (c.told-rx.ensures, c.before.sent-tx.ensures, c.before.before.with_row.ensures, c.before.before.before.with-unacked.ensures, c.before.before.before.before.before.before.before.row-of.ensures)
 
 pub sent-state-spec : {M : Type 1} → statement M

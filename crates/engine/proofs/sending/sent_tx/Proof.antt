@@ -1,7 +1,7 @@
 -- The next number's cell, and the sums.
 use Rattle.std.proofs.Common.{rules}
 use Rattle.engine.proofs.sending.sent_tx.Statement.{statement}
-use Rattle.engine.specs.Sending.{sentTx}
+use Rattle.engine.specs.Sending.{sent_tx}
 use Rattle.engine.proofs.sending.sent_tx.Tie as tie
 
 cast-at : tie.Need-overflow-cast-at
@@ -38,7 +38,7 @@ add-out-3 : tie.Need-overflow-add-out-3
 add-out-3 c = search rules
 
 returns : tie.Need-returns
-unfolding sentTx
+unfolding sent_tx
 returns c = simp (c.before.before.before.add.ensures, c.before.before.before.before.either.ensures, c.before.before.before.before.before.kind.ensures, c.before.before.before.before.before.before.new2.ensures, c.before.before.before.before.before.before.before.new.ensures)
 
 pub sent-tx-spec : {M : Type 1} → statement M

@@ -1,5 +1,5 @@
 -- The four tests, joined.
-use Rattle.engine.specs.Sending.{totalsOk}
+use Rattle.engine.specs.Sending.{totals_ok}
 use Rattle.std.proofs.Common.{rules}
 use Rattle.engine.proofs.sending.totals_ok.Statement.{statement}
 use Rattle.engine.proofs.sending.totals_ok.Tie as tie
@@ -29,7 +29,7 @@ both-requires-3 : tie.Need-both-requires-3
 both-requires-3 c κs = search rules
 
 returns : tie.Need-returns
-unfolding totalsOk
+unfolding totals_ok
 returns c =
     simp (c.both3.ensures, c.before.both2.ensures, c.before.before.both.ensures, c.before.before.before.told-ok.ensures, c.before.before.before.before.sum-fits3.ensures, c.before.before.before.before.before.row-of.ensures, c.before.before.before.before.before.before.sum-fits2.ensures, c.before.before.before.before.before.before.before.sum_fits.ensures)
 

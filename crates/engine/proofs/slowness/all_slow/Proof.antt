@@ -1,12 +1,12 @@
 -- The rows that are left to look at give the same answer at each turn.
 use Rattle.std.proofs.Common.{◌≡◌, ◌-◌, ◌≤◌, length, drop, sym, refl, ◌∙◌, arith, rules}
 use borrow.Author.Tests.{not-true, not-false}
-use Rattle.engine.specs.Slowness.{allSlow, all-slow-step, all-slow-end}
+use Rattle.engine.specs.Slowness.{all_slow, all-slow-step, all-slow-end}
 use Rattle.engine.proofs.slowness.all_slow.Statement.{statement}
 use Rattle.engine.proofs.slowness.all_slow.Tie as tie
 
 abbrev invariant-loop : tie.invariant-loop
-invariant-loop rows i₀ i = (i ≤ 8) × (allSlow (drop i rows) ≡ allSlow rows)
+invariant-loop rows i₀ i = (i ≤ 8) × (all_slow (drop i rows) ≡ all_slow rows)
 
 abbrev decreases-loop : tie.decreases-loop
 decreases-loop rows i₀ i = 8 - i

@@ -1,11 +1,11 @@
 -- What was found is the list of the slots passed.
 use Rattle.std.proofs.Common.{◌≡◌, ◌-◌, ◌≤◌, length, take, ap, ◌∙◌, arith, rules}
-use Rattle.engine.specs.Slowness.{overSlots, listedIn, note_step, note-end, note-room}
+use Rattle.engine.specs.Slowness.{over_slots, listed_in, note_step, note-end, note-room}
 use Rattle.engine.proofs.slowness.list_over.Statement.{statement}
 use Rattle.engine.proofs.slowness.list_over.Tie as tie
 
 abbrev invariant-loop : tie.invariant-loop
-invariant-loop rows found₀ slot₀ found slot = (slot ≤ 8) × (found ≡ listedIn (overSlots 0 (take slot rows)))
+invariant-loop rows found₀ slot₀ found slot = (slot ≤ 8) × (found ≡ listed_in (over_slots 0 (take slot rows)))
 
 abbrev decreases-loop : tie.decreases-loop
 decreases-loop rows found₀ slot₀ found slot = 8 - slot
@@ -14,7 +14,7 @@ none-listed-requires : tie.Need-none-listed-requires invariant-loop decreases-lo
 none-listed-requires c κs = tt
 
 loop-holds : tie.Need-loop-init invariant-loop decreases-loop
-unfolding overSlots
+unfolding over_slots
 loop-holds c = (omega arith, c.none-listed.ensures)
 
 cast-at : tie.Need-overflow-cast-at invariant-loop decreases-loop
@@ -50,7 +50,7 @@ returns c =
     let l = c.before.loop in
     let rows = c.before.before.before.args.t1 in
     let long : length rows ≡ 8 = search rules in
-    l.invariant.1 ∙ ap listedIn (note-end rows l.slot (omega arith))
+    l.invariant.1 ∙ ap listed_in (note-end rows l.slot (omega arith))
 
 pub list-over-spec : {M : Type 1} → statement M
 list-over-spec =

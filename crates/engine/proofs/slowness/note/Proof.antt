@@ -1,7 +1,7 @@
 -- Only the slot of a link that is over is put behind the others.
 use Rattle.std.proofs.Common.{sym, rules}
 use borrow.Author.Tests.{not-true, not-false}
-use Rattle.engine.specs.Slowness.{noteIn}
+use Rattle.engine.specs.Slowness.{note_in}
 use Rattle.engine.proofs.slowness.note.Statement.{statement}
 use Rattle.engine.proofs.slowness.note.Tie as tie
 
@@ -15,7 +15,7 @@ both-requires : tie.Need-both-requires
 both-requires c κs = search rules
 
 returns : tie.Need-returns
-unfolding noteIn
+unfolding note_in
 returns c =
     simp (sym c.before.before.before.is-confirmed.ensures, sym c.before.before.is-above-max-ping.ensures, sym c.before.both.ensures, not-true c.before.both.result c.if1.true)
 
@@ -26,7 +26,7 @@ add-out : tie.Need-overflow-add-out
 add-out c = search rules
 
 returns-2 : tie.Need-returns-2
-unfolding noteIn
+unfolding note_in
 returns-2 c =
     simp (sym c.before.before.before.is-confirmed.ensures, sym c.before.before.is-above-max-ping.ensures, sym c.before.both.ensures, not-false c.before.both.result c.if1.false)
 

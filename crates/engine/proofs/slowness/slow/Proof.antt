@@ -45,7 +45,7 @@ use Rattle.link.proofs.row.LinkRow.TheLaws as T'
 use Rattle.engine.specs.declared.slowness.SlowLinks.{SlowLinks}
 use Rattle.engine.specs.declared.slowness.SlowAnswer.{SlowAnswer}
 use Rattle.engine.specs.declared.slowness.SlowAnswer.TheVariants.{Listed, No}
-use Rattle.engine.specs.Slowness.{slowOf, eight, slowLinksOf, slowTold, slow-told}
+use Rattle.engine.specs.Slowness.{slow_of, eight, slow_links_of, slow_told, slow-told}
 use Rattle.engine.specs.contracts.slowness.SlowLinks as Lt
 use Rattle.engine.proofs.slowness.SlowLinks.TheLaws as LT'
 use Rattle.engine.specs.contracts.slowness.SlowAnswer as ST
@@ -68,13 +68,13 @@ other : (t : Bool) (a b : SlowAnswer) → Holds (not t) → b ≡ cond t a b
 other true a b z = absurd z
 other false a b z = refl
 
-refused : (ys : List LinkRow) → Holds (not (eqb (length ys) 8)) → No Slot ≡ slowLinksOf ys
-unfolding slowLinksOf
-refused ys z = other (eqb (length ys) 8) (Listed (slowOf ys)) (No Slot) z
+refused : (ys : List LinkRow) → Holds (not (eqb (length ys) 8)) → No Slot ≡ slow_links_of ys
+unfolding slow_links_of
+refused ys z = other (eqb (length ys) 8) (Listed (slow_of ys)) (No Slot) z
 
-accepted : (ys : List LinkRow) → length ys ≡ 8 → Listed (slowOf ys) ≡ slowLinksOf ys
-unfolding slowLinksOf
-accepted ys e = ap (λ (n : ℕ). cond (eqb n 8) (Listed (slowOf ys)) (No Slot)) (sym e)
+accepted : (ys : List LinkRow) → length ys ≡ 8 → Listed (slow_of ys) ≡ slow_links_of ys
+unfolding slow_links_of
+accepted ys e = ap (λ (n : ℕ). cond (eqb n 8) (Listed (slow_of ys)) (No Slot)) (sym e)
 
 -- ---- the machine values
 
@@ -90,23 +90,23 @@ made-slot = EL.owes RT.the_type RT'.the_laws Slot tt
 made-no : Is ST.the_row (No Slot) (EL.vals ST.the_type ST'.the_laws (No Slot))
 made-no = EL.owes ST.the_type ST'.the_laws (No Slot) (made-slot, tt)
 
-abbrev listedVal : Val → Val
-listedVal u = vstruct (vcons (vint w8 0) (vcons u vnil))
+abbrev listed_val : Val → Val
+listed_val u = vstruct (vcons (vint w8 0) (vcons u vnil))
 
-made-listed : (r : SlowLinks) (u : Val) → Is Lt.the_row r (u ∷ []) → Is ST.the_row (Listed r) (listedVal u ∷ [])
+made-listed : (r : SlowLinks) (u : Val) → Is Lt.the_row r (u ∷ []) → Is ST.the_row (Listed r) (listed_val u ∷ [])
 made-listed r u is =
     let e : u ≡ LL.val Lt.the_type LT'.the_laws r = ap only (LL.tells Lt.the_type LT'.the_laws r (u ∷ []) is) in
-    subst (λ (w : Val). Is ST.the_row (Listed r) (listedVal w ∷ [])) (sym e)
+    subst (λ (w : Val). Is ST.the_row (Listed r) (listed_val w ∷ [])) (sym e)
     (EL.owes ST.the_type ST'.the_laws (Listed r) (subst (λ (w : Val). Is Lt.the_row r (w ∷ [])) e is, tt))
 
 -- ---- the walk
 
 -- the locals' types, with where each stands
 module _ {M : Type 1} (𝓤 : Ura M) (H : Heap 𝓤) where
-  abbrev envOf : List Local → List ℕ → Env 𝓤 H
-  envOf [] ls = []
-  envOf (local τ h ∷ Ls) [] = []
-  envOf (local τ h ∷ Ls) (l ∷ ls) = (τ, l) ∷ envOf Ls ls
+  abbrev env_of : List Local → List ℕ → Env 𝓤 H
+  env_of [] ls = []
+  env_of (local τ h ∷ Ls) [] = []
+  env_of (local τ h ∷ Ls) (l ∷ ls) = (τ, l) ∷ env_of Ls ls
 
 module _ {M : Type 1} {𝓤 : Ura M} {𝓛 : Logic 𝓤} {K : Type 0} {Γ : List (Item 𝓤)} {E : Env 𝓤 𝓛.H} where
   -- a constant above 1,024 is written with a bound of its own
@@ -131,8 +131,8 @@ module _ {M : Type 1} {𝓤 : Ura M} (𝓛 : Logic 𝓤) (mem : Memory → SProp
   abbrev Rows : Contract 𝓤
   Rows = triple_of 𝓛 slow-rows.signature (slow-rows.spec 𝓛 mem run)
 
-  said : (rows : List LinkRow) (r : SlowLinks) → ent 𝓤 (ensured 𝓛 slow-rows.ended (slow-rows.clauses 𝓛 mem run) tt (rows, tt) tt r) (fact 𝓤 (r ≡ slowOf rows))
-  said rows r = ex_e 𝓤 _ (λ ws. snd∗ 𝓤 (sem 𝓛 (lasts slow-rows.ended tt (rows, tt) ws)) (fact 𝓤 (r ≡ slowOf rows)))
+  said : (rows : List LinkRow) (r : SlowLinks) → ent 𝓤 (ensured 𝓛 slow-rows.ended (slow-rows.clauses 𝓛 mem run) tt (rows, tt) tt r) (fact 𝓤 (r ≡ slow_of rows))
+  said rows r = ex_e 𝓤 _ (λ ws. snd∗ 𝓤 (sem 𝓛 (lasts slow-rows.ended tt (rows, tt) ws)) (fact 𝓤 (r ≡ slow_of rows)))
 
 module _ {M : Type 1} {𝓤 : Ura M} (𝓛 : Logic 𝓤) (mem : Memory → SProp 𝓤) (run : Routine → Fun 𝓤) (κ : Lft) (q : Share) (b o : ℕ) (γ : GName) (ys : List LinkRow) where
   open 𝓛 use {H}
@@ -160,26 +160,26 @@ module _ {M : Type 1} {𝓤 : Ura M} (𝓛 : Logic 𝓤) (mem : Memory → SProp
   points l p = ‵ (fat full_share ty_ptr l 0 (vptr b p))
 
   -- the types of the run's local and of a row's
-  abbrev runTy : Ty
-  runTy = slice_ty (ty_ref (named 0) imm (pointee (T.the_row).written))
+  abbrev run_ty : Ty
+  run_ty = slice_ty (ty_ref (named 0) imm (pointee (T.the_row).written))
 
-  abbrev rowTy : Ty
-  rowTy = lone (T.the_row).mir
+  abbrev row_ty : Ty
+  row_ty = lone (T.the_row).mir
 
   abbrev lent : ℕ → Item 𝓤
-  lent l = ‵ (fat full_share runTy l 0 (slice_val (b, o) (length ys)))
+  lent l = ‵ (fat full_share run_ty l 0 (slice_val (b, o) (length ys)))
 
   abbrev unread : Share → ℕ → ℕ → ℕ → List (Item 𝓤) → List (Item 𝓤)
-  unread q' l₁ l l' Γ = ‵ (elements T.the_row q' ys b o) ∷ lent l₁ ∷ ‵ (froom ty_ptr l 0) ∷ ‵ (froom rowTy l' 0) ∷ Γ
+  unread q' l₁ l l' Γ = ‵ (elements T.the_row q' ys b o) ∷ lent l₁ ∷ ‵ (froom ty_ptr l 0) ∷ ‵ (froom row_ty l' 0) ∷ Γ
 
   -- row i is read: where it lies goes into local j, and its copy into local j'
   copies : {l : ℕ} {K : Type 0} {Γ : List (Item 𝓤)} {E : Env 𝓤 H} {C : Calls 𝓤 H} {Λ : Loops 𝓤 H} {Q : Then 𝓤 H} {rest : Body} {j j' l₁ l' : ℕ} {n : Operand}
       → K → (q' : Share) (i : ℕ) → length ys ≡ 8 → Holds (ltb i 8)
       → Opd K 𝓛 (unread q' l₁ l l' Γ) E n (vint w64 (i * 344))
-      → (spot_of 𝓤 H E 1 ≡ (runTy, l₁, 0)) × (spot_of 𝓤 H E j ≡ (ty_ptr, l, 0)) × (spot_of 𝓤 H E j' ≡ (rowTy, l', 0))
-      → (IsRow (row i) → Seq K 𝓛 (‵ (elements T.the_row q' ys b o) ∷ lent l₁ ∷ points l (place 344 o i) ∷ ‵ (fat full_share rowTy l' 0 (row_val (row i))) ∷ Γ) (runs C Λ E rest Q))
+      → (spot_of 𝓤 H E 1 ≡ (run_ty, l₁, 0)) × (spot_of 𝓤 H E j ≡ (ty_ptr, l, 0)) × (spot_of 𝓤 H E j' ≡ (row_ty, l', 0))
+      → (IsRow (row i) → Seq K 𝓛 (‵ (elements T.the_row q' ys b o) ∷ lent l₁ ∷ points l (place 344 o i) ∷ ‵ (fat full_share row_ty l' 0 (row_val (row i))) ∷ Γ) (runs C Λ E rest Q))
       → Seq K 𝓛 (unread q' l₁ l l' Γ)
-      (runs C Λ E (seq (assign (spot j []) (op2 offset (copy (spot 1 (field 0 ∷ []))) n)) (seq (assign (spot j' []) (rv_opd (copy (spot j (deref rowTy ∷ []))))) rest)) Q)
+      (runs C Λ E (seq (assign (spot j []) (op2 offset (copy (spot 1 (field 0 ∷ []))) n)) (seq (assign (spot j' []) (rv_opd (copy (spot j (deref row_ty ∷ []))))) rest)) Q)
   copies {l} t q' i len z at_n e k =
       let lt : i < length ys = omega (arith, len, ltb→lt i 8 z) in
       assigns t (bin t (load t (from-local t e.0 (fld t refl (stop t))) (look_in t 1 (sub t 0 refl (whole t)))) at_n tt) (from-local t e.1 (stop t)) (init t 2 refl (tt, tt)) $
@@ -194,10 +194,10 @@ module _ {M : Type 1} {𝓤 : Ura M} (𝓛 : Logic 𝓤) (mem : Memory → SProp
   abbrev Post : Val → SProp 𝓤
   Post = (walk_of 𝓛 slow.ended stayed (slow.clauses 𝓛 mem run)).post (((κ, tt), (q, tt), tt, x, at), tt)
 
-  exits : (r : SlowAnswer) (u : Val) → r ≡ slowLinksOf ys → ent 𝓤 (⋆ 𝓛 (‵ (flft κ q) ∷ ‵ ((ShrSlice (named 0) κ T.the_row).own_val x.0 at.0) ∷ ‵ ((ST.the_row).own_val r (u ∷ [])) ∷ [])) (Post u)
+  exits : (r : SlowAnswer) (u : Val) → r ≡ slow_links_of ys → ent 𝓤 (⋆ 𝓛 (‵ (flft κ q) ∷ ‵ ((ShrSlice (named 0) κ T.the_row).own_val x.0 at.0) ∷ ‵ ((ST.the_row).own_val r (u ∷ [])) ∷ [])) (Post u)
   exits r u e =
       qed 𝓛 (‵ (flft κ q) ∷ ‵ ((ShrSlice (named 0) κ T.the_row).own_val x.0 at.0) ∷ ‵ ((ST.the_row).own_val r (u ∷ [])) ∷ []) ∵
-      suffices ! _ (ends_at 𝓛 slow.ended stayed (slow.clauses 𝓛 mem run) (((κ, tt), (q, tt), tt, x, at), tt) u r (tt, tt) (tt, tt)) $ says ! (e, ap slowTold e ∙ slow-told ys) $
+      suffices ! _ (ends_at 𝓛 slow.ended stayed (slow.clauses 𝓛 mem run) (((κ, tt), (q, tt), tt, x, at), tt) u r (tt, tt) (tt, tt)) $ says ! (e, ap slow_told e ∙ slow-told ys) $
       nothing ! $ move ! (1 ∷ 0 ∷ []) $ join ! $ nothing ! $ move ! (2 ∷ 0 ∷ []) $ fjoin ! $ move ! (1 ∷ 0 ∷ []) $ frame ! $ frame ! $ done !
 
   abbrev to : (Rows 𝓛 mem run).Ghost
@@ -223,7 +223,7 @@ module _ {M : Type 1} {𝓤 : Ura M} (𝓛 : Logic 𝓤) (mem : Memory → SProp
         split ! $ move ! (2 ∷ []) $ fsplit ! $ owned ! ST.the_row (Is ST.the_row) (EL.makes ST.the_type ST'.the_plain 𝓛) (No Slot) _ made-no $ keep ! (3 ∷ 1 ∷ 0 ∷ []) $ by ! (exits (No Slot) _ (refused ys z)))
         (λ z.
         let len : length ys ≡ 8 = eqb→eq (length ys) 8 (T_not-not (eqb (length ys) 8) z) in
-        let E : Env 𝓤 H = envOf 𝓤 H code.Mir.locals (l₀ ∷ l₁ ∷ l₂ ∷ l₃ ∷ l₄ ∷ l₅ ∷ l₆ ∷ l₇ ∷ l₈ ∷ l₉ ∷ l₁₀ ∷ l₁₁ ∷ l₁₂ ∷ l₁₃ ∷ l₁₄ ∷ l₁₅ ∷ l₁₆ ∷ l₁₇ ∷ l₁₈ ∷ l₁₉ ∷ l₂₀ ∷ l₂₁ ∷ l₂₂ ∷ []) in
+        let E : Env 𝓤 H = env_of 𝓤 H code.Mir.locals (l₀ ∷ l₁ ∷ l₂ ∷ l₃ ∷ l₄ ∷ l₅ ∷ l₆ ∷ l₇ ∷ l₈ ∷ l₉ ∷ l₁₀ ∷ l₁₁ ∷ l₁₂ ∷ l₁₃ ∷ l₁₄ ∷ l₁₅ ∷ l₁₆ ∷ l₁₇ ∷ l₁₈ ∷ l₁₉ ∷ l₂₀ ∷ l₂₁ ∷ l₂₂ ∷ []) in
         skips ! $ exec ! C Λ E code.Mir.t-4 (at_ret E Post) $
         move ! (47 ∷ []) $ fsplit ! $ fsplit ! $ move ! (1 ∷ []) $ fsplit ! $ move ! (50 ∷ []) $ split ! $ move ! (3 ∷ 0 ∷ []) $
         looks_slice ! tt T.the_row (Is T.the_row) (shows 𝓛 T.the_row) (LL.vals T.the_type T'.the_laws) (LL.tells T.the_type T'.the_laws) (LL.copy T.the_type T'.the_copy 𝓛) ys b o (λ q'.
@@ -244,7 +244,7 @@ module _ {M : Type 1} {𝓤 : Ura M} (𝓛 : Logic 𝓤) (mem : Memory → SProp
         use1 𝓛 (raw ((Rows 𝓛 mem run).pre to)) asked $
         calls_at ! fm (Rows 𝓛 mem run) known to (and_then ! (held ! 48 refl) (no_more !)) (λ u.
         use1 𝓛 (later (some (λ (r : SlowLinks). (‵ ftrue ⊛ ‵ ((Lt.the_row).own_val r (u ∷ []))) ⊛ raw (ensured 𝓛 slow-rows.ended (slow-rows.clauses 𝓛 mem run) tt (rows, tt) tt r)))) (id⊢ 𝓤 _) $ await ! tt $ pick ! (λ r.
-        split ! $ move ! (1 ∷ []) $ use1 𝓛 (raw (fact 𝓤 (r ≡ slowOf rows))) (said 𝓛 mem run rows r) $ heard ! (r ≡ slowOf rows) (λ e. split ! $ drop ! $
+        split ! $ move ! (1 ∷ []) $ use1 𝓛 (raw (fact 𝓤 (r ≡ slow_of rows))) (said 𝓛 mem run rows r) $ heard ! (r ≡ slow_of rows) (λ e. split ! $ drop ! $
         peeks ! Lt.the_row (Is Lt.the_row) (shows 𝓛 Lt.the_row) r (u ∷ []) (λ is.
         land ! (from ! (stop !)) (init ! 24 refl ((LL.lawful Lt.the_type LT'.the_laws 𝓛).typed r _ is).0) $
         -- the answer
@@ -252,7 +252,7 @@ module _ {M : Type 1} {𝓤 : Ura M} (𝓛 : Logic 𝓤) (mem : Memory → SProp
         returns ! (look ! 51 refl) $ move ! (51 ∷ 52 ∷ 2 ∷ 50 ∷ 48 ∷ 49 ∷ 46 ∷ 47 ∷ 44 ∷ 45 ∷ 42 ∷ 43 ∷ 17 ∷ 41 ∷ 18 ∷ 40 ∷ 15 ∷ 39 ∷ 16 ∷ 38 ∷ 13 ∷ 37 ∷ 14 ∷ 36 ∷ 11 ∷ 35 ∷ 12 ∷ 34 ∷ 9 ∷ 33 ∷ 10 ∷ 32 ∷ 7 ∷ 31 ∷ 8 ∷ 30 ∷ 5 ∷ 29 ∷ 6 ∷ 28 ∷ 3 ∷ 27 ∷ 4 ∷ 26 ∷ 24 ∷ 25 ∷ []) $
         free-full ! $ free-full ! $ free-full ! $ free-full ! $ free-full ! $ free1 ! $ free-full ! $ free-full ! $ free-full ! $ free-full ! $ free-full ! $ free-full ! $ free-full ! $ free-full ! $ free-full ! $ free-full ! $ free-full ! $ free-full ! $ free-full ! $ free-full ! $ free-full ! $ free-full ! $ free-full ! $ free0 ! $
         drop ! $ owned ! ST.the_row (Is ST.the_row) (EL.makes ST.the_type ST'.the_plain 𝓛) (Listed r) _ (made-listed r u is) $
-        move ! (4 ∷ 2 ∷ []) $ fjoin ! $ move ! (4 ∷ 0 ∷ []) $ fjoin ! $ keep ! (2 ∷ 0 ∷ 1 ∷ []) $ by ! (exits (Listed r) _ (ap Listed (e ∙ ap slowOf (sym (eight ys len))) ∙ accepted ys len)))))))))))))))))))))))))))))))))))))))
+        move ! (4 ∷ 2 ∷ []) $ fjoin ! $ move ! (4 ∷ 0 ∷ []) $ fjoin ! $ keep ! (2 ∷ 0 ∷ 1 ∷ []) $ by ! (exits (Listed r) _ (ap Listed (e ∙ ap slow_of (sym (eight ys len))) ∙ accepted ys len)))))))))))))))))))))))))))))))))))))))
 
 module _ {M : Type 1} {𝓤 : Ura M} (𝓛 : Logic 𝓤) (mem : Memory → SProp 𝓤) (run : Routine → Fun 𝓤) where
   open 𝓛 use {H}

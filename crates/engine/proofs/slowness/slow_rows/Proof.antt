@@ -1,6 +1,6 @@
 -- None where every confirmed link is slow, else those that are over.
 use Rattle.std.proofs.Common.{sym, ◌∙◌, rules}
-use Rattle.engine.specs.Slowness.{slowSlots, slowOf}
+use Rattle.engine.specs.Slowness.{slow_slots, slow_of}
 use Rattle.engine.proofs.slowness.slow_rows.Statement.{statement}
 use Rattle.engine.proofs.slowness.slow_rows.Tie as tie
 
@@ -11,14 +11,14 @@ none-listed-requires : tie.Need-none-listed-requires
 none-listed-requires c κs = search rules
 
 returns : tie.Need-returns
-unfolding slowOf slowSlots
+unfolding slow_of slow_slots
 returns c = c.none-listed.ensures ∙ simp (sym c.before.before.all-slow.ensures, c.before.if1.true)
 
 list-over-requires : tie.Need-list-over-requires
 list-over-requires c κs = search rules
 
 returns-2 : tie.Need-returns-2
-unfolding slowOf slowSlots
+unfolding slow_of slow_slots
 returns-2 c = c.List-over.ensures ∙ simp (sym c.before.before.all-slow.ensures, c.before.if1.false)
 
 pub slow-rows-spec : {M : Type 1} → statement M

@@ -1,11 +1,11 @@
 -- The slots that are left give the same answer at each turn.
 use Rattle.std.proofs.Common.{◌≡◌, ◌≤◌, sym, refl, ◌∙◌, arith}
-use Rattle.engine.specs.Found.{distinctBelow, distinct-step, distinct_none}
+use Rattle.engine.specs.Found.{distinct_below, distinct-step, distinct_none}
 use Rattle.engine.proofs.sound.distinct.Statement.{statement}
 use Rattle.engine.proofs.sound.distinct.Tie as tie
 
 abbrev invariant-loop : tie.invariant-loop
-invariant-loop roster left₀ left = (left ≤ 8) × (distinctBelow roster left ≡ distinctBelow roster 8)
+invariant-loop roster left₀ left = (left ≤ 8) × (distinct_below roster left ≡ distinct_below roster 8)
 
 abbrev decreases-loop : tie.decreases-loop
 decreases-loop roster left₀ left = left

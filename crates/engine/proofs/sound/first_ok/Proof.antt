@@ -1,11 +1,11 @@
 -- An empty table, or the first packet's status.
-use Rattle.engine.specs.Found.{firstOk}
+use Rattle.engine.specs.Found.{first_ok}
 use Rattle.std.proofs.Common.{arith, rules, eq-eqb, ne_eqb}
 use Rattle.engine.proofs.sound.first_ok.Statement.{statement}
 use Rattle.engine.proofs.sound.first_ok.Tie as tie
 
 returns : tie.Need-returns
-unfolding firstOk
+unfolding first_ok
 returns c = simp (eq-eqb _ _ c.if1.true)
 
 first-cell-requires : tie.Need-first-cell-requires
@@ -21,7 +21,7 @@ is-received-requires : tie.Need-is-received-requires
 is-received-requires c κs = search rules
 
 returns-2 : tie.Need-returns-2
-unfolding firstOk
+unfolding first_ok
 returns-2 c = simp (ne_eqb _ _ c.before.before.before.if1.false, c.is-received.ensures, c.before.before.first_Cell.ensures.0)
 
 pub first-ok-spec : {M : Type 1} → statement M

@@ -4,7 +4,7 @@ use borrow.Author.Tests.{not-true, not-false}
 use Rattle.refusal.specs.Tests.{and-true-first}
 use Rattle.engine.specs.CellCount.{cell-count}
 use Rattle.engine.specs.Received.{table_of}
-use Rattle.engine.specs.Decide.{soundb, sound, soundWithb, records-unlike}
+use Rattle.engine.specs.Decide.{soundb, sound, sound_withb, records-unlike}
 use Rattle.engine.specs.DecidedRecords.{found-records-same}
 use Rattle.engine.proofs.Shapes.{shaped}
 use Rattle.engine.proofs.sound.is_sound_with.Statement.{statement}
@@ -14,14 +14,14 @@ is-sound-requires : tie.Need-is-sound-requires
 is-sound-requires c κs = search rules
 
 returns : tie.Need-returns
-unfolding soundWithb
+unfolding sound_withb
 returns c = simp (sym c.before.is-sound.ensures ∙ not-true c.before.is-sound.result c.if1.true)
 
 cast-if2 : tie.Need-overflow-cast-if2
 cast-if2 c = search rules
 
 returns-2 : tie.Need-returns-2
-unfolding soundWithb
+unfolding sound_withb
 returns-2 c =
     let s = c.before.before.before.before.before.before.args.s in
     let ok : soundb s ≡ true = sym c.before.before.before.is-sound.ensures ∙ not-false c.before.before.before.is-sound.result c.before.before.if1.false in
@@ -35,7 +35,7 @@ found-records-requires c κs =
     record { lent = record { some = (cell-count s.rx.cells fine.cell-count).some; all = c.if2.false }; used = fine.used }
 
 returns-3 : tie.Need-returns-3
-unfolding soundWithb
+unfolding sound_withb
 returns-3 c =
     let s = c.before.before.before.before.before.before.before.args.s in
     let ok : soundb s ≡ true = sym c.before.before.before.before.is-sound.ensures ∙ not-false c.before.before.before.before.is-sound.result c.before.before.before.if1.false in

@@ -1,12 +1,12 @@
 -- An empty slot has no link; else both tests.
-use Rattle.engine.specs.Found.{rowOk}
+use Rattle.engine.specs.Found.{row_ok}
 use borrow.Author.Tests.{not-true, not-false}
 use Rattle.std.proofs.Common.{rules}
 use Rattle.engine.proofs.sound.row_ok.Statement.{statement}
 use Rattle.engine.proofs.sound.row_ok.Tie as tie
 
 returns : tie.Need-returns
-unfolding rowOk
+unfolding row_ok
 returns c = simp (not-true c.before.before.args.row.live c.if1.true)
 
 is-within-requires : tie.Need-is-within-requires
@@ -16,7 +16,7 @@ both-requires : tie.Need-both-requires
 both-requires c κs = search rules
 
 returns-2 : tie.Need-returns-2
-unfolding rowOk
+unfolding row_ok
 returns-2 c = simp (not-false c.before.before.before.before.before.args.row.live c.before.before.before.if1.false, c.both.ensures, c.before.is_Within.ensures)
 
 pub row-ok-spec : {M : Type 1} → statement M

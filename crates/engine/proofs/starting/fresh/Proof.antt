@@ -2,7 +2,7 @@
 use Rattle.std.proofs.Common.{◌≡◌, ℕ, sym, ◌∙◌, arith, rules}
 use Rattle.refusal.specs.declared.Refusal.{Refusal}
 use Rattle.engine.specs.declared.answer.Outcome.TheVariants.{Done, No}
-use Rattle.engine.specs.Starting.{fresh_of, freshRecords, refused-unsound}
+use Rattle.engine.specs.Starting.{fresh_of, fresh_records, refused-unsound}
 use Rattle.engine.proofs.starting.fresh.Statement.{statement}
 use Rattle.engine.proofs.starting.fresh.Tie as tie
 
@@ -29,7 +29,7 @@ fresh-state-requires-2 : tie.Need-fresh-state-requires-2
 fresh-state-requires-2 c κs = search rules
 
 returns : tie.Need-returns
-unfolding fresh_of freshRecords
+unfolding fresh_of fresh_records
 returns c =
     let no = sym c.before.before.before.before.fresh-verdict.ensures ∙ c.before.before.verdict.given.1 in (
       simp (no, c.fresh-state.ensures),
@@ -40,7 +40,7 @@ same_length : tie.Need-same-length
 same_length c = search rules
 
 returns-2 : tie.Need-returns-2
-unfolding fresh_of freshRecords
+unfolding fresh_of fresh_records
 returns-2 c =
     let pass = sym c.before.before.before.before.before.before.before.fresh-verdict.ensures ∙ c.before.before.before.before.before.enum_told.given.1 in (
       simp (pass, c.fresh-state2.ensures),

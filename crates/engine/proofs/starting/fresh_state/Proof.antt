@@ -1,5 +1,5 @@
 -- Eight empty rows and the two halves.
-use Rattle.engine.specs.Starting.{freshState}
+use Rattle.engine.specs.Starting.{fresh_state}
 use Rattle.std.proofs.Common.{rules}
 use Rattle.engine.proofs.starting.fresh_state.Statement.{statement}
 use Rattle.engine.proofs.starting.fresh_state.Tie as tie
@@ -14,7 +14,7 @@ fresh-rx-requires : tie.Need-fresh-rx-requires
 fresh-rx-requires c κs = search rules
 
 returns : tie.Need-returns
-unfolding freshState
+unfolding fresh_state
 returns c = simp (c.fresh-rx.ensures, c.before.fresh-tx.ensures, c.before.before.empty.ensures)
 
 pub fresh-state-spec : {M : Type 1} → statement M

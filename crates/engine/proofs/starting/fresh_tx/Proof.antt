@@ -1,7 +1,7 @@
 -- All else empty, zero or false.
 use Rattle.std.proofs.Common.{rules}
 use Rattle.engine.proofs.starting.fresh_tx.Statement.{statement}
-use Rattle.engine.specs.Starting.{freshTx}
+use Rattle.engine.specs.Starting.{fresh_tx}
 use Rattle.engine.proofs.starting.fresh_tx.Tie as tie
 
 new-requires : tie.Need-new-requires
@@ -14,7 +14,7 @@ sub-requires : tie.Need-sub-requires
 sub-requires c κs = search rules
 
 returns : tie.Need-returns
-unfolding freshTx
+unfolding fresh_tx
 returns c = simp (c.sub.ensures, c.before.new2.ensures, c.before.before.new.ensures)
 
 pub fresh-tx-spec : {M : Type 1} → statement M

@@ -1,5 +1,5 @@
 -- The gates, in the order of the request.
-use Rattle.engine.specs.Starting.{freshVerdict}
+use Rattle.engine.specs.Starting.{fresh_verdict}
 use Rattle.std.proofs.Common.{rules}
 use Rattle.engine.proofs.starting.fresh_verdict.Statement.{statement}
 use Rattle.engine.proofs.starting.fresh_verdict.Tie as tie
@@ -23,7 +23,7 @@ gate-requires-2 : tie.Need-gate-requires-2
 gate-requires-2 c κs = search rules
 
 returns : tie.Need-returns
-unfolding freshVerdict
+unfolding fresh_verdict
 returns c =
     simp (c.gate2.ensures, c.before.both2.ensures, c.before.before.is-cell-count.ensures, c.before.before.before.gate.ensures, c.before.before.before.before.both.ensures)
 

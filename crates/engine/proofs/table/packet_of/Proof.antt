@@ -1,5 +1,5 @@
 -- The cell of the number.
-use Rattle.engine.specs.Table.{packetOf}
+use Rattle.engine.specs.Table.{packet_of}
 use Rattle.std.proofs.Common.{rules}
 use Rattle.engine.proofs.table.packet_of.Statement.{statement}
 use Rattle.engine.proofs.table.packet_of.Tie as tie
@@ -14,7 +14,7 @@ element-copy-out-result : tie.Need-element-copy-out-result
 element-copy-out-result c = search rules
 
 returns : tie.Need-returns
-unfolding packetOf
+unfolding packet_of
 returns c = search rules
 
 pub packet-of-spec : {M : Type 1} → statement M

@@ -1,5 +1,5 @@
 -- The cell of the number.
-use Rattle.engine.specs.Table.{withPacket}
+use Rattle.engine.specs.Table.{with_packet}
 use Rattle.std.proofs.Common.{rules}
 use Rattle.engine.proofs.table.with_packet.Statement.{statement}
 use Rattle.engine.proofs.table.with_packet.Tie as tie
@@ -14,7 +14,7 @@ element-set-from-p : tie.Need-element-set-from-p
 element-set-from-p c = search rules
 
 returns : tie.Need-returns
-unfolding withPacket
+unfolding with_packet
 returns c = search rules
 
 pub with-packet-spec : {M : Type 1} → statement M

@@ -1,5 +1,5 @@
 -- Unconfirmed, and then the slot emptied.
-use Rattle.engine.specs.Unconfirming.{removedState}
+use Rattle.engine.specs.Unconfirming.{removed_state}
 use Rattle.engine.proofs.unconfirming.removed_state.Statement.{statement}
 use Rattle.engine.proofs.unconfirming.removed_state.Tie as tie
 
@@ -13,7 +13,7 @@ with-row-requires : tie.Need-with-row-requires
 with-row-requires c κs = tt
 
 returns : tie.Need-returns
-unfolding removedState
+unfolding removed_state
 returns c = simp (c.with_row.ensures, c.before.empty.ensures, c.before.before.unconfirmed-state.ensures)
 
 pub removed-state-spec : {M : Type 1} → statement M

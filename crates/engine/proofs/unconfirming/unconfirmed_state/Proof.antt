@@ -1,6 +1,6 @@
 -- Each part by its own promise.
-use Rattle.engine.specs.Unconfirming.{unconfirmedState}
-use Rattle.engine.specs.Table.{withTable}
+use Rattle.engine.specs.Unconfirming.{unconfirmed_state}
+use Rattle.engine.specs.Table.{with_table}
 use Rattle.std.proofs.Common.{rules}
 use Rattle.engine.proofs.unconfirming.unconfirmed_state.Statement.{statement}
 use Rattle.engine.proofs.unconfirming.unconfirmed_state.Tie as tie
@@ -24,7 +24,7 @@ requeue-requires : tie.Need-requeue-requires
 requeue-requires c κs = c.before.before.before.before.before.before.before.requires
 
 returns : tie.Need-returns
-unfolding unconfirmedState withTable
+unfolding unconfirmed_state with_table
 returns c = simp (c.requeue.ensures, c.before.with_row.ensures, c.before.before.unconfirm-packets.ensures, c.before.before.before.before.first_Cell.ensures.0, c.before.before.before.before.before.before.unconfirm.ensures, c.before.before.before.before.before.before.before.row-of.ensures)
 
 pub unconfirmed-state-spec : {M : Type 1} → statement M

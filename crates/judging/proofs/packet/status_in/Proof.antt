@@ -1,8 +1,8 @@
 -- By the tag.
 use Rattle.std.proofs.Common.{◌≡◌, ◌%◌, ◌<◌, eqb, get_or, sym, ap, ◌∙◌, arith, rules}
 use Rattle.seq.specs.declared.Seq.{Seq}
-use Rattle.seq.specs.Numbers.{seqOf}
-use Rattle.engine.specs.Roster.{rosterOf}
+use Rattle.seq.specs.Numbers.{seq_of}
+use Rattle.engine.specs.Roster.{roster_of}
 use Rattle.words.specs.Meaning.{state_of}
 use Rattle.judging.specs.declared.packet.Weight.TheVariants.{Flying, Settled, Waiting}
 use Rattle.judging.specs.Weights.{tag-settled, tag-waiting, tag-unqueued, tag-none, tag-flying, tag-grounded}
@@ -31,8 +31,8 @@ returns : tie.Need-returns
 returns c =
     let a = c.before.before.before.before.before.before.before.before.before.before.args in
     let s = state_of a.words.now in
-    let q = get_or s.tx.resend_queue (a.queued % 64) (seqOf 0) in
-    let r = rosterOf s.links in
+    let q = get_or s.tx.resend_queue (a.queued % 64) (seq_of 0) in
+    let r = roster_of s.links in
     let x = a.part.now in
     let l : 0 < get_or x 2 0 = omega arith in
     let m : get_or x 2 0 < 3 = omega arith in
@@ -42,8 +42,8 @@ returns-2 : tie.Need-returns-2
 returns-2 c =
     let a = c.before.before.before.before.before.before.before.before.before.before.args in
     let s = state_of a.words.now in
-    let q = get_or s.tx.resend_queue (a.queued % 64) (seqOf 0) in
-    let r = rosterOf s.links in
+    let q = get_or s.tx.resend_queue (a.queued % 64) (seq_of 0) in
+    let r = roster_of s.links in
     let x = a.part.now in
     let l : 0 < get_or x 2 0 = omega arith in
     let m : get_or x 2 0 < 3 = omega arith in
@@ -53,8 +53,8 @@ returns-3 : tie.Need-returns-3
 returns-3 c =
     let a = c.before.before.before.before.before.before.before.before.args in
     let s = state_of a.words.now in
-    let q = get_or s.tx.resend_queue (a.queued % 64) (seqOf 0) in
-    let r = rosterOf s.links in
+    let q = get_or s.tx.resend_queue (a.queued % 64) (seq_of 0) in
+    let r = roster_of s.links in
     let x = a.part.now in
     ap Settled c.before.before.before.before.length-in.ensures ∙ sym (tag-settled a.n q r a.time x c.if3.true)
 
@@ -62,8 +62,8 @@ returns-4 : tie.Need-returns-4
 returns-4 c =
     let a = c.before.before.before.before.before.before.before.before.before.args in
     let s = state_of a.words.now in
-    let q = get_or s.tx.resend_queue (a.queued % 64) (seqOf 0) in
-    let r = rosterOf s.links in
+    let q = get_or s.tx.resend_queue (a.queued % 64) (seq_of 0) in
+    let r = roster_of s.links in
     let x = a.part.now in
     let e : get_or x 2 0 ≡ 4 → ⊥ = c.if4.true in
     sym (tag-none a.n q r a.time x (λ h. omega arith) (λ h. omega arith) (λ h. omega arith) e)
@@ -78,8 +78,8 @@ returns-5 : tie.Need-returns-5
 returns-5 c =
     let a = c.before.before.before.before.before.before.before.before.before.before.before.before.args in
     let s = state_of a.words.now in
-    let q = get_or s.tx.resend_queue (a.queued % 64) (seqOf 0) in
-    let r = rosterOf s.links in
+    let q = get_or s.tx.resend_queue (a.queued % 64) (seq_of 0) in
+    let r = roster_of s.links in
     let x = a.part.now in
     let t : get_or x 2 0 ≡ 4 = omega arith in
     ap Waiting c.before.before.before.before.before.before.before.before.length-in.ensures ∙ sym (tag-waiting a.n q r a.time x t (ap (λ (m : Seq). eqb m.0 a.n.0) (sym c.before.before.queued-at.ensures) ∙ sym c.before.eq.ensures ∙ c.if5.true))
@@ -88,8 +88,8 @@ returns-6 : tie.Need-returns-6
 returns-6 c =
     let a = c.before.before.before.before.before.before.before.before.before.before.before.before.args in
     let s = state_of a.words.now in
-    let q = get_or s.tx.resend_queue (a.queued % 64) (seqOf 0) in
-    let r = rosterOf s.links in
+    let q = get_or s.tx.resend_queue (a.queued % 64) (seq_of 0) in
+    let r = roster_of s.links in
     let x = a.part.now in
     let t : get_or x 2 0 ≡ 4 = omega arith in
     sym (tag-unqueued a.n q r a.time x t (ap (λ (m : Seq). eqb m.0 a.n.0) (sym c.before.before.queued-at.ensures) ∙ sym c.before.eq.ensures ∙ c.if5.false))

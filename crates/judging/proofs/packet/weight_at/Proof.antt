@@ -1,11 +1,11 @@
 -- The packet of the part.
 use Rattle.std.proofs.Common.{◌%◌, get_or, ap, ◌∙◌, rules}
-use Rattle.seq.specs.Numbers.{seqOf}
+use Rattle.seq.specs.Numbers.{seq_of}
 use Rattle.engine.specs.declared.state.SentReliable.{SentReliable}
-use Rattle.engine.specs.Roster.{rosterOf}
+use Rattle.engine.specs.Roster.{roster_of}
 use Rattle.words.specs.Meaning.{state_of}
 use Rattle.words.specs.Read.{packet-got}
-use Rattle.judging.specs.Weights.{weightOf}
+use Rattle.judging.specs.Weights.{weight_of}
 use Rattle.judging.proofs.packet.weight_at.Statement.{statement}
 use Rattle.judging.proofs.packet.weight_at.Tie as tie
 
@@ -38,7 +38,7 @@ returns c =
     let a = c.before.before.before.args in
     let s = state_of a.words.now in
     c.weight-in.ensures
-    ∙ ap (λ (p : SentReliable). weightOf p a.n (get_or s.tx.resend_queue (a.queued % 64) (seqOf 0)) (rosterOf s.links) a.time) (packet-got a.words.now c.before.before.before.requires.0 a.at c.before.before.before.requires.1)
+    ∙ ap (λ (p : SentReliable). weight_of p a.n (get_or s.tx.resend_queue (a.queued % 64) (seq_of 0)) (roster_of s.links) a.time) (packet-got a.words.now c.before.before.before.requires.0 a.at c.before.before.before.requires.1)
 
 pub weight-at-spec : {M : Type 1} → statement M
 weight-at-spec =

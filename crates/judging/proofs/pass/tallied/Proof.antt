@@ -1,28 +1,28 @@
 -- What is left of the table, weighed on top of the tally so far, gives the same tally at each turn; a packet that is not well spoils it.
 use Rattle.std.proofs.Common.{◌≡◌, ◌%◌, true, get_or, set, sym, refl, ap, ◌∙◌, ⊎_elim, arith, rules}
 use Rattle.seq.specs.declared.Seq.{Seq}
-use Rattle.seq.specs.Numbers.{seqOf, plus}
+use Rattle.seq.specs.Numbers.{seq_of, plus}
 use Rattle.engine.specs.declared.packets.Tally.{Tally}
-use Rattle.engine.specs.Packets.{noPacket}
-use Rattle.engine.specs.Ring.{nextCell}
-use Rattle.engine.specs.Roster.{rosterOf}
+use Rattle.engine.specs.Packets.{no_packet}
+use Rattle.engine.specs.Ring.{next_cell}
+use Rattle.engine.specs.Roster.{roster_of}
 use Rattle.engine.specs.Sizes.{PACKETS}
-use Rattle.engine.specs.Tally.{noTally, tally_of, tally-none}
+use Rattle.engine.specs.Tally.{no_tally, tally_of, tally-none}
 use Rattle.words.specs.Meaning.{state_of}
-use Rattle.judging.specs.Weights.{weightOf, clipped, clipped-well, next-number, passFrom, wrong-turn, flying-turn, settled-turn, waiting-turn}
+use Rattle.judging.specs.Weights.{weight_of, clipped, clipped-well, next-number, pass_from, wrong-turn, flying-turn, settled-turn, waiting-turn}
 use Rattle.judging.proofs.pass.tallied.Statement.{statement}
 use Rattle.judging.proofs.pass.tallied.Tie as tie
 
 abbrev invariant-loop : tie.invariant-loop
 invariant-loop words count time on₀ unacked₀ unconsumable₀ queued₀ left₀ n₀ on unacked unconsumable queued left n =
-    clipped (passFrom (state_of words) (n.0 % 64) left n (record { ok = true; on = on; unacked = unacked; unconsumable = unconsumable; queued = queued })) ≡ clipped (tally_of (state_of words).tx (rosterOf (state_of words).links) (state_of words).time)
+    clipped (pass_from (state_of words) (n.0 % 64) left n (record { ok = true; on = on; unacked = unacked; unconsumable = unconsumable; queued = queued })) ≡ clipped (tally_of (state_of words).tx (roster_of (state_of words).links) (state_of words).time)
 
 abbrev decreases-loop : tie.decreases-loop
 decreases-loop words count time on₀ unacked₀ unconsumable₀ queued₀ left₀ n₀ on unacked unconsumable queued left n = left
 
 loop-holds : tie.Need-loop-init invariant-loop decreases-loop
 unfolding tally_of
-loop-holds c = λ i. clipped (passFrom (state_of c.before.args.words.now) ((c.before.requires.2 i).0 % 64) (c.before.requires.1 i) (c.before.requires.2 i) noTally)
+loop-holds c = λ i. clipped (pass_from (state_of c.before.args.words.now) ((c.before.requires.2 i).0 % 64) (c.before.requires.1 i) (c.before.requires.2 i) no_tally)
 
 cast-at : tie.Need-overflow-cast-at invariant-loop decreases-loop
 cast-at c = omega arith
@@ -40,7 +40,7 @@ returns : tie.Need-returns invariant-loop decreases-loop
 returns c =
     let s = state_of c.before.before.before.before.before.before.before.before.args.words.now in
     let l = c.before.before.before.before.before.before.loop in
-    let e = c.before.before.before.weight-at.ensures ∙ ap (λ m. weightOf (get_or s.tx.txed_packets (l.n.0 % 64) noPacket) l.n (get_or s.tx.resend_queue (l.queued % 64) (seqOf 0)) (rosterOf s.links) m) c.before.before.before.before.before.before.before.before.requires.3 in
+    let e = c.before.before.before.weight-at.ensures ∙ ap (λ m. weight_of (get_or s.tx.txed_packets (l.n.0 % 64) no_packet) l.n (get_or s.tx.resend_queue (l.queued % 64) (seq_of 0)) (roster_of s.links) m) c.before.before.before.before.before.before.before.before.requires.3 in
     c.spoilt.ensures ∙ sym (wrong-turn s (l.n.0 % 64) l.left l.n (record { ok = true; on = l.on; unacked = l.unacked; unconsumable = l.unconsumable; queued = l.queued }) c.before.before.before.before.before.loop-test.true (sym e ∙ c.before.enum_told.given.1)) ∙ l.invariant
 
 enum-known-w : tie.Need-enum-known-w invariant-loop decreases-loop
@@ -96,8 +96,8 @@ loop-again c =
     let t : Tally = record { ok = true; on = l.on; unacked = l.unacked; unconsumable = l.unconsumable; queued = l.queued } in
     let m = c.before.match in
     let t2 : Tally = record { ok = true; on = m.on; unacked = m.unacked; unconsumable = m.unconsumable; queued = m.queued } in
-    let e = c.before.before.weight-at.ensures ∙ ap (λ m. weightOf (get_or s.tx.txed_packets (l.n.0 % 64) noPacket) l.n (get_or s.tx.resend_queue (l.queued % 64) (seqOf 0)) (rosterOf s.links) m) c.before.before.before.before.before.before.before.requires.3 in
-    let a : c.add.result.0 % 64 ≡ nextCell PACKETS (l.n.0 % 64) = ap (λ (n : Seq). n.0 % 64) c.add.ensures ∙ next-number l.n.0 in
+    let e = c.before.before.weight-at.ensures ∙ ap (λ m. weight_of (get_or s.tx.txed_packets (l.n.0 % 64) no_packet) l.n (get_or s.tx.resend_queue (l.queued % 64) (seq_of 0)) (roster_of s.links) m) c.before.before.before.before.before.before.before.requires.3 in
+    let a : c.add.result.0 % 64 ≡ next_cell PACKETS (l.n.0 % 64) = ap (λ (n : Seq). n.0 % 64) c.add.ensures ∙ next-number l.n.0 in
     ⊎_elim
     (λ x.
     ap clipped (flying-turn s (l.n.0 % 64) l.left l.n t c.before.before.before.before.loop-test.true refl (c.add.result.0 % 64) c.add.result t2 a c.add.ensures x.1.given.0.0 x.1.given.0.1.0 (sym e ∙ x.1.given.1) (λ i. record { ok = true; on = (x.5 ∙ ap (set l.on (x.1.given.0.0 % 8)) x.3.ensures) i; unacked = (x.6 ∙ x.4.ensures) i; unconsumable = x.7 i; queued = x.8 i })) ∙ l.invariant)
@@ -113,7 +113,7 @@ returns-2 c =
     let s = state_of c.before.before.before.args.words.now in
     let l = c.before.loop in
     let t : Tally = record { ok = true; on = l.on; unacked = l.unacked; unconsumable = l.unconsumable; queued = l.queued } in
-    sym (clipped-well t refl) ∙ ap clipped (sym (tally-none s.tx.resend_queue (rosterOf s.links) s.time s.tx.txed_packets (l.n.0 % 64) l.left l.n.0 t c.loop-test.false)) ∙ l.invariant
+    sym (clipped-well t refl) ∙ ap clipped (sym (tally-none s.tx.resend_queue (roster_of s.links) s.time s.tx.txed_packets (l.n.0 % 64) l.left l.n.0 t c.loop-test.false)) ∙ l.invariant
 
 pub tallied-spec : {M : Type 1} → statement M
 tallied-spec =

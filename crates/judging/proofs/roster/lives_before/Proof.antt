@@ -1,12 +1,12 @@
 -- The slots that are left to look at give the same answer at each turn.
 use Rattle.std.proofs.Common.{◌≡◌, sym, refl, ◌∙◌, arith}
-use Rattle.engine.specs.Roster.{rosterOf, livesBefore, lives-step, lives-none}
+use Rattle.engine.specs.Roster.{roster_of, lives_before, lives-step, lives-none}
 use Rattle.words.specs.Meaning.{state_of}
 use Rattle.judging.proofs.roster.lives_before.Statement.{statement}
 use Rattle.judging.proofs.roster.lives_before.Tie as tie
 
 abbrev invariant-loop : tie.invariant-loop
-invariant-loop words n id left₀ left = livesBefore (rosterOf (state_of words).links) left id ≡ livesBefore (rosterOf (state_of words).links) n id
+invariant-loop words n id left₀ left = lives_before (roster_of (state_of words).links) left id ≡ lives_before (roster_of (state_of words).links) n id
 
 abbrev decreases-loop : tie.decreases-loop
 decreases-loop words n id left₀ left = left
@@ -24,7 +24,7 @@ returns : tie.Need-returns invariant-loop decreases-loop
 returns c =
     let a = c.before.before.before.before.before.args in
     let l = c.before.before.before.loop in
-    sym (lives-step (rosterOf (state_of a.words.now).links) a.id l.left c.before.before.loop-test.true ∙ simp (sym c.before.lives-in.ensures, c.if1.true)) ∙ l.invariant
+    sym (lives-step (roster_of (state_of a.words.now).links) a.id l.left c.before.before.loop-test.true ∙ simp (sym c.before.lives-in.ensures, c.if1.true)) ∙ l.invariant
 
 loop-less : tie.Need-loop-smaller invariant-loop decreases-loop
 loop-less c = omega arith
@@ -33,12 +33,12 @@ loop-again : tie.Need-loop-preserved invariant-loop decreases-loop
 loop-again c =
     let a = c.before.before.before.before.before.args in
     let l = c.before.before.before.loop in
-    sym (lives-step (rosterOf (state_of a.words.now).links) a.id l.left c.before.before.loop-test.true ∙ simp (sym c.before.lives-in.ensures, c.if1.false)) ∙ l.invariant
+    sym (lives-step (roster_of (state_of a.words.now).links) a.id l.left c.before.before.loop-test.true ∙ simp (sym c.before.lives-in.ensures, c.if1.false)) ∙ l.invariant
 
 returns-2 : tie.Need-returns-2 invariant-loop decreases-loop
 returns-2 c =
     let a = c.before.before.before.args in
-    sym (lives-none (rosterOf (state_of a.words.now).links) a.id c.before.loop.left c.loop-test.false) ∙ c.before.loop.invariant
+    sym (lives-none (roster_of (state_of a.words.now).links) a.id c.before.loop.left c.loop-test.false) ∙ c.before.loop.invariant
 
 pub lives-before-spec : {M : Type 1} → statement M
 lives-before-spec =

@@ -1,14 +1,14 @@
 -- Past the eight, or by its row.
 use Rattle.std.proofs.Common.{eqb, sym, ap, ◌∙◌, rules, le-ltb}
 use borrow.Author.Tests.{not-true, not-false}
-use Rattle.engine.specs.Roster.{livesIn}
+use Rattle.engine.specs.Roster.{lives_in}
 use Rattle.words.specs.Meaning.{state_of}
 use Rattle.judging.specs.Words.{lives-none, lives-some}
 use Rattle.judging.proofs.roster.lives_in.Statement.{statement}
 use Rattle.judging.proofs.roster.lives_in.Tie as tie
 
 returns : tie.Need-returns
-unfolding livesIn
+unfolding lives_in
 returns c = simp (le-ltb _ _ c.if1.true)
 
 is-live-requires : tie.Need-is-live-requires

@@ -4,9 +4,9 @@ use borrow.Author.Tests.{not-true, not-false}
 use Rattle.refusal.specs.Tests.{and-true-first}
 use Rattle.engine.specs.declared.state.Receiving.{Receiving}
 use Rattle.engine.specs.CellCount.{cell-count}
-use Rattle.engine.specs.CellTally.{Judged, foundRecords}
+use Rattle.engine.specs.CellTally.{Judged, found_records}
 use Rattle.engine.specs.Received.{table_of}
-use Rattle.engine.specs.Decide.{soundb, sound, soundWithb, records-unlike}
+use Rattle.engine.specs.Decide.{soundb, sound, sound_withb, records-unlike}
 use Rattle.engine.specs.DecidedRecords.{found-records-same}
 use Rattle.words.specs.Meaning.{state_of}
 use Rattle.words.specs.Ready.{shaped-words}
@@ -18,7 +18,7 @@ is-sound-requires : tie.Need-is-sound-requires
 is-sound-requires c κs = search rules
 
 returns : tie.Need-returns
-unfolding soundWithb
+unfolding sound_withb
 returns c = simp (sym c.before.is-sound.ensures ∙ not-true c.before.is-sound.result c.if1.true)
 
 rx-of-requires : tie.Need-rx-of-requires
@@ -31,7 +31,7 @@ cast-if2 : tie.Need-overflow-cast-if2
 cast-if2 c = search rules
 
 returns-2 : tie.Need-returns-2
-unfolding soundWithb
+unfolding sound_withb
 returns-2 c =
     let w = c.before.before.before.before.before.before.before.args.words.now in
     let s = state_of w in
@@ -48,7 +48,7 @@ found-records-requires c κs =
     (record { lent = record { some = (cell-count s.rx.cells fine.cell-count).some; all = c.if2.false ∙ ap (λ (r : Receiving). r.cells) c.before.before.rx-of.ensures }; used = fine.used })
 
 returns-3 : tie.Need-returns-3
-unfolding soundWithb
+unfolding sound_withb
 returns-3 c =
     let w = c.before.before.before.before.before.before.before.before.args.words.now in
     let s = state_of w in
@@ -58,7 +58,7 @@ returns-3 c =
     let records = c.before.before.before.before.before.before.before.before.args.records.now in
     let e = c.before.before.before.rx-of.ensures in
     c.found-records.ensures
-    ∙ ap (λ (r : Receiving). foundRecords (table_of r records)) e
+    ∙ ap (λ (r : Receiving). found_records (table_of r records)) e
     ∙ found-records-same (table_of s.rx records) (cell-count s.rx.cells fine.cell-count) fine.near fine.used shape.expected-u32 shape.oldest-u32 shape.end-u32 (c.before.if2.false ∙ ap (λ (r : Receiving). r.cells) e)
     ∙ sym (and-true-first ok)
 

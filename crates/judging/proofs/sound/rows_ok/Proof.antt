@@ -2,7 +2,7 @@
 use Rattle.std.proofs.Common.{◌≡◌, ◌+◌, ◌-◌, ◌≤◌, true, false, ◌&&◌, get_or, sym, refl, ap, ◌∙◌, arith}
 use borrow.Author.Tests.{not-true, not-false}
 use Rattle.link.specs.Row.{no_row}
-use Rattle.engine.specs.Found.{rowOk, rows_from, rows_step, rows_none}
+use Rattle.engine.specs.Found.{row_ok, rows_from, rows_step, rows_none}
 use Rattle.words.specs.Meaning.{state_of}
 use Rattle.judging.specs.Words.{bare-row}
 use Rattle.judging.proofs.sound.rows_ok.Statement.{statement}
@@ -34,7 +34,7 @@ returns c =
     let a = c.before.before.before.before.before.before.args in
     let l = c.before.before.before.before.loop in
     let links = (state_of a.words.now).links in
-    let bad : rowOk (get_or links l.j no_row) (get_or a.t2 l.j 0) a.time ≡ false = sym (bare-row (get_or links l.j no_row) (get_or a.t2 l.j 0) a.time) ∙ ap (λ r. rowOk r (get_or a.t2 l.j 0) a.time) (sym c.before.before.row_at.ensures) ∙ sym c.before.row_ok.ensures ∙ not-true c.before.row_ok.result c.if1.true in
+    let bad : row_ok (get_or links l.j no_row) (get_or a.t2 l.j 0) a.time ≡ false = sym (bare-row (get_or links l.j no_row) (get_or a.t2 l.j 0) a.time) ∙ ap (λ r. row_ok r (get_or a.t2 l.j 0) a.time) (sym c.before.before.row_at.ensures) ∙ sym c.before.row_ok.ensures ∙ not-true c.before.row_ok.result c.if1.true in
     sym (rows_step links a.t2 a.time l.j (8 - l.j) (omega arith) ∙ ap (λ b. b && rows_from links a.t2 a.time (l.j + 1) (8 - l.j - 1)) bad) ∙ l.invariant.1
 
 add-j : tie.Need-overflow-add-j invariant-loop decreases-loop
@@ -48,7 +48,7 @@ loop-again c =
     let a = c.before.before.before.before.before.before.args in
     let l = c.before.before.before.before.loop in
     let links = (state_of a.words.now).links in
-    let good : rowOk (get_or links l.j no_row) (get_or a.t2 l.j 0) a.time ≡ true = sym (bare-row (get_or links l.j no_row) (get_or a.t2 l.j 0) a.time) ∙ ap (λ r. rowOk r (get_or a.t2 l.j 0) a.time) (sym c.before.before.row_at.ensures) ∙ sym c.before.row_ok.ensures ∙ not-false c.before.row_ok.result c.if1.false in
+    let good : row_ok (get_or links l.j no_row) (get_or a.t2 l.j 0) a.time ≡ true = sym (bare-row (get_or links l.j no_row) (get_or a.t2 l.j 0) a.time) ∙ ap (λ r. row_ok r (get_or a.t2 l.j 0) a.time) (sym c.before.before.row_at.ensures) ∙ sym c.before.row_ok.ensures ∙ not-false c.before.row_ok.result c.if1.false in
     let e : 8 - (l.j + 1) ≡ 8 - l.j - 1 = omega arith in
     (omega arith, ap (λ n. rows_from links a.t2 a.time (l.j + 1) n) e ∙ sym (rows_step links a.t2 a.time l.j (8 - l.j) (omega arith) ∙ ap (λ b. b && rows_from links a.t2 a.time (l.j + 1) (8 - l.j - 1)) good) ∙ l.invariant.1)
 

@@ -1,5 +1,5 @@
 -- The two tests, joined.
-use Rattle.link.specs.Timeout.{factorOk}
+use Rattle.link.specs.Timeout.{factor_ok}
 use borrow.Author.Rules.{rules}
 use Rattle.link.proofs.timeout.factor_ok.Statement.{statement}
 use Rattle.link.proofs.timeout.factor_ok.Tie as tie
@@ -8,7 +8,7 @@ both-requires : tie.Need-both-requires
 both-requires c κs = search rules
 
 returns : tie.Need-returns
-unfolding factorOk
+unfolding factor_ok
 returns c = c.both.ensures
 
 pub factor-ok-spec : {M : Type 1} → statement M

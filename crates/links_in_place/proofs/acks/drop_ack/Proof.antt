@@ -2,7 +2,7 @@
 use mathlib.Core.Path.{◌∙◌}
 use Prim.Native.Nat.{◌-◌}
 use Rattle.engine.specs.Fields.{with_row}
-use Rattle.engine.specs.Sound.{rowAt}
+use Rattle.engine.specs.Sound.{row_at}
 use Rattle.words.specs.Meaning.{state_of}
 use Rattle.links_in_place.specs.Acks.{counted, links-long, acks-dropped}
 use borrow.Author.Rules.{rules}
@@ -28,7 +28,7 @@ returns c =
     let j = start.args.slot in
     let n = start.args.n in
     c.before.before.put-ack-count.ensures
-    ∙ (λ i. let t = c.before.before.before.before.before.before.shift-acks.ensures i in with_row t j (counted (rowAt t j) (n - 1)))
+    ∙ (λ i. let t = c.before.before.before.before.before.before.shift-acks.ensures i in with_row t j (counted (row_at t j) (n - 1)))
     ∙ acks-dropped (state_of w) j n (rw (links-long w start.requires.0) start.requires.1) start.requires.2 start.requires.3
 
 pub drop-ack-spec : {M : Type 1} → statement M

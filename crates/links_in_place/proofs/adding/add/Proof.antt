@@ -3,12 +3,12 @@ use mathlib.Core.Path.{refl, sym, ap, ◌∙◌}
 use mathlib.Core.Bool.{◌&&◌}
 use lib.Dec.{leb}
 use borrow.Author.Tests.{not-true, not-false}
-use Rattle.link.specs.Fields.{withAcks}
+use Rattle.link.specs.Fields.{with_acks}
 use Rattle.link.specs.Sizes.{MAX_TIME}
 use Rattle.engine.specs.declared.links.AddAnswer.TheVariants.{Slot}
 use Rattle.engine.specs.Fields.{with_row}
-use Rattle.engine.specs.Links.{lowestIn}
-use Rattle.words.specs.Encoded.{noAcks}
+use Rattle.engine.specs.Links.{lowest_in}
+use Rattle.words.specs.Encoded.{no_acks}
 use Rattle.words.specs.Meaning.{state_of}
 use Rattle.links_in_place.specs.Adding.{fresh-acks, add-no-time, add-no-slot, add-taken, add_done}
 use borrow.Author.Rules.{rules}
@@ -73,8 +73,8 @@ returns-4 c =
       ap Slot low,
       (
         c.before.before.put-new.ensures
-            ∙ (λ i. let row = c.before.before.before.before.fresh.ensures i in with_row s (low i) (withAcks row noAcks row.ack_count))
-            ∙ ap (with_row s (lowestIn s)) (fresh-acks a.link-id a.roundtrip a.max-ping a.blocked a.unconfirmed),
+            ∙ (λ i. let row = c.before.before.before.before.fresh.ensures i in with_row s (low i) (with_acks row no_acks row.ack_count))
+            ∙ ap (with_row s (lowest_in s)) (fresh-acks a.link-id a.roundtrip a.max-ping a.blocked a.unconfirmed),
         λ ne. absurd (ne refl),
       ),
     )

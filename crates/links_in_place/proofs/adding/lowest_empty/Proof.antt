@@ -6,7 +6,7 @@ use native.Mathlib.Omega.{arith}
 use lib.ListN.{length, get_or, drop}
 use borrow.Author.Tests.{not-true, not-false}
 use Rattle.link.specs.Row.{no_row}
-use Rattle.engine.specs.Links.{lowestEmpty, lowest_step, lowest-none}
+use Rattle.engine.specs.Links.{lowest_empty, lowest_step, lowest-none}
 use Rattle.words.specs.Meaning.{state_of}
 use Rattle.links_in_place.specs.Acks.{links-long}
 use Rattle.links_in_place.specs.Adding.{slot-live}
@@ -14,7 +14,7 @@ use Rattle.links_in_place.proofs.adding.lowest_empty.Statement.{statement}
 use Rattle.links_in_place.proofs.adding.lowest_empty.Tie as tie
 
 abbrev invariant-loop : tie.invariant-loop
-invariant-loop words j₀ j = (j ≤ 8) × (lowestEmpty (drop j (state_of words).links) j ≡ lowestEmpty (state_of words).links 0)
+invariant-loop words j₀ j = (j ≤ 8) × (lowest_empty (drop j (state_of words).links) j ≡ lowest_empty (state_of words).links 0)
 
 abbrev decreases-loop : tie.decreases-loop
 decreases-loop words j₀ j = 8 - j

@@ -1,7 +1,7 @@
 -- The acks, and then the row.
 use mathlib.Core.Path.{ap, ◌∙◌}
 use Rattle.engine.specs.Fields.{with_row}
-use Rattle.engine.specs.Sound.{rowAt}
+use Rattle.engine.specs.Sound.{row_at}
 use Rattle.words.specs.Meaning.{state_of}
 use Rattle.links_in_place.specs.Acks.{links-long}
 use Rattle.links_in_place.specs.Adding.{new_row}
@@ -25,7 +25,7 @@ returns c =
     let w = a.words.now in
     let j = a.slot in
     c.before.before.put-row.ensures
-    ∙ ap (λ s. with_row s j (over (rowAt s j) a.row)) c.before.before.before.before.before.before.clear-acks.ensures
+    ∙ ap (λ s. with_row s j (over (row_at s j) a.row)) c.before.before.before.before.before.before.clear-acks.ensures
     ∙ new_row (state_of w) j a.row (rw (links-long w c.before.before.before.before.before.before.before.before.before.requires.0) c.before.before.before.before.before.before.before.before.before.requires.1)
 
 pub put-new-spec : {M : Type 1} → statement M

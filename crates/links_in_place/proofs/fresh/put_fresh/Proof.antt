@@ -5,10 +5,10 @@ use mathlib.Core.List.{List}
 use Prim.Native.Nat.{ℕ}
 use native.Mathlib.Omega.{arith}
 use lib.ListN.{length, replicate}
-use Rattle.engine.specs.Fields.{withTx, withRx, withReader, withPackets}
-use Rattle.engine.specs.Packets.{noPacket}
+use Rattle.engine.specs.Fields.{with_tx, with_rx, with_reader, with_packets}
+use Rattle.engine.specs.Packets.{no_packet}
 use Rattle.engine.specs.Sizes.{PACKETS}
-use Rattle.words.specs.Encoded.{withCounts}
+use Rattle.words.specs.Encoded.{with_counts}
 use Rattle.words.specs.Meaning.{state_of}
 use Rattle.links_in_place.specs.Zeros.{fresh-put}
 use borrow.Author.Rules.{rules}
@@ -43,10 +43,10 @@ returns : tie.Need-returns
 returns c =
     let a = c.before.before.before.before.before.before.before.before.before.before.before.before.before.before.before.before.before.before.before.before.before.before.before.args in
     let N = length a.words.now in
-    let s1 = c.before.before.before.before.before.before.before.before.before.before.before.before.before.before.before.before.put-packets.ensures ∙ ap (λ (w : List ℕ). let s = state_of w in withTx s (withPackets s.tx (replicate PACKETS noPacket))) c.before.before.before.before.before.before.before.before.before.before.before.before.before.before.before.before.before.before.before.before.empty-records.ensures in
-    let s2 = c.before.before.before.before.before.before.before.before.before.before.before.put-tx.ensures ∙ (λ i. let s = s1 i in withTx s (withCounts s.tx (c.before.before.before.before.before.before.before.before.before.before.before.before.fresh-numbers.ensures i))) in
-    let s3 = c.before.before.before.before.before.before.put-rx.ensures ∙ (λ i. withRx (s2 i) (c.before.before.before.before.before.before.before.fresh-rx.ensures i)) in
-    c.before.before.put-read-open.ensures ∙ ap (λ s. withReader s true) s3 ∙ fresh-put N c.before.before.before.before.before.before.before.before.before.before.before.before.before.before.before.before.before.before.before.before.before.before.before.requires a.start a.recv-buffer a.cells
+    let s1 = c.before.before.before.before.before.before.before.before.before.before.before.before.before.before.before.before.put-packets.ensures ∙ ap (λ (w : List ℕ). let s = state_of w in with_tx s (with_packets s.tx (replicate PACKETS no_packet))) c.before.before.before.before.before.before.before.before.before.before.before.before.before.before.before.before.before.before.before.before.empty-records.ensures in
+    let s2 = c.before.before.before.before.before.before.before.before.before.before.before.put-tx.ensures ∙ (λ i. let s = s1 i in with_tx s (with_counts s.tx (c.before.before.before.before.before.before.before.before.before.before.before.before.fresh-numbers.ensures i))) in
+    let s3 = c.before.before.before.before.before.before.put-rx.ensures ∙ (λ i. with_rx (s2 i) (c.before.before.before.before.before.before.before.fresh-rx.ensures i)) in
+    c.before.before.put-read-open.ensures ∙ ap (λ s. with_reader s true) s3 ∙ fresh-put N c.before.before.before.before.before.before.before.before.before.before.before.before.before.before.before.before.before.before.before.before.before.before.before.requires a.start a.recv-buffer a.cells
 
 pub put-fresh-spec : {M : Type 1} → statement M
 put-fresh-spec =

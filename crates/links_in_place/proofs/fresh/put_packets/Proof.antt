@@ -4,7 +4,7 @@ use mathlib.Core.Path.{◌≡◌, sym, ap, ◌∙◌}
 use Prim.Native.Nat.{◌≤◌, ◌-◌}
 use native.Mathlib.Omega.{arith}
 use lib.ListN.{length, set}
-use Rattle.engine.specs.Fields.{withTx, withPackets}
+use Rattle.engine.specs.Fields.{with_tx, with_packets}
 use Rattle.words.specs.Layout.{WORDS}
 use Rattle.words.specs.Meaning.{state_of}
 use Rattle.links_in_place.specs.Zeros.{packets-long, emptied, none-emptied, more-emptied, all-emptied}
@@ -40,7 +40,7 @@ loop-again c =
       omega arith,
       search rules,
       c.before.before.put-packet.ensures
-          ∙ (λ i. let t = l.invariant.2 i in withTx t (withPackets t.tx (set t.tx.txed_packets l.at (c.before.before.before.before.before.before.no-packet.ensures i))))
+          ∙ (λ i. let t = l.invariant.2 i in with_tx t (with_packets t.tx (set t.tx.txed_packets l.at (c.before.before.before.before.before.before.no-packet.ensures i))))
           ∙ more-emptied s l.at (omega arith),
     )
 

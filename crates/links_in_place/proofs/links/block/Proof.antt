@@ -2,12 +2,12 @@
 use mathlib.Core.Path.{refl, sym, ap, ◌∙◌}
 use borrow.Author.Tests.{not-true, not-false}
 use Rattle.engine.specs.Links.{block_of}
-use Rattle.engine.specs.Sound.{rowAt}
+use Rattle.engine.specs.Sound.{row_at}
 use Rattle.link.specs.declared.row.LinkRow.{LinkRow}
 use Rattle.words.specs.Meaning.{state_of}
 use Rattle.links_in_place.specs.RowsBare.{row-changed, bare-blocked}
 use Rattle.links_in_place.specs.Gated.{slot_small, slot-here, slot-not}
-use Rattle.link.specs.Row.{blockedRow}
+use Rattle.link.specs.Row.{blocked_row}
 use borrow.Author.Rules.{rules}
 use Rattle.links_in_place.proofs.links.block.Statement.{statement}
 use Rattle.links_in_place.proofs.links.block.Tie as tie
@@ -41,12 +41,12 @@ returns-2 c =
     let j = c.before.before.before.before.before.before.before.before.before.before.before.args.slot in
     let ok = (sym c.before.before.before.before.before.before.before.before.slot_ok.ensures ∙ not-false c.before.before.before.before.before.before.before.before.slot_ok.result c.before.before.before.before.before.before.before.if1.false) in
     let e = slot-here s c.before.before.before.before.before.before.before.before.before.before.before.requires.judged j ok in
-    let F : LinkRow → LinkRow = λ r. blockedRow r c.before.before.before.before.before.before.before.before.before.before.before.args.blocked in
+    let F : LinkRow → LinkRow = λ r. blocked_row r c.before.before.before.before.before.before.before.before.before.before.before.args.blocked in
     simp e (
       refl,
       (
         c.before.before.put-row.ensures
-            ∙ row-changed s j F c.before.before.before.block.result (slot_small s c.before.before.before.before.before.before.before.before.before.before.before.requires.judged j ok) (bare-blocked (rowAt s j) c.before.before.before.before.before.before.before.before.before.before.before.args.blocked)
+            ∙ row-changed s j F c.before.before.before.block.result (slot_small s c.before.before.before.before.before.before.before.before.before.before.before.requires.judged j ok) (bare-blocked (row_at s j) c.before.before.before.before.before.before.before.before.before.before.before.args.blocked)
             (c.before.before.before.block.ensures ∙ ap F c.before.before.before.before.before.row_at.ensures),
         λ ne. absurd (ne refl),
       ),

@@ -1,8 +1,8 @@
 -- Its row is changed where the slot holds a link.
 use mathlib.Core.Path.{refl, sym, ap, ◌∙◌}
 use borrow.Author.Tests.{not-true, not-false}
-use Rattle.engine.specs.Links.{confirmOf}
-use Rattle.engine.specs.Sound.{rowAt}
+use Rattle.engine.specs.Links.{confirm_of}
+use Rattle.engine.specs.Sound.{row_at}
 use Rattle.link.specs.declared.row.LinkRow.{LinkRow}
 use Rattle.words.specs.Meaning.{state_of}
 use Rattle.links_in_place.specs.RowsBare.{row-changed, bare-confirmed}
@@ -19,7 +19,7 @@ same_length : tie.Need-same-length
 same_length c = search rules
 
 returns : tie.Need-returns
-unfolding confirmOf
+unfolding confirm_of
 returns c = let e = slot-not (state_of c.before.before.before.before.args.words.now) c.before.before.before.before.requires.judged c.before.before.before.before.args.slot (sym c.before.slot_ok.ensures ∙ not-true c.before.slot_ok.result c.if1.true) in simp e (refl, (refl, λ ne. refl))
 
 row-at-requires : tie.Need-row-at-requires
@@ -35,7 +35,7 @@ same-length-2 : tie.Need-same-length-2
 same-length-2 c = search rules
 
 returns-2 : tie.Need-returns-2
-unfolding confirmOf
+unfolding confirm_of
 returns-2 c =
     let s = (state_of c.before.before.before.before.before.before.before.before.before.before.before.args.words.now) in
     let j = c.before.before.before.before.before.before.before.before.before.before.before.args.slot in
@@ -46,7 +46,7 @@ returns-2 c =
       refl,
       (
         c.before.before.put-row.ensures
-            ∙ row-changed s j F c.before.before.before.confirm.result (slot_small s c.before.before.before.before.before.before.before.before.before.before.before.requires.judged j ok) (bare-confirmed (rowAt s j))
+            ∙ row-changed s j F c.before.before.before.confirm.result (slot_small s c.before.before.before.before.before.before.before.before.before.before.before.requires.judged j ok) (bare-confirmed (row_at s j))
             (c.before.before.before.confirm.ensures ∙ ap F c.before.before.before.before.before.row_at.ensures),
         λ ne. absurd (ne refl),
       ),

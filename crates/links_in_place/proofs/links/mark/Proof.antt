@@ -2,12 +2,12 @@
 use mathlib.Core.Path.{refl, sym, ap, ◌∙◌}
 use borrow.Author.Tests.{not-true, not-false}
 use Rattle.engine.specs.Links.{mark_of}
-use Rattle.engine.specs.Sound.{rowAt}
+use Rattle.engine.specs.Sound.{row_at}
 use Rattle.link.specs.declared.row.LinkRow.{LinkRow}
 use Rattle.words.specs.Meaning.{state_of}
 use Rattle.links_in_place.specs.RowsBare.{row-changed, bare-marked}
 use Rattle.links_in_place.specs.Gated.{slot_small, slot-here, slot-not}
-use Rattle.link.specs.Limit.{markedRow}
+use Rattle.link.specs.Limit.{marked_row}
 use Rattle.link.specs.declared.row.Limit.TheVariants.{At}
 use borrow.Author.Rules.{rules}
 use Rattle.links_in_place.proofs.links.mark.Statement.{statement}
@@ -42,12 +42,12 @@ returns-2 c =
     let j = c.before.before.before.before.before.before.before.before.before.before.before.args.slot in
     let ok = (sym c.before.before.before.before.before.before.before.before.slot_ok.ensures ∙ not-false c.before.before.before.before.before.before.before.before.slot_ok.result c.before.before.before.before.before.before.before.if1.false) in
     let e = slot-here s c.before.before.before.before.before.before.before.before.before.before.before.requires.judged j ok in
-    let F : LinkRow → LinkRow = λ r. markedRow r (At c.before.before.before.before.before.before.before.before.before.before.before.args.seq) in
+    let F : LinkRow → LinkRow = λ r. marked_row r (At c.before.before.before.before.before.before.before.before.before.before.before.args.seq) in
     simp e (
       refl,
       (
         c.before.before.put-row.ensures
-            ∙ row-changed s j F c.before.before.before.mark.result (slot_small s c.before.before.before.before.before.before.before.before.before.before.before.requires.judged j ok) (bare-marked (rowAt s j) (At c.before.before.before.before.before.before.before.before.before.before.before.args.seq))
+            ∙ row-changed s j F c.before.before.before.mark.result (slot_small s c.before.before.before.before.before.before.before.before.before.before.before.requires.judged j ok) (bare-marked (row_at s j) (At c.before.before.before.before.before.before.before.before.before.before.before.args.seq))
             (c.before.before.before.mark.ensures ∙ ap F c.before.before.before.before.before.row_at.ensures),
         λ ne. absurd (ne refl),
       ),

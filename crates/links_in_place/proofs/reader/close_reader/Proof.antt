@@ -1,6 +1,6 @@
 -- The words are those of a sound state.
 use mathlib.Core.Path.{refl}
-use Rattle.engine.specs.Closing.{closeOf}
+use Rattle.engine.specs.Closing.{close_of}
 use borrow.Author.Rules.{rules}
 use Rattle.links_in_place.proofs.reader.close_reader.Statement.{statement}
 use Rattle.links_in_place.proofs.reader.close_reader.Tie as tie
@@ -12,7 +12,7 @@ same_length : tie.Need-same-length
 same_length c = search rules
 
 returns : tie.Need-returns
-unfolding closeOf
+unfolding close_of
 returns c = simp c.before.before.before.before.before.requires.judged (refl, (c.before.before.put-read-open.ensures, λ ne. absurd (ne refl)))
 
 pub close-reader-spec : {M : Type 1} → statement M

@@ -1,5 +1,5 @@
 -- The words are those of a sound state.
-use Rattle.engine.specs.HandingOut.{dueOf}
+use Rattle.engine.specs.HandingOut.{due_of}
 use borrow.Author.Rules.{rules}
 use Rattle.links_in_place.proofs.reader.is_consume_ack_required.Statement.{statement}
 use Rattle.links_in_place.proofs.reader.is_consume_ack_required.Tie as tie
@@ -14,7 +14,7 @@ due-above-requires : tie.Need-due-above-requires
 due-above-requires c κs = search rules
 
 returns : tie.Need-returns
-unfolding dueOf
+unfolding due_of
 returns c = simp (c.before.before.before.before.requires.judged, c.due-above.ensures, c.before.read-open.ensures, c.before.before.rx-of.ensures)
 
 pub is-consume-ack-required-spec : {M : Type 1} → statement M

@@ -1,7 +1,7 @@
 -- Eight rows without their acks.
 use mathlib.Core.Path.{◌∙◌}
 use mathlib.Core.List.{[], ◌∷◌}
-use Rattle.engine.specs.Slowness.{slowOf}
+use Rattle.engine.specs.Slowness.{slow_of}
 use Rattle.words.specs.Meaning.{state_of}
 use Rattle.links_in_place.specs.Acks.{links-long}
 use Rattle.links_in_place.specs.SlowBare.{slow-bare}
@@ -40,7 +40,7 @@ returns : tie.Need-returns
 returns c =
     let rows = (state_of c.before.before.before.before.before.before.before.before.before.before.args.words.now).links in
     c.slow-rows.ensures
-    ∙ (λ i. slowOf (c.before.before.before.before.before.before.before.before.row_at.ensures i ∷ c.before.before.before.before.before.before.before.row-at2.ensures i ∷ c.before.before.before.before.before.before.row-at3.ensures i ∷ c.before.before.before.before.before.row-at4.ensures i ∷ c.before.before.before.before.row-at5.ensures i ∷ c.before.before.before.row-at6.ensures i ∷ c.before.before.row-at7.ensures i ∷ c.before.row-at8.ensures i ∷ []))
+    ∙ (λ i. slow_of (c.before.before.before.before.before.before.before.before.row_at.ensures i ∷ c.before.before.before.before.before.before.before.row-at2.ensures i ∷ c.before.before.before.before.before.before.row-at3.ensures i ∷ c.before.before.before.before.before.row-at4.ensures i ∷ c.before.before.before.before.row-at5.ensures i ∷ c.before.before.before.row-at6.ensures i ∷ c.before.before.row-at7.ensures i ∷ c.before.row-at8.ensures i ∷ []))
     ∙ slow-bare rows (links-long c.before.before.before.before.before.before.before.before.before.before.args.words.now c.before.before.before.before.before.before.before.before.before.before.requires)
 
 pub slow-spec : {M : Type 1} → statement M

@@ -1,5 +1,5 @@
 -- Nothing may follow the kind byte.
-use Rattle.msg.specs.Reading.{readAlone}
+use Rattle.msg.specs.Reading.{read_alone}
 use borrow.Author.Rules.{rules}
 use Rattle.msg.proofs.reading.alone.Statement.{statement}
 use Rattle.msg.proofs.reading.alone.Tie as tie
@@ -8,7 +8,7 @@ exactly-requires : tie.Need-exactly-requires
 exactly-requires c κs = search rules
 
 returns : tie.Need-returns
-unfolding readAlone
+unfolding read_alone
 returns c = c.exactly.ensures
 
 pub alone-spec : {M : Type 1} → statement M

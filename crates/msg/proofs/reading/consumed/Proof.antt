@@ -1,5 +1,5 @@
 -- Both numbers, where they are the whole body.
-use Rattle.msg.specs.Reading.{exactly, readConsumed}
+use Rattle.msg.specs.Reading.{exactly, read_consumed}
 use mathlib.Core.Path.{◌∙◌}
 use borrow.Author.Rules.{rules}
 use Rattle.msg.proofs.reading.consumed.Statement.{statement}
@@ -15,7 +15,7 @@ exactly-requires : tie.Need-exactly-requires
 exactly-requires c κs = search rules
 
 returns : tie.Need-returns
-unfolding readConsumed
+unfolding read_consumed
 returns c = c.exactly.ensures ∙ simp (c.before.before.seq-of.ensures, c.before.number_at.ensures)
 
 pub consumed-spec : {M : Type 1} → statement M

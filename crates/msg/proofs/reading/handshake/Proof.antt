@@ -1,6 +1,6 @@
 -- The head and the version byte decide; what follows them is not looked at.
 
-use Rattle.msg.specs.Reading.{readHandshake}
+use Rattle.msg.specs.Reading.{read_handshake}
 use borrow.Author.Tests.{ne_eqb, not-true, not-false}
 use mathlib.Core.Path.{sym}
 use borrow.Author.Rules.{rules}
@@ -17,16 +17,16 @@ byte-at-requires : tie.Need-byte-at-requires
 byte-at-requires c κs = search rules
 
 returns : tie.Need-returns
-unfolding readHandshake
+unfolding read_handshake
 returns c = simp (sym c.before.before.opens-with.ensures, not-true c.before.before.opens-with.result c.if1.true)
 
 returns-2 : tie.Need-returns-2
-unfolding readHandshake
+unfolding read_handshake
 returns-2 c =
     simp (sym c.before.before.before.opens-with.ensures, not-false c.before.before.before.opens-with.result c.before.if1.false, sym c.before.before.byte_at.ensures, c.if2.true)
 
 returns-3 : tie.Need-returns-3
-unfolding readHandshake
+unfolding read_handshake
 returns-3 c =
     simp (sym c.before.before.before.opens-with.ensures, not-false c.before.before.before.opens-with.result c.before.if1.false, sym c.before.before.byte_at.ensures, ne_eqb _ _ c.if2.false)
 

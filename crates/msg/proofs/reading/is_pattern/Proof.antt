@@ -5,7 +5,7 @@ use Prim.Native.Nat.{◌≤◌, ◌-◌, ◌%◌}
 use lib.ListN.{length, drop}
 use native.Mathlib.Omega.{arith}
 use Rattle.msg.specs.Messages.{pattern}
-use Rattle.msg.specs.Reading.{opensWith}
+use Rattle.msg.specs.Reading.{opens_with}
 use Rattle.msg.specs.RoundTrip.{length-pattern, pattern-at}
 use Rattle.msg.proofs.Opening.{opens-end, opens-same, opens-other}
 use Rattle.msg.proofs.reading.is_pattern.Statement.{statement}
@@ -13,7 +13,7 @@ use Rattle.msg.proofs.reading.is_pattern.Tie as tie
 
 abbrev invariant-loop : tie.invariant-loop
 invariant-loop bytes i₀ next₀ i next =
-    (i ≤ length bytes) × (next ≡ i % 256) × (opensWith (drop i (pattern (length bytes))) (drop i bytes) ≡ opensWith (pattern (length bytes)) bytes)
+    (i ≤ length bytes) × (next ≡ i % 256) × (opens_with (drop i (pattern (length bytes))) (drop i bytes) ≡ opens_with (pattern (length bytes)) bytes)
 
 abbrev decreases-loop : tie.decreases-loop
 decreases-loop bytes i₀ next₀ i next = length bytes - i

@@ -3,13 +3,13 @@ use mathlib.Core.Path.{◌≡◌, refl, ◌∙◌, sym}
 use Prim.Native.Nat.{◌≤◌, ◌-◌}
 use lib.ListN.{length, drop}
 use native.Mathlib.Omega.{arith}
-use Rattle.msg.specs.Reading.{opensWith}
+use Rattle.msg.specs.Reading.{opens_with}
 use Rattle.msg.proofs.Opening.{opens-end, opens-short, opens-same, opens-other}
 use Rattle.msg.proofs.reading.opens_with.Statement.{statement}
 use Rattle.msg.proofs.reading.opens_with.Tie as tie
 
 abbrev invariant-loop : tie.invariant-loop
-invariant-loop head bytes i₀ i = (i ≤ length head) × (opensWith (drop i head) (drop i bytes) ≡ opensWith head bytes)
+invariant-loop head bytes i₀ i = (i ≤ length head) × (opens_with (drop i head) (drop i bytes) ≡ opens_with head bytes)
 
 abbrev decreases-loop : tie.decreases-loop
 decreases-loop head bytes i₀ i = length head - i

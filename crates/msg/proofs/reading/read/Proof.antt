@@ -2,13 +2,13 @@
 
 use mathlib.Core.Path.{sym, ap, ◌∙◌}
 use Rattle.msg.proofs.Opening.{read-empty, read_some}
-use Rattle.msg.specs.Reading.{readingTold}
+use Rattle.msg.specs.Reading.{reading_told}
 use borrow.Author.Rules.{rules}
 use Rattle.msg.proofs.reading.read.Statement.{statement}
 use Rattle.msg.proofs.reading.read.Tie as tie
 
 returns : tie.Need-returns
-returns c = let e = sym (read-empty c.before.before.args.bytes.now c.if1.true) in (e, ap readingTold e)
+returns c = let e = sym (read-empty c.before.before.args.bytes.now c.if1.true) in (e, ap reading_told e)
 
 shared-slice-read-read-kind : tie.Need-shared-slice-read-read-kind
 shared-slice-read-read-kind c = search rules
@@ -30,7 +30,7 @@ returns-2 c =
     let e =
     c.read-kind.ensures
     ∙ sym (read_some c.before.before.before.before.before.args.bytes.now c.before.before.before.if1.false) in
-    (e, ap readingTold e)
+    (e, ap reading_told e)
 
 pub read_spec : {M : Type 1} → statement M
 read_spec =

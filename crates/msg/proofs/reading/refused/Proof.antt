@@ -1,7 +1,7 @@
 -- The reason byte's reading, where it is the whole body.
 use mathlib.Core.Path.{ap, ◌∙◌}
 use lib.ListN.{get_or}
-use Rattle.msg.specs.Reading.{exactly, reasons, bad, readRefused}
+use Rattle.msg.specs.Reading.{exactly, reasons, bad, read_refused}
 use borrow.Author.Rules.{rules}
 use Rattle.msg.proofs.reading.refused.Statement.{statement}
 use Rattle.msg.proofs.reading.refused.Tie as tie
@@ -16,7 +16,7 @@ exactly-requires : tie.Need-exactly-requires
 exactly-requires c κs = search rules
 
 returns : tie.Need-returns
-unfolding readRefused
+unfolding read_refused
 returns c =
     let body = c.before.before.before.before.args.body.now in
     c.exactly.ensures

@@ -1,7 +1,7 @@
 -- The byte's reading, where it is the whole body.
 use mathlib.Core.Path.{ap, ◌∙◌}
 use lib.ListN.{get_or}
-use Rattle.msg.specs.Reading.{exactly, blocks, bad, readSetBlock}
+use Rattle.msg.specs.Reading.{exactly, blocks, bad, read_set_block}
 use borrow.Author.Rules.{rules}
 use Rattle.msg.proofs.reading.set_block.Statement.{statement}
 use Rattle.msg.proofs.reading.set_block.Tie as tie
@@ -16,7 +16,7 @@ exactly-requires : tie.Need-exactly-requires
 exactly-requires c κs = search rules
 
 returns : tie.Need-returns
-unfolding readSetBlock
+unfolding read_set_block
 returns c =
     let body = c.before.before.before.before.args.body.now in
     c.exactly.ensures

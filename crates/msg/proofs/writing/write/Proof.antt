@@ -7,7 +7,7 @@ use lib.Seq.{length-take-le}
 use borrow.Author.Tests.{not-true, not-false}
 use native.Mathlib.Nat.{add-sub_cancel_left}
 use Rattle.msg.proofs.Parting.{head-within, end-small, write-refused, write-short, write_done}
-use Rattle.msg.specs.Writing.{writtenTold, write-told}
+use Rattle.msg.specs.Writing.{written_told, write-told}
 use borrow.Author.Rules.{rules}
 use Rattle.msg.proofs.writing.write.Statement.{statement}
 use Rattle.msg.proofs.writing.write.Tie as tie
@@ -21,7 +21,7 @@ returns c =
     let a = c.before.before.before.before.before.args in
     let e =
     write-refused a.msg p.result p.ensures a.buffer.now (not-true p.result.ok c.if1.true) in
-    (e.0, (ap writtenTold e.0 ∙ write-told a.msg a.buffer.now, e.1))
+    (e.0, (ap written_told e.0 ∙ write-told a.msg a.buffer.now, e.1))
 
 add-end : tie.Need-overflow-add-end
 add-end c =
@@ -35,7 +35,7 @@ returns-2 c =
     let a = c.before.before.before.before.before.before.before.args in
     let e =
     write-short a.msg p.result p.ensures a.buffer.now (not-false p.result.ok c.before.before.if1.false) c.if2.true in
-    (e.0, (ap writtenTold e.0 ∙ write-told a.msg a.buffer.now, e.1))
+    (e.0, (ap written_told e.0 ∙ write-told a.msg a.buffer.now, e.1))
 
 array-share-prefix-head : tie.Need-array-share-prefix-head
 array-share-prefix-head c =
@@ -85,7 +85,7 @@ returns-3 c =
     c.before.before.before.before.before.before.copy.ensures.1
     c.before.before.fill.ensures
     (add-sub_cancel_left p.result.len p.result.size) in
-    (e.0, (ap writtenTold e.0 ∙ write-told a.msg a.buffer.now, e.1))
+    (e.0, (ap written_told e.0 ∙ write-told a.msg a.buffer.now, e.1))
 
 pub write_spec : {M : Type 1} → statement M
 write_spec =

@@ -2,7 +2,7 @@
 use mathlib.Core.Path.{sym, ap, ◌∙◌}
 use borrow.Author.Tests.{le-ltb}
 use Rattle.link.specs.declared.row.LinkRow.{LinkRow}
-use Rattle.link.specs.Row.{emptyRow}
+use Rattle.link.specs.Row.{empty_row}
 use Rattle.engine.specs.Rows.{row_of, row-of}
 use Rattle.words.specs.Meaning.{state_of}
 use borrow.Author.Rules.{rules}
@@ -10,7 +10,7 @@ use Rattle.receiving_in_place.proofs.effects.acks_at.Statement.{statement}
 use Rattle.receiving_in_place.proofs.effects.acks_at.Tie as tie
 
 returns : tie.Need-returns
-unfolding row_of emptyRow
+unfolding row_of empty_row
 returns c = simp (le-ltb _ _ c.if1.true)
 
 row-at-requires : tie.Need-row-at-requires

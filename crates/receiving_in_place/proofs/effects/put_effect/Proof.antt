@@ -1,5 +1,5 @@
 -- A Data has no effect; of another three fields, each by the kind or the count.
-use Rattle.engine.specs.Receiving.{effectTx}
+use Rattle.engine.specs.Receiving.{effect_tx}
 use Rattle.words.specs.Meaning.{state_of}
 use Rattle.receiving_in_place.specs.Acked.{data-effect}
 use borrow.Author.Rules.{rules}
@@ -37,7 +37,7 @@ same_length : tie.Need-same-length
 same_length c = search rules
 
 returns-2 : tie.Need-returns-2
-unfolding effectTx
+unfolding effect_tx
 returns-2 c = rw c.before.before.put-tx.ensures (simp (c.before.before.before.before.either2.ensures, c.before.before.before.before.before.either.ensures, c.before.before.before.before.before.before.before.count.ensures, c.before.before.before.before.before.before.before.before.before.before.kind.ensures, c.before.before.before.before.before.before.before.before.tx-of.ensures))
 
 pub put-effect-spec : {M : Type 1} → statement M

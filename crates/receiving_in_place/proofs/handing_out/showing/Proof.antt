@@ -1,7 +1,7 @@
 -- By the lengths, and then by what is ready.
 use mathlib.Core.Path.{sym, ◌∙◌}
 use borrow.Author.Tests.{not-true, not-false}
-use Rattle.engine.specs.HandingOut.{showingOf, showVerdict, handOutBy}
+use Rattle.engine.specs.HandingOut.{showing_of, show_verdict, hand_out_by}
 use Rattle.receiving_in_place.specs.ReadyWith.{ready-lent, cells-lent}
 use borrow.Author.Rules.{rules}
 use Rattle.receiving_in_place.proofs.handing_out.showing.Statement.{statement}
@@ -14,7 +14,7 @@ lengths-ok-requires : tie.Need-lengths-ok-requires
 lengths-ok-requires c κs = search rules
 
 returns : tie.Need-returns
-unfolding showingOf showVerdict handOutBy
+unfolding showing_of show_verdict hand_out_by
 returns c = simp (rw c.before.before.rx-of.ensures at (sym c.before.lengths-ok.ensures ∙ not-true c.before.lengths-ok.result c.if1.true))
 
 oldest-ready-requires : tie.Need-oldest-ready-requires
@@ -30,7 +30,7 @@ enum-known-held : tie.Need-enum-known-held
 enum-known-held c = search rules
 
 returns-2 : tie.Need-returns-2
-unfolding showingOf showVerdict handOutBy
+unfolding showing_of show_verdict hand_out_by
 returns-2 c =
     let a = c.before.before.before.before.before.before.before.before.before.args in
     let long = rw c.before.before.before.before.before.before.rx-of.ensures at (sym c.before.before.before.before.before.lengths-ok.ensures ∙ not-false c.before.before.before.before.before.lengths-ok.result c.before.before.before.before.if1.false) in
@@ -39,7 +39,7 @@ returns-2 c =
     simp (long, ok, none)
 
 returns-3 : tie.Need-returns-3
-unfolding showingOf showVerdict handOutBy
+unfolding showing_of show_verdict hand_out_by
 returns-3 c =
     let a = c.before.before.before.before.before.before.before.before.before.before.args in
     let long = rw c.before.before.before.before.before.before.before.rx-of.ensures at (sym c.before.before.before.before.before.before.lengths-ok.ensures ∙ not-false c.before.before.before.before.before.before.lengths-ok.result c.before.before.before.before.before.if1.false) in

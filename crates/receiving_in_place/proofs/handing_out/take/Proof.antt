@@ -1,8 +1,8 @@
 -- By the tests in their order, and then by what is ready.
 use mathlib.Core.Path.{refl, sym, ap, ◌∙◌}
 use borrow.Author.Tests.{not-true, not-false, eq-eqb, ne_eqb}
-use Rattle.engine.specs.HandingOut.{take_of, takeRecords, takeVerdict, takenState, handOutBy, readyBytes}
-use Rattle.engine.specs.Fields.{withRx}
+use Rattle.engine.specs.HandingOut.{take_of, take_records, take_verdict, taken_state, hand_out_by, ready_bytes}
+use Rattle.engine.specs.Fields.{with_rx}
 use Rattle.engine.specs.Received.{table_of}
 use Rattle.engine.specs.Totals.{total-fits}
 use Rattle.words.specs.Meaning.{state_of}
@@ -22,7 +22,7 @@ same_length : tie.Need-same-length
 same_length c = search rules
 
 returns : tie.Need-returns
-unfolding take_of takeRecords takeVerdict takenState handOutBy
+unfolding take_of take_records take_verdict taken_state hand_out_by
 returns c = let bad = rw c.before.before.rx-of.ensures at (ne_eqb _ _ c.if1.true) in (simp bad, (simp bad, (simp bad, λ ne. refl)))
 
 oldest-ready-requires : tie.Need-oldest-ready-requires
@@ -46,7 +46,7 @@ same-length-3 : tie.Need-same-length-3
 same-length-3 c = search rules
 
 returns-2 : tie.Need-returns-2
-unfolding take_of takeRecords takeVerdict takenState handOutBy
+unfolding take_of take_records take_verdict taken_state hand_out_by
 returns-2 c =
     let a = c.before.before.before.before.before.before.before.before.before.before.before.args in
     let cells = rw c.before.before.before.before.before.before.before.rx-of.ensures at c.before.before.before.before.before.if1.false in
@@ -76,7 +76,7 @@ same-length-5 : tie.Need-same-length-5
 same-length-5 c = search rules
 
 returns-3 : tie.Need-returns-3
-unfolding take_of takeRecords takeVerdict takenState handOutBy
+unfolding take_of take_records take_verdict taken_state hand_out_by
 returns-3 c =
     let a = c.before.before.before.before.before.before.before.before.before.before.before.before.before.before.args in
     let cells = rw c.before.before.before.before.before.before.before.before.before.before.rx-of.ensures at c.before.before.before.before.before.before.before.before.if1.false in
@@ -93,7 +93,7 @@ same-length-7 : tie.Need-same-length-7
 same-length-7 c = search rules
 
 returns-4 : tie.Need-returns-4
-unfolding take_of takeRecords takeVerdict takenState handOutBy
+unfolding take_of take_records take_verdict taken_state hand_out_by
 returns-4 c =
     let a = c.before.before.before.before.before.before.before.before.before.before.before.before.before.before.before.before.before.before.before.before.before.before.before.args in
     let cells = rw c.before.before.before.before.before.before.before.before.before.before.before.before.before.before.before.before.before.before.before.rx-of.ensures at c.before.before.before.before.before.before.before.before.before.before.before.before.before.before.before.before.before.if1.false in
@@ -101,10 +101,10 @@ returns-4 c =
     let ok = c.before.before.before.before.before.before.before.before.before.before.before.before.before.before.before.before.before.before.before.before.before.before.before.requires.recorded cells in
     let total = rw (c.before.before.before.before.before.before.before.before.before.before.before.before.before.before.ready-bytes.ensures, c.before.before.before.before.before.before.before.before.before.held.given.1, c.before.before.before.before.before.before.before.before.before.before.before.before.before.before.before.before.before.before.before.rx-of.ensures) at (sym c.before.before.before.before.before.before.before.before.before.before.before.before.before.sum_fits.ensures ∙ not-false c.before.before.before.before.before.before.before.before.before.before.before.before.before.sum_fits.result c.before.before.before.before.before.before.before.before.before.before.before.before.if2.false) in
     let one = rw c.before.before.before.before.before.before.before.before.before.before.before.before.before.before.before.before.before.before.before.rx-of.ensures at (sym c.before.before.before.before.before.before.before.before.before.before.before.before.before.before.before.oldest-ready.ensures ∙ c.before.before.before.before.before.before.before.before.before.held.given.1) in
-    let bytes = c.before.before.before.before.before.before.before.before.before.before.before.before.before.before.ready-bytes.ensures ∙ ap readyBytes c.before.before.before.before.before.before.before.before.before.held.given.1 in (
+    let bytes = c.before.before.before.before.before.before.before.before.before.before.before.before.before.before.ready-bytes.ensures ∙ ap ready_bytes c.before.before.before.before.before.before.before.before.before.held.given.1 in (
       simp (long, ok, one, total, c.before.before.before.before.before.before.before.before.before.before.before.before.before.before.before.before.before.before.before.rx-of.ensures),
       (
-        simp (long, ok, one, total) (rw (c.before.before.put-taken.ensures, c.before.before.before.before.before.before.take-message.ensures.0, c.before.before.before.before.before.before.before.before.before.before.before.before.before.before.before.before.before.before.before.rx-of.ensures, bytes) (ap (withRx (state_of a.words.now)) (sym (taken-moves (state_of a.words.now).rx.cells (table_of (state_of a.words.now).rx a.records.now) _)))),
+        simp (long, ok, one, total) (rw (c.before.before.put-taken.ensures, c.before.before.before.before.before.before.take-message.ensures.0, c.before.before.before.before.before.before.before.before.before.before.before.before.before.before.before.before.before.before.before.rx-of.ensures, bytes) (ap (with_rx (state_of a.words.now)) (sym (taken-moves (state_of a.words.now).rx.cells (table_of (state_of a.words.now).rx a.records.now) _)))),
         (simp (long, ok, one, total) (rw (c.before.before.before.before.before.before.take-message.ensures.1, c.before.before.before.before.before.before.before.before.before.before.before.before.before.before.before.before.before.before.before.rx-of.ensures)), λ ne. absurd (ne refl)),
       ),
     )

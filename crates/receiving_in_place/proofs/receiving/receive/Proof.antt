@@ -3,7 +3,7 @@ use mathlib.Core.Path.{refl, sym, ◌∙◌}
 use lib.ListN.{length}
 use borrow.Author.Tests.{not-true, not-false}
 use Rattle.engine.specs.Rows.{row-of}
-use Rattle.engine.specs.Receiving.{receive-passed, receiveVerdict, receiveOf, receiveStore, receiveRecords}
+use Rattle.engine.specs.Receiving.{receive-passed, receive_verdict, receive_of, receive_store, receive_records}
 use Rattle.words.specs.Meaning.{state_of}
 use Rattle.receiving_in_place.specs.ReadyWith.{ready-lent, cells-lent, receive-judged}
 use borrow.Author.Rules.{rules}
@@ -20,7 +20,7 @@ same_length : tie.Need-same-length
 same_length c = search rules
 
 returns : tie.Need-returns
-unfolding receiveOf receiveStore receiveRecords receiveVerdict
+unfolding receive_of receive_store receive_records receive_verdict
 returns c = let bad = rw c.before.before.rx-of.ensures at (sym c.before.lengths-ok.ensures ∙ not-true c.before.lengths-ok.result c.if1.true) in (simp bad, (simp bad, (simp bad, (simp bad, λ ne. refl))))
 
 message-verdict-requires : tie.Need-message-verdict-requires
@@ -58,7 +58,7 @@ same-length-3 : tie.Need-same-length-3
 same-length-3 c = search rules
 
 returns-2 : tie.Need-returns-2
-unfolding receiveOf receiveStore receiveRecords
+unfolding receive_of receive_store receive_records
 returns-2 c =
     let a = c.before.before.before.before.before.before.before.before.before.before.before.before.before.before.before.before.before.before.before.before.args in
     let long = rw c.before.before.before.before.before.before.before.before.before.before.before.before.before.before.rx-of.ensures at (sym c.before.before.before.before.before.before.before.before.before.before.before.before.before.lengths-ok.ensures ∙ not-false c.before.before.before.before.before.before.before.before.before.before.before.before.before.lengths-ok.result c.before.before.before.before.before.before.before.before.before.before.before.before.if1.false) in
@@ -85,7 +85,7 @@ same-length-5 : tie.Need-same-length-5
 same-length-5 c = search rules
 
 returns-3 : tie.Need-returns-3
-unfolding receiveOf receiveStore receiveRecords
+unfolding receive_of receive_store receive_records
 returns-3 c =
     let a = c.before.before.before.before.before.before.before.before.before.before.before.before.before.before.args in
     let long = rw c.before.before.before.before.before.before.before.before.rx-of.ensures at (sym c.before.before.before.before.before.before.before.lengths-ok.ensures ∙ not-false c.before.before.before.before.before.before.before.lengths-ok.result c.before.before.before.before.before.before.if1.false) in
@@ -104,7 +104,7 @@ same-length-8 : tie.Need-same-length-8
 same-length-8 c = search rules
 
 returns-4 : tie.Need-returns-4
-unfolding receiveOf receiveStore receiveRecords
+unfolding receive_of receive_store receive_records
 returns-4 c =
     let a = c.before.before.before.before.before.before.before.before.before.before.before.before.before.before.before.before.before.before.before.before.before.before.before.before.before.before.args in
     let long = rw c.before.before.before.before.before.before.before.before.before.before.before.before.before.before.before.before.before.before.before.before.rx-of.ensures at (sym c.before.before.before.before.before.before.before.before.before.before.before.before.before.before.before.before.before.before.before.lengths-ok.ensures ∙ not-false c.before.before.before.before.before.before.before.before.before.before.before.before.before.before.before.before.before.before.before.lengths-ok.result c.before.before.before.before.before.before.before.before.before.before.before.before.before.before.before.before.before.before.if1.false) in

@@ -4,7 +4,7 @@ use native.Mathlib.Omega.{arith}
 use Rattle.engine.specs.CellCount.{cell-count}
 use Rattle.engine.specs.Received.{table_of}
 use Rattle.engine.specs.Rows.{row-of}
-use Rattle.engine.specs.Receiving.{receive-passed, storing, receivedState}
+use Rattle.engine.specs.Receiving.{receive-passed, storing, received_state}
 use Rattle.words.specs.Meaning.{state_of}
 use Rattle.words.specs.Ready.{shaped-words}
 use Rattle.receiving_in_place.specs.Moves.{stored-moves}
@@ -53,7 +53,7 @@ same-length-3 : tie.Need-same-length-3
 same-length-3 c = search rules
 
 returns : tie.Need-returns
-unfolding receivedState
+unfolding received_state
 returns c = (rw (c.before.before.before.before.before.before.put-received.ensures, c.before.before.before.before.before.before.before.before.before.before.store-message.ensures.0, c.before.before.before.before.before.before.before.before.before.before.before.before.before.before.before.before.requires.0.1), (rw (c.before.before.keep-bytes.ensures, c.before.before.before.before.before.before.before.before.before.before.before.before.before.before.before.before.requires.0.1), rw (c.before.before.before.before.before.before.before.before.before.before.store-message.ensures.1, c.before.before.before.before.before.before.before.before.before.before.before.before.before.before.before.before.requires.0.1)))
 
 pub receive-new-spec : {M : Type 1} → statement M

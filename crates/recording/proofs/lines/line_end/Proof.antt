@@ -3,12 +3,12 @@ use mathlib.Core.Path.{◌≡◌, refl, ap}
 use Prim.Native.Nat.{◌+◌, ◌-◌}
 use native.Mathlib.Omega.{arith}
 use lib.ListN.{length, drop}
-use Rattle.recording.specs.Lines.{untilFeed, until-here, until-next, until_end}
+use Rattle.recording.specs.Lines.{until_feed, until-here, until-next, until_end}
 use Rattle.recording.proofs.lines.line_end.Statement.{statement}
 use Rattle.recording.proofs.lines.line_end.Tie as tie
 
 abbrev invariant-loop : tie.invariant-loop
-invariant-loop input at i₀ i = i + length (untilFeed (drop i input)) ≡ at + length (untilFeed (drop at input))
+invariant-loop input at i₀ i = i + length (until_feed (drop i input)) ≡ at + length (until_feed (drop at input))
 
 abbrev decreases-loop : tie.decreases-loop
 decreases-loop input at i₀ i = length input - i

@@ -1,5 +1,5 @@
 -- A byte that has room is carried, any other dropped.
-use Rattle.replaying.specs.Feeding.{lineWith, countWith}
+use Rattle.replaying.specs.Feeding.{line_with, count_with}
 use borrow.Author.Tests.{lt-ltb, le-ltb}
 use borrow.Author.Rules.{rules}
 use Rattle.replaying.proofs.feeding.carry.Statement.{statement}
@@ -12,14 +12,14 @@ add-result : tie.Need-overflow-add-result
 add-result c = search rules
 
 returns : tie.Need-returns
-unfolding lineWith countWith
+unfolding line_with count_with
 returns c = (simp (lt-ltb _ _ c.if1.true), simp (lt-ltb _ _ c.if1.true))
 
 add-result-2 : tie.Need-overflow-add-result-2
 add-result-2 c = search rules
 
 returns-2 : tie.Need-returns-2
-unfolding lineWith countWith
+unfolding line_with count_with
 returns-2 c = (simp (le-ltb _ _ c.if1.false), simp (le-ltb _ _ c.if1.false))
 
 pub carry-spec : {M : Type 1} → statement M

@@ -5,7 +5,7 @@ use native.Mathlib.Nat.{zero-add}
 use native.Mathlib.Omega.{arith}
 use lib.ListN.{length}
 use Rattle.replaying.specs.Writing.{LINE_TEXT}
-use Rattle.replaying.specs.Feeding.{saidBy, startingWith, closed, closedAs, closeOf, closeOut, said-short}
+use Rattle.replaying.specs.Feeding.{said_by, starting_with, closed, closed_as, close_of, close_out, said-short}
 use Rattle.replaying.specs.FeedLine.{put-start}
 use borrow.Author.Rules.{rules}
 use Rattle.replaying.proofs.feeding.close.Statement.{statement}
@@ -24,18 +24,18 @@ same-length-2 : tie.Need-same-length-2
 same-length-2 c = search rules
 
 returns : tie.Need-returns
-unfolding closeOf closeOut closed
+unfolding close_of close_out closed
 returns c =
     let a = c.before.before.before.before.before.before.before.before.before.before.before.before.before.args in
     let e = c.before.before.before.before.before.before.before.end-input in
     let room : LINE_TEXT ≤ length a.out.now = search rules in
     let short = said-short e.result.answer in (
-      ap (closedAs e.result.replay) (c.show.ensures.0 ∙ zero-add _) ∙ ap (λ x. closedAs x.said.replay (length (saidBy x.said.answer))) e.ensures,
+      ap (closed_as e.result.replay) (c.show.ensures.0 ∙ zero-add _) ∙ ap (λ x. closed_as x.said.replay (length (said_by x.said.answer))) e.ensures,
       (
         ap (λ x. x.store) e.ensures,
         (
           ap (λ x. x.records) e.ensures,
-          c.show.ensures.1 ∙ put-start (saidBy e.result.answer) a.out.now (omega (arith, short, room)) ∙ ap (λ x. startingWith (saidBy x.said.answer) a.out.now) e.ensures,
+          c.show.ensures.1 ∙ put-start (said_by e.result.answer) a.out.now (omega (arith, short, room)) ∙ ap (λ x. starting_with (said_by x.said.answer) a.out.now) e.ensures,
         ),
       ),
     )

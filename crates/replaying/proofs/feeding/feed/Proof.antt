@@ -4,14 +4,14 @@ use Prim.Native.Nat.{◌-◌}
 use native.Mathlib.Omega.{arith}
 use lib.ListN.{length}
 use Rattle.replaying.specs.Feeding.{carrying}
-use Rattle.replaying.specs.FeedLine.{fedAs, Going, going-begins, going_step, going-all, going-full, line-open, line-ended}
+use Rattle.replaying.specs.FeedLine.{fed_as, Going, going-begins, going_step, going-all, going-full, line-open, line-ended}
 use Rattle.replaying.proofs.feeding.feed.Statement.{statement}
 use Rattle.replaying.proofs.feeding.feed.Tie as tie
 
 abbrev invariant-loop : tie.invariant-loop
 invariant-loop store₀ records₀ line₀ piece out₀ said₀ count₀ used₀ wrote₀ store records line out said count used wrote =
     Going (carrying (record { replay = said₀.replay; count = count₀ }) store₀ records₀ line₀) piece out₀
-    (fedAs (record { replay = said.replay; count = count }) used wrote) store records line out
+    (fed_as (record { replay = said.replay; count = count }) used wrote) store records line out
     × (length store ≡ length store₀)
     × (length records ≡ length records₀)
 
@@ -43,7 +43,7 @@ returns c =
     let a = c.before.before.before.before.before.before.before.before.before.args in
     let l = c.before.before.before.loop in
     let k = carrying a.session a.store.now a.records.now a.line.now in
-    let f = fedAs (record { replay = l.said.replay; count = l.count }) l.used l.wrote in
+    let f = fed_as (record { replay = l.said.replay; count = l.count }) l.used l.wrote in
     let p = going-full k a.piece.now a.out.now f l.store l.records l.line l.out l.invariant.0 (omega arith) in
     (c.fed-as.ensures ∙ p.0, p.1)
 
@@ -67,7 +67,7 @@ returns-2 c =
     let a = c.before.before.before.before.before.before.before.before.before.before.before.before.args in
     let l = c.before.before.before.before.before.before.loop in
     let k = carrying a.session a.store.now a.records.now a.line.now in
-    let f = fedAs (record { replay = l.said.replay; count = l.count }) l.used l.wrote in
+    let f = fed_as (record { replay = l.said.replay; count = l.count }) l.used l.wrote in
     let g = c.before.before.gather.ensures in
     let e = line-open f l.store l.records l.line a.piece.now l.out g.0 g.1.0 g.1.1 c.before.if2.true in
     let p = going-all k a.piece.now a.out.now _ _ _ _ _ (going_step k a.piece.now a.out.now f l.store l.records l.line l.out l.invariant.0 (omega arith) e) c.before.if2.true in
@@ -90,7 +90,7 @@ loop-again c =
     let a = c.before.before.before.before.before.before.before.before.before.before.before.before.before.before.before.before.before.before.before.before.before.before.before.before.before.args in
     let l = c.before.before.before.before.before.before.before.before.before.before.before.before.before.before.before.before.before.before.before.loop in
     let k = carrying a.session a.store.now a.records.now a.line.now in
-    let f = fedAs (record { replay = l.said.replay; count = l.count }) l.used l.wrote in
+    let f = fed_as (record { replay = l.said.replay; count = l.count }) l.used l.wrote in
     let g = c.before.before.before.before.before.before.before.before.before.before.before.before.before.before.before.gather.ensures in
     let w = c.before.before.show.ensures in
     let e = line-ended f l.store l.records l.line a.piece.now l.out g.0 g.1.0 g.1.1 c.before.before.before.before.before.before.before.before.before.before.before.before.before.before.if2.false c.before.before.before.before.before.before.before.before.end_line.ensures w.0 w.1 in (
@@ -116,7 +116,7 @@ returns-3 c =
     let a = c.before.before.before.before.before.before.before.before.args in
     let l = c.before.before.loop in
     let k = carrying a.session a.store.now a.records.now a.line.now in
-    let f = fedAs (record { replay = l.said.replay; count = l.count }) l.used l.wrote in
+    let f = fed_as (record { replay = l.said.replay; count = l.count }) l.used l.wrote in
     let p = going-all k a.piece.now a.out.now f l.store l.records l.line l.out l.invariant.0 c.before.loop-test.false in
     (c.fed-as3.ensures ∙ p.0, p.1)
 

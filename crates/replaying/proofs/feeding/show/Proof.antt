@@ -2,9 +2,9 @@
 use mathlib.Core.Path.{sym, ◌∙◌, ap}
 use Prim.Native.Nat.{◌+◌}
 use lib.ListN.{length}
-use Rattle.text.specs.Put.{putEnd, put_in}
+use Rattle.text.specs.Put.{put_end, put_in}
 use Rattle.replaying.specs.Writing.{text_of}
-use Rattle.replaying.specs.Feeding.{saidBy}
+use Rattle.replaying.specs.Feeding.{said_by}
 use Rattle.replaying.specs.FeedLine.{put-nothing, put-room}
 use borrow.Author.Rules.{rules}
 use Rattle.replaying.proofs.feeding.show.Statement.{statement}
@@ -31,7 +31,7 @@ returns c =
     let a = c.before.before.before.args in
     let nothing = put-nothing a.out.now a.at in
     let e = c.enum_told.given.1 in
-    (nothing.0 ∙ sym (ap (λ x. a.at + length (saidBy x)) e), nothing.1 ∙ sym (ap (λ x. put_in (saidBy x) a.out.now a.at) e))
+    (nothing.0 ∙ sym (ap (λ x. a.at + length (said_by x)) e), nothing.1 ∙ sym (ap (λ x. put_in (said_by x) a.out.now a.at) e))
 
 same_length : tie.Need-same-length
 same_length c = search rules
@@ -43,8 +43,8 @@ returns-2 c =
     let p = c.before.before.put in
     let t = c.before.before.before.before.before.write-line.ensures in
     let e = c.before.before.before.before.before.before.before.before.answer.given.1 in (
-      p.ensures.0 ∙ ap (λ r. putEnd r a.out.now a.at) t ∙ put-room _ a.out.now a.at c.before.before.before.before.before.before.before.before.before.before.before.requires ∙ sym (ap (λ x. a.at + length (saidBy x)) e),
-      p.ensures.1 ∙ ap (λ r. put_in r a.out.now a.at) t ∙ sym (ap (λ x. put_in (saidBy x) a.out.now a.at) e),
+      p.ensures.0 ∙ ap (λ r. put_end r a.out.now a.at) t ∙ put-room _ a.out.now a.at c.before.before.before.before.before.before.before.before.before.before.before.requires ∙ sym (ap (λ x. a.at + length (said_by x)) e),
+      p.ensures.1 ∙ ap (λ r. put_in r a.out.now a.at) t ∙ sym (ap (λ x. put_in (said_by x) a.out.now a.at) e),
     )
 
 pub show-spec : {M : Type 1} → statement M

@@ -1,7 +1,7 @@
 -- By what the replay waits for.
 use mathlib.Core.Path.{sym, ◌∙◌, ap}
 use Rattle.replaying.specs.Taking.{recorded}
-use Rattle.replaying.specs.Line.{afterReading, answerAs, answer_of}
+use Rattle.replaying.specs.Line.{after_reading, answer_as, answer_of}
 use borrow.Author.Rules.{rules}
 use Rattle.replaying.proofs.lines.answer_line.Statement.{statement}
 use Rattle.replaying.proofs.lines.answer_line.Tie as tie
@@ -33,8 +33,8 @@ returns c =
     let a = c.before.before.before.before.before.before.before.before.before.before.before.before.before.before.args in
     let h = recorded a.r.state a.records.now in
     c.before.before.before.before.answer-reading.ensures
-    ∙ ap (afterReading h a.store.now) c.before.before.before.before.before.before.before.read-frame.ensures
-    ∙ sym (ap (λ w. answerAs w h a.store.now a.line.now) c.before.before.before.before.before.before.before.before.enum_told.given.1)
+    ∙ ap (after_reading h a.store.now) c.before.before.before.before.before.before.before.read-frame.ensures
+    ∙ sym (ap (λ w. answer_as w h a.store.now a.line.now) c.before.before.before.before.before.before.before.before.enum_told.given.1)
 
 same-length-3 : tie.Need-same-length-3
 same-length-3 c = search rules
@@ -47,7 +47,7 @@ unfolding answer_of
 returns-2 c =
     let a = c.before.before.before.before.before.before.before.before.before.before.before.before.before.before.args in
     let h = recorded a.r.state a.records.now in
-    c.before.before.before.before.answer-payload.ensures ∙ sym (ap (λ w. answerAs w h a.store.now a.line.now) c.before.before.before.before.before.before.before.before.waiting.given.1)
+    c.before.before.before.before.answer-payload.ensures ∙ sym (ap (λ w. answer_as w h a.store.now a.line.now) c.before.before.before.before.before.before.before.before.waiting.given.1)
 
 pub answer-line-spec : {M : Type 1} → statement M
 answer-line-spec =

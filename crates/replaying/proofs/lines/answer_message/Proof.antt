@@ -1,7 +1,7 @@
 -- By what the message carries.
 use mathlib.Core.Path.{sym, ◌∙◌, ap}
 use Rattle.replaying.specs.Taking.{recorded}
-use Rattle.replaying.specs.Line.{afterCarried, ended-left}
+use Rattle.replaying.specs.Line.{after_carried, ended-left}
 use borrow.Author.Rules.{rules}
 use Rattle.replaying.proofs.lines.answer_message.Statement.{statement}
 use Rattle.replaying.proofs.lines.answer_message.Tie as tie
@@ -30,7 +30,7 @@ returns c =
     let h = recorded a.s a.records.now in
     let end = c.before.before.end_frame.ensures in
     let e = sym c.before.before.before.before.before.before.from-link-msg.ensures ∙ c.before.before.before.before.enum_told.given.1 in
-    ended-left 0 h a.store.now end.0 end.1 ∙ sym (ap (afterCarried h a.store.now) e)
+    ended-left 0 h a.store.now end.0 end.1 ∙ sym (ap (after_carried h a.store.now) e)
 
 same-length-2 : tie.Need-same-length-2
 same-length-2 c = search rules
@@ -42,7 +42,7 @@ returns-2 : tie.Need-returns-2
 returns-2 c =
     let a = c.before.before.before.before.before.before.before.before.before.before.before.before.before.args in
     let e = sym c.before.before.before.before.before.before.before.before.before.before.from-link-msg.ensures ∙ c.before.before.before.before.before.before.before.before.carried.given.1 in
-    c.before.before.before.before.answer-reliable.ensures ∙ sym (ap (afterCarried (recorded a.s a.records.now) a.store.now) e)
+    c.before.before.before.before.answer-reliable.ensures ∙ sym (ap (after_carried (recorded a.s a.records.now) a.store.now) e)
 
 pub answer-message-spec : {M : Type 1} → statement M
 answer-message-spec =

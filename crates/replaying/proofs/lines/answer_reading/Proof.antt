@@ -1,7 +1,7 @@
 -- By what the line reads as.
 use mathlib.Core.Path.{sym, ◌∙◌, ap}
 use Rattle.replaying.specs.Taking.{recorded, ended}
-use Rattle.replaying.specs.Line.{afterReading, ended-left}
+use Rattle.replaying.specs.Line.{after_reading, ended-left}
 use borrow.Author.Rules.{rules}
 use Rattle.replaying.proofs.lines.answer_reading.Statement.{statement}
 use Rattle.replaying.proofs.lines.answer_reading.Tie as tie
@@ -29,7 +29,7 @@ returns c =
     let a = c.before.before.before.before.before.before.before.before.before.before.args in
     let h = recorded a.s a.records.now in
     let end = c.before.before.end_frame.ensures in
-    ended-left _ h a.store.now (end.0 ∙ ap (λ n. ended n h) c.before.before.before.before.number.ensures) end.1 ∙ sym (ap (afterReading h a.store.now) c.before.before.before.before.before.before.reading.given.1)
+    ended-left _ h a.store.now (end.0 ∙ ap (λ n. ended n h) c.before.before.before.before.number.ensures) end.1 ∙ sym (ap (after_reading h a.store.now) c.before.before.before.before.before.before.reading.given.1)
 
 same-length-2 : tie.Need-same-length-2
 same-length-2 c = search rules
@@ -40,7 +40,7 @@ same-length-3 c = search rules
 returns-2 : tie.Need-returns-2
 returns-2 c =
     let a = c.before.before.before.before.before.before.before.before.before.before.before.before.args in
-    c.before.before.before.before.answer-message.ensures ∙ sym (ap (afterReading (recorded a.s a.records.now) a.store.now) c.before.before.before.before.before.before.before.before.reading2.given.1)
+    c.before.before.before.before.answer-message.ensures ∙ sym (ap (after_reading (recorded a.s a.records.now) a.store.now) c.before.before.before.before.before.before.before.before.reading2.given.1)
 
 pub answer-reading-spec : {M : Type 1} → statement M
 answer-reading-spec =

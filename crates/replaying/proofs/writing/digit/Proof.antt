@@ -2,7 +2,7 @@
 use native.Mathlib.Omega.{arith}
 use mathlib.Core.Path.{◌≡◌, ◌∙◌}
 use Prim.Native.Nat.{◌%◌}
-use Rattle.text.specs.Hex.{hexDigit}
+use Rattle.text.specs.Hex.{hex_digit}
 use borrow.Author.Rules.{rules}
 use Rattle.replaying.proofs.writing.digit.Statement.{statement}
 use Rattle.replaying.proofs.writing.digit.Tie as tie
@@ -14,7 +14,7 @@ hex-digit-requires : tie.Need-hex-digit-requires
 hex-digit-requires c κs = search rules
 
 returns : tie.Need-returns
-unfolding hexDigit
+unfolding hex_digit
 returns c = c.hex-digit.ensures ∙ (let e : c.before.args.n % 16 % 16 ≡ c.before.args.n % 16 = omega arith in rw e)
 
 pub digit-spec : {M : Type 1} → statement M

@@ -1,6 +1,6 @@
 -- By the kind.
 use borrow.Author.Tests.{eq-eqb, ne_eqb}
-use Rattle.runs.specs.Asked.{plainGiven}
+use Rattle.runs.specs.Asked.{plain_given}
 use borrow.Author.Rules.{rules}
 use Rattle.runs.proofs.given.plain_given.Statement.{statement}
 use Rattle.runs.proofs.given.plain_given.Tie as tie
@@ -9,32 +9,32 @@ cast-if1 : tie.Need-overflow-cast-if1
 cast-if1 c = search rules
 
 returns : tie.Need-returns
-unfolding plainGiven
+unfolding plain_given
 returns c = simp (eq-eqb _ _ c.if1.true)
 
 cast-if2 : tie.Need-overflow-cast-if2
 cast-if2 c = search rules
 
 returns-2 : tie.Need-returns-2
-unfolding plainGiven
+unfolding plain_given
 returns-2 c = simp (ne_eqb _ _ c.before.if1.false, eq-eqb _ _ c.if2.true)
 
 cast-if3 : tie.Need-overflow-cast-if3
 cast-if3 c = search rules
 
 returns-3 : tie.Need-returns-3
-unfolding plainGiven
+unfolding plain_given
 returns-3 c = simp (ne_eqb _ _ c.before.before.if1.false, ne_eqb _ _ c.before.if2.false, eq-eqb _ _ c.if3.true)
 
 cast-if4 : tie.Need-overflow-cast-if4
 cast-if4 c = search rules
 
 returns-4 : tie.Need-returns-4
-unfolding plainGiven
+unfolding plain_given
 returns-4 c = simp (ne_eqb _ _ c.before.before.before.if1.false, ne_eqb _ _ c.before.before.if2.false, ne_eqb _ _ c.before.if3.false, eq-eqb _ _ c.if4.true)
 
 returns-5 : tie.Need-returns-5
-unfolding plainGiven
+unfolding plain_given
 returns-5 c = simp (ne_eqb _ _ c.before.before.before.if1.false, ne_eqb _ _ c.before.before.if2.false, ne_eqb _ _ c.before.if3.false, ne_eqb _ _ c.if4.false)
 
 pub plain-given-spec : {M : Type 1} → statement M

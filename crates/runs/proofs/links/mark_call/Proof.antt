@@ -2,7 +2,7 @@
 use borrow.Author.Tests.{lt-ltb, le-ltb}
 use Rattle.runs.specs.Did.{none-did}
 use Rattle.runs.specs.Bridges.{mark-did}
-use Rattle.seq.specs.Numbers.{seqOf}
+use Rattle.seq.specs.Numbers.{seq_of}
 use borrow.Author.Rules.{rules}
 use Rattle.runs.proofs.links.mark_call.Statement.{statement}
 use Rattle.runs.proofs.links.mark_call.Tie as tie
@@ -26,7 +26,7 @@ same_length : tie.Need-same-length
 same_length c = search rules
 
 returns-2 : tie.Need-returns-2
-returns-2 c = mark-did _ _ _ _ _ c.before.before.before.before.before.before.before.args.slot (seqOf c.before.before.before.before.before.before.before.args.number) (simp (lt-ltb _ _ c.before.before.before.before.before.if1.false)) c.tell.ensures c.before.before.before.mark.ensures.0 c.before.before.before.mark.ensures.1.0
+returns-2 c = mark-did _ _ _ _ _ c.before.before.before.before.before.before.before.args.slot (seq_of c.before.before.before.before.before.before.before.args.number) (simp (lt-ltb _ _ c.before.before.before.before.before.if1.false)) c.tell.ensures c.before.before.before.mark.ensures.0 c.before.before.before.mark.ensures.1.0
 
 pub mark-call-spec : {M : Type 1} → statement M
 mark-call-spec =

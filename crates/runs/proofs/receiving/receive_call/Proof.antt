@@ -2,7 +2,7 @@
 use mathlib.Core.Path.{sym, ◌∙◌}
 use borrow.Author.Tests.{lt-ltb, le-ltb}
 use Rattle.runs.specs.Did.{none-did}
-use Rattle.runs.specs.Asked.{receiveAsked}
+use Rattle.runs.specs.Asked.{receive_asked}
 use borrow.Author.Rules.{rules}
 use Rattle.runs.proofs.receiving.receive_call.Statement.{statement}
 use Rattle.runs.proofs.receiving.receive_call.Tie as tie
@@ -14,7 +14,7 @@ no-call-requires : tie.Need-no-call-requires
 no-call-requires c κs = search rules
 
 returns : tie.Need-returns
-unfolding receiveAsked
+unfolding receive_asked
 returns c = λ s. none-did _ _ _ (simp (le-ltb _ _ c.before.if1.true)) c.no_call.ensures s c.before.before.before.before.before.before.before.before.args.received.now c.before.before.before.before.before.before.before.before.args.records.now
 
 shared-slice-read-message-given : tie.Need-shared-slice-read-message-given
@@ -39,7 +39,7 @@ receive-message-requires : tie.Need-receive-message-requires
 receive-message-requires c κs = search rules
 
 returns-2 : tie.Need-returns-2
-unfolding receiveAsked
+unfolding receive_asked
 returns-2 c = λ s. none-did _ _ _ (simp (lt-ltb _ _ c.before.before.before.before.before.before.if1.false, (sym c.before.before.before.message-given.ensures ∙ c.before.enum_told.given.1))) c.no-call2.ensures s c.before.before.before.before.before.before.before.before.before.before.before.before.before.args.received.now c.before.before.before.before.before.before.before.before.before.before.before.before.before.args.records.now
 
 same_length : tie.Need-same-length
@@ -52,7 +52,7 @@ same-length-3 : tie.Need-same-length-3
 same-length-3 c = search rules
 
 returns-3 : tie.Need-returns-3
-unfolding receiveAsked
+unfolding receive_asked
 returns-3 c = simp (lt-ltb _ _ c.before.before.before.before.before.before.before.before.before.before.before.before.before.before.before.before.if1.false, (sym c.before.before.before.before.before.before.before.before.before.before.before.before.before.message-given.ensures ∙ c.before.before.before.before.before.before.before.before.before.before.before.given.given.1)) c.before.before.before.before.before.before.receive-message.ensures
 
 pub receive-call-spec : {M : Type 1} → statement M

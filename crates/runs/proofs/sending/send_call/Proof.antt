@@ -1,7 +1,7 @@
 -- By the message that is named.
 use mathlib.Core.Path.{sym, ◌∙◌}
 use Rattle.runs.specs.Did.{none-did}
-use Rattle.runs.specs.Asked.{sendAsked}
+use Rattle.runs.specs.Asked.{send_asked}
 use borrow.Author.Rules.{rules}
 use Rattle.runs.proofs.sending.send_call.Statement.{statement}
 use Rattle.runs.proofs.sending.send_call.Tie as tie
@@ -28,7 +28,7 @@ send-message-requires : tie.Need-send-message-requires
 send-message-requires c κs = search rules
 
 returns : tie.Need-returns
-unfolding sendAsked
+unfolding send_asked
 returns c = λ v k. none-did _ _ _ (simp (sym c.before.before.before.message-given.ensures ∙ c.before.enum_told.given.1)) c.no_call.ensures c.before.before.before.before.before.before.before.before.before.before.args.sent.now v k
 
 same_length : tie.Need-same-length
@@ -38,7 +38,7 @@ same-length-2 : tie.Need-same-length-2
 same-length-2 c = search rules
 
 returns-2 : tie.Need-returns-2
-unfolding sendAsked
+unfolding send_asked
 returns-2 c = simp (sym c.before.before.before.before.before.before.before.before.before.before.message-given.ensures ∙ c.before.before.before.before.before.before.before.before.given.given.1) c.before.before.before.before.send-message.ensures
 
 pub send-call-spec : {M : Type 1} → statement M

@@ -3,12 +3,12 @@ use mathlib.Core.Path.{refl, sym, ap, ◌∙◌}
 use native.Mathlib.Omega.{arith}
 use lib.ListN.{set}
 use Rattle.link.specs.declared.row.LinkRow.{LinkRow}
-use Rattle.engine.specs.Sound.{rowAt}
+use Rattle.engine.specs.Sound.{row_at}
 use Rattle.engine.specs.Rows.{row-of}
-use Rattle.engine.specs.Fields.{withParts}
-use Rattle.engine.specs.Acking.{sweptTx, ackedRow, ackedTx, ackedState, ackOf, ack-passed, acked-count}
+use Rattle.engine.specs.Fields.{with_parts}
+use Rattle.engine.specs.Acking.{swept_tx, acked_row, acked_tx, acked_state, ack_of, ack-passed, acked-count}
 use Rattle.words.specs.Meaning.{state_of}
-use Rattle.sending_in_place.specs.RowsBare.{ackedFields, acked-fields}
+use Rattle.sending_in_place.specs.RowsBare.{acked_fields, acked-fields}
 use borrow.Author.Rules.{rules}
 use Rattle.sending_in_place.proofs.acking.ack.Statement.{statement}
 use Rattle.sending_in_place.proofs.acking.ack.Tie as tie
@@ -47,7 +47,7 @@ same_length : tie.Need-same-length
 same_length c = search rules
 
 returns : tie.Need-returns
-unfolding ackOf
+unfolding ack_of
 returns c =
     let e = sym c.before.before.before.ack-verdict.ensures ∙ c.before.verdict.given.1 in
     (simp e, (simp e, λ ne. refl))
@@ -56,15 +56,15 @@ same-length-2 : tie.Need-same-length-2
 same-length-2 c = search rules
 
 returns-2 : tie.Need-returns-2
-unfolding ackOf ackedState
+unfolding ack_of acked_state
 returns-2 c =
     let s = state_of c.before.before.before.before.before.before.before.before.before.before.before.before.before.before.before.before.before.before.before.before.before.args.words.now in
     let p = ack-passed s c.before.before.before.before.before.before.before.before.before.before.before.before.before.before.before.before.before.before.before.before.before.args.slot c.before.before.before.before.before.before.before.before.before.before.before.before.before.before.before.before.before.before.before.before.before.args.time c.before.before.before.before.before.before.before.before.before.before.before.before.before.before.before.before.before.before.before.before.before.args.seq.0 (sym c.before.before.before.before.before.before.before.before.before.before.before.before.before.before.before.before.before.before.ack-verdict.ensures ∙ c.before.before.before.before.before.before.before.before.before.before.before.before.before.before.before.before.enum_told.given.1) in
     let start = c.before.before.before.before.before.before.before.before.before.before.before.before.before.before.before.before.before.before.before.before.before in
     let e = sym c.before.before.before.before.before.before.before.before.before.before.before.before.before.before.before.before.before.before.ack-verdict.ensures ∙ c.before.before.before.before.before.before.before.before.before.before.before.before.before.before.before.before.enum_told.given.1 in
-    let R = ackedRow s start.args.slot start.args.time start.args.seq.0 in
-    let row = ap (ackedFields (rowAt s start.args.slot)) c.before.before.before.before.before.before.before.before.before.before.before.before.before.before.settle.ensures.0 ∙ ap (λ (r : LinkRow). ackedFields r R) (sym (row-of s start.args.slot p.timed.at.small)) ∙ sym (acked-fields s start.args.slot start.args.time start.args.seq.0) in
-    (simp e, (simp e (rw (c.before.before.put-time.ensures, c.before.before.before.before.before.before.put-acked.ensures, c.before.before.before.before.before.before.before.before.before.before.sweep.ensures, c.before.before.before.before.before.before.before.before.before.before.before.before.before.before.settle.ensures.1) (ap (λ (r : LinkRow). withParts s (set s.links start.args.slot r) (sweptTx (ackedTx s start.args.slot start.args.seq.0)) s.rx start.args.time) row)), λ ne. absurd (ne refl)))
+    let R = acked_row s start.args.slot start.args.time start.args.seq.0 in
+    let row = ap (acked_fields (row_at s start.args.slot)) c.before.before.before.before.before.before.before.before.before.before.before.before.before.before.settle.ensures.0 ∙ ap (λ (r : LinkRow). acked_fields r R) (sym (row-of s start.args.slot p.timed.at.small)) ∙ sym (acked-fields s start.args.slot start.args.time start.args.seq.0) in
+    (simp e, (simp e (rw (c.before.before.put-time.ensures, c.before.before.before.before.before.before.put-acked.ensures, c.before.before.before.before.before.before.before.before.before.before.sweep.ensures, c.before.before.before.before.before.before.before.before.before.before.before.before.before.before.settle.ensures.1) (ap (λ (r : LinkRow). with_parts s (set s.links start.args.slot r) (swept_tx (acked_tx s start.args.slot start.args.seq.0)) s.rx start.args.time) row)), λ ne. absurd (ne refl)))
 
 pub ack-spec : {M : Type 1} → statement M
 ack-spec =

@@ -1,8 +1,8 @@
 -- The tag of the packet in its cell, then the totals.
 use mathlib.Core.Path.{◌≡◌, ap}
 use native.Mathlib.Omega.{arith}
-use Rattle.engine.specs.Table.{packetOf}
-use Rattle.engine.specs.Acking.{receivedTx}
+use Rattle.engine.specs.Table.{packet_of}
+use Rattle.engine.specs.Acking.{received_tx}
 use Rattle.words.specs.Meaning.{state_of}
 use borrow.Author.Rules.{rules}
 use Rattle.sending_in_place.proofs.acking.settle_packet.Statement.{statement}
@@ -35,7 +35,7 @@ same_length : tie.Need-same-length
 same_length c = search rules
 
 returns : tie.Need-returns
-unfolding receivedTx packetOf
+unfolding received_tx packet_of
 returns c = rw (c.before.before.put-txed-unconsumable.ensures, c.before.before.before.before.before.before.before.put-txed-unacked.ensures, c.before.before.before.before.before.before.before.before.before.before.before.before.put-received.ensures) (rw (c.before.before.before.before.before.before.before.before.less.ensures, c.before.before.before.before.before.before.before.before.before.before.before.before.before.cell-of.ensures.0, c.before.before.before.before.before.before.before.before.before.before.before.before.before.before.before.tx-of.ensures, c.before.before.before.before.before.before.before.before.before.before.before.before.before.before.before.before.before.before.requires.1))
 
 pub settle-packet-spec : {M : Type 1} → statement M

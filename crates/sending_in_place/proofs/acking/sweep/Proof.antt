@@ -1,5 +1,5 @@
 -- The three numbers that a sweep changes.
-use Rattle.engine.specs.Acking.{sweptTx}
+use Rattle.engine.specs.Acking.{swept_tx}
 use borrow.Author.Rules.{rules}
 use Rattle.sending_in_place.proofs.acking.sweep.Statement.{statement}
 use Rattle.sending_in_place.proofs.acking.sweep.Tie as tie
@@ -20,7 +20,7 @@ same_length : tie.Need-same-length
 same_length c = search rules
 
 returns : tie.Need-returns
-unfolding sweptTx
+unfolding swept_tx
 returns c = rw (c.before.before.put-txed-unconsumable.ensures, c.before.before.before.before.before.before.put-txed-last-consumed.ensures, c.before.before.before.before.before.before.before.before.before.before.put-txed-count.ensures, c.before.before.before.before.before.before.before.before.before.before.before.before.before.swept.ensures)
 
 pub sweep-spec : {M : Type 1} → statement M

@@ -6,15 +6,15 @@ use borrow.Author.Tests.{not-true, not-false}
 use Rattle.engine.specs.declared.state.SentReliable.{SentReliable}
 use Rattle.engine.specs.Sizes.{PACKETS}
 use Rattle.engine.specs.Ring.{window, next-cell-lt}
-use Rattle.engine.specs.Packets.{isReceived, noPacket}
-use Rattle.engine.specs.Acking.{sweepFrom, sweepOf, sweep-on, sweep-stop, sweep-end}
+use Rattle.engine.specs.Packets.{is_received, no_packet}
+use Rattle.engine.specs.Acking.{sweep_from, sweep_of, sweep-on, sweep-stop, sweep-end}
 use Rattle.words.specs.Meaning.{state_of}
 use Rattle.sending_in_place.specs.Swept.{swept_as}
 use Rattle.sending_in_place.proofs.acking.swept.Statement.{statement}
 use Rattle.sending_in_place.proofs.acking.swept.Tie as tie
 
 abbrev invariant-loop : tie.invariant-loop
-invariant-loop words tx left₀ last₀ held₀ at₀ left last held at = (at < PACKETS) × (sweepFrom (window PACKETS noPacket (state_of words).tx.txed_packets at left) last held ≡ sweepOf (state_of words).tx)
+invariant-loop words tx left₀ last₀ held₀ at₀ left last held at = (at < PACKETS) × (sweep_from (window PACKETS no_packet (state_of words).tx.txed_packets at left) last held ≡ sweep_of (state_of words).tx)
 
 abbrev decreases-loop : tie.decreases-loop
 decreases-loop words tx left₀ last₀ held₀ at₀ left last held at = left
@@ -26,7 +26,7 @@ first-cell-requires : tie.Need-first-cell-requires invariant-loop decreases-loop
 first-cell-requires c κs = rw c.before.tx-of.ensures c.before.before.before.requires.1
 
 loop-holds : tie.Need-loop-init invariant-loop decreases-loop
-unfolding sweepOf
+unfolding sweep_of
 loop-holds c = (c.first_Cell.ensures.1, simp (c.first_Cell.ensures.0, c.before.before.tx-of.ensures))
 
 packet-at-requires : tie.Need-packet-at-requires invariant-loop decreases-loop
@@ -44,7 +44,7 @@ returns c =
     let s = state_of start.args.words.now in
     let l = c.before.before.before.before.before.before.loop in
     let p = c.before.before.before.before.packet-at.ensures.0 in
-    let r = ap (λ (x : SentReliable). isReceived x.status) (sym p) ∙ sym c.before.before.is-received.ensures ∙ not-true c.before.before.is-received.result c.before.if1.true in
+    let r = ap (λ (x : SentReliable). is_received x.status) (sym p) ∙ sym c.before.before.is-received.ensures ∙ not-true c.before.before.is-received.result c.before.if1.true in
     c.swept-to.ensures ∙ swept_as s.tx _ _ _ _ c.before.before.before.before.before.before.before.before.before.tx-of.ensures (sym l.invariant.1 ∙ sweep-stop s.tx.txed_packets l.at l.left l.last l.held c.before.before.before.before.before.loop-test.true r ∙ rw p)
 
 less-requires : tie.Need-less-requires invariant-loop decreases-loop
@@ -63,7 +63,7 @@ loop-again : tie.Need-loop-preserved invariant-loop decreases-loop
 loop-again c =
     let l = c.before.before.before.before.before.before.before.loop in
     let p = c.before.before.before.before.before.packet-at.ensures.0 in
-    let r = ap (λ (x : SentReliable). isReceived x.status) (sym p) ∙ sym c.before.before.before.is-received.ensures ∙ not-false c.before.before.before.is-received.result c.before.before.if1.false in
+    let r = ap (λ (x : SentReliable). is_received x.status) (sym p) ∙ sym c.before.before.before.is-received.ensures ∙ not-false c.before.before.before.is-received.result c.before.before.if1.false in
     (rw c.next-cell.ensures (next-cell-lt PACKETS l.at (omega arith)), rw (c.next-cell.ensures, c.before.less.ensures, p) (sym (sweep-on (state_of c.before.before.before.before.before.before.before.before.before.before.before.before.args.words.now).tx.txed_packets l.at l.left l.last l.held c.before.before.before.before.before.before.loop-test.true r) ∙ l.invariant.1))
 
 swept-to-requires-2 : tie.Need-swept-to-requires-2 invariant-loop decreases-loop

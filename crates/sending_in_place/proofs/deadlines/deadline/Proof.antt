@@ -2,7 +2,7 @@
 use native.Mathlib.Omega.{arith}
 use borrow.Author.Rules.{rules}
 use Rattle.link.specs.Timeout.{duration-between, bounded}
-use Rattle.engine.specs.Deadlines.{deadlineOf}
+use Rattle.engine.specs.Deadlines.{deadline_of}
 use Rattle.sending_in_place.proofs.deadlines.deadline.Statement.{statement}
 use Rattle.sending_in_place.proofs.deadlines.deadline.Tie as tie
 
@@ -23,7 +23,7 @@ add-result c =
     record { fits = omega (arith, c.definitely-sent.ensures, c.before.duration.ensures, start.requires.1, wait.1, bounds.within) }
 
 returns : tie.Need-returns
-unfolding deadlineOf
+unfolding deadline_of
 returns c = simp (c.definitely-sent.ensures, c.before.duration.ensures, c.before.before.row-of.ensures)
 
 pub deadline-spec : {M : Type 1} → statement M

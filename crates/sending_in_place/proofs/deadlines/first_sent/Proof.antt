@@ -5,14 +5,14 @@ use native.Mathlib.Omega.{arith}
 use Rattle.engine.specs.declared.state.SentReliable.{SentReliable}
 use Rattle.engine.specs.Sizes.{PACKETS}
 use Rattle.engine.specs.Ring.{window, next-cell-lt}
-use Rattle.engine.specs.Packets.{isSent, noPacket, packets}
-use Rattle.engine.specs.Deadlines.{firstSent, first-here, first_on, first-end}
+use Rattle.engine.specs.Packets.{is_sent, no_packet, packets}
+use Rattle.engine.specs.Deadlines.{first_sent, first-here, first_on, first-end}
 use Rattle.words.specs.Meaning.{state_of}
 use Rattle.sending_in_place.proofs.deadlines.first_sent.Statement.{statement}
 use Rattle.sending_in_place.proofs.deadlines.first_sent.Tie as tie
 
 abbrev invariant-loop : tie.invariant-loop
-invariant-loop words left₀ at₀ left at = (at < PACKETS) × (firstSent (window PACKETS noPacket (state_of words).tx.txed_packets at left) ≡ firstSent (packets (state_of words).tx))
+invariant-loop words left₀ at₀ left at = (at < PACKETS) × (first_sent (window PACKETS no_packet (state_of words).tx.txed_packets at left) ≡ first_sent (packets (state_of words).tx))
 
 abbrev decreases-loop : tie.decreases-loop
 decreases-loop words left₀ at₀ left at = left
@@ -39,7 +39,7 @@ returns : tie.Need-returns invariant-loop decreases-loop
 returns c =
     let l = c.before.before.before.before.before.loop in
     let p = c.before.before.before.packet-at.ensures.0 in
-    let r = ap (λ (x : SentReliable). isSent x.status) (sym p) ∙ sym c.before.before.is-sent.ensures ∙ c.before.if1.true in
+    let r = ap (λ (x : SentReliable). is_sent x.status) (sym p) ∙ sym c.before.before.is-sent.ensures ∙ c.before.if1.true in
     rw (c.in-flight.ensures, p) (sym (first-here (state_of c.before.before.before.before.before.before.before.before.before.args.words.now).tx.txed_packets l.at l.left c.before.before.before.before.loop-test.true r) ∙ l.invariant.1)
 
 next-cell-requires : tie.Need-next-cell-requires invariant-loop decreases-loop
@@ -55,7 +55,7 @@ loop-again : tie.Need-loop-preserved invariant-loop decreases-loop
 loop-again c =
     let l = c.before.before.before.before.before.loop in
     let p = c.before.before.before.packet-at.ensures.0 in
-    let r = ap (λ (x : SentReliable). isSent x.status) (sym p) ∙ sym c.before.before.is-sent.ensures ∙ c.before.if1.false in
+    let r = ap (λ (x : SentReliable). is_sent x.status) (sym p) ∙ sym c.before.before.is-sent.ensures ∙ c.before.if1.false in
     (rw c.next-cell.ensures (next-cell-lt PACKETS l.at (omega arith)), rw c.next-cell.ensures (sym (first_on (state_of c.before.before.before.before.before.before.before.before.before.args.words.now).tx.txed_packets l.at l.left c.before.before.before.before.loop-test.true r) ∙ l.invariant.1))
 
 returns-2 : tie.Need-returns-2 invariant-loop decreases-loop

@@ -1,7 +1,7 @@
 -- By the verdict; a sound state has a count within its size.
 use mathlib.Core.Path.{refl, sym, ◌∙◌}
 use borrow.Author.Rules.{rules}
-use Rattle.engine.specs.Flushing.{flushOf}
+use Rattle.engine.specs.Flushing.{flush_of}
 use Rattle.words.specs.Ready.{ready-sound}
 use Rattle.sending_in_place.proofs.flushing.flush.Statement.{statement}
 use Rattle.sending_in_place.proofs.flushing.flush.Tie as tie
@@ -24,7 +24,7 @@ same_length : tie.Need-same-length
 same_length c = search rules
 
 returns : tie.Need-returns
-unfolding flushOf
+unfolding flush_of
 returns c =
     let e = sym c.before.before.before.timed-verdict.ensures ∙ c.before.verdict.given.1 in
     (simp e, (simp e, λ ne. refl))
@@ -33,7 +33,7 @@ same-length-2 : tie.Need-same-length-2
 same-length-2 c = search rules
 
 returns-2 : tie.Need-returns-2
-unfolding flushOf
+unfolding flush_of
 returns-2 c =
     let e = (sym c.before.before.before.before.before.before.timed-verdict.ensures ∙ c.before.before.before.before.enum_told.given.1) in
     (simp e, (simp (e, c.before.before.put-flushed.ensures), λ ne. absurd (ne refl)))

@@ -2,7 +2,7 @@
 use mathlib.Core.Path.{◌≡◌, sym, ◌∙◌}
 use native.Mathlib.Omega.{arith}
 use lib.ListN.{length}
-use Rattle.engine.specs.Flushing.{flushedPacket}
+use Rattle.engine.specs.Flushing.{flushed_packet}
 use Rattle.words.specs.Layout.{WORDS}
 use Rattle.words.specs.Meaning.{state_of}
 use Rattle.sending_in_place.specs.Changing.{Changing, change-start, change-turn, change-end}
@@ -10,7 +10,7 @@ use Rattle.sending_in_place.proofs.flushing.flush_packets.Statement.{statement}
 use Rattle.sending_in_place.proofs.flushing.flush_packets.Tie as tie
 
 abbrev invariant-loop : tie.invariant-loop
-invariant-loop words₀ slot time at₀ left₀ words at left = (length words ≡ WORDS) × Changing (flushedPacket slot time) (state_of words₀) (state_of words) at left
+invariant-loop words₀ slot time at₀ left₀ words at left = (length words ≡ WORDS) × Changing (flushed_packet slot time) (state_of words₀) (state_of words) at left
 
 abbrev decreases-loop : tie.decreases-loop
 decreases-loop words₀ slot time at₀ left₀ words at left = left
@@ -23,7 +23,7 @@ first-cell-requires c κs =
 loop-holds : tie.Need-loop-init invariant-loop decreases-loop
 loop-holds c =
     let start = c.before.before in
-    (start.requires.0, rw (c.first_Cell.ensures.0, start.requires.1) (change-start (flushedPacket start.args.slot start.args.time) (state_of start.args.words.now) start.requires.2))
+    (start.requires.0, rw (c.first_Cell.ensures.0, start.requires.1) (change-start (flushed_packet start.args.slot start.args.time) (state_of start.args.words.now) start.requires.2))
 
 flush-cell-requires : tie.Need-flush-cell-requires invariant-loop decreases-loop
 flush-cell-requires c κs =
@@ -43,7 +43,7 @@ loop-again : tie.Need-loop-preserved invariant-loop decreases-loop
 loop-again c =
     let start = c.before.before.before.before.before.before.before.before.before in
     let l = c.before.before.before.before.before.before.loop in
-    (omega (arith, c.before.before.before.flush-cell.auto, l.invariant.0), rw c.next-cell.ensures (change-turn (flushedPacket start.args.slot start.args.time) (state_of start.args.words.now) (state_of l.words) _ l.at l.left l.invariant.1 c.before.before.before.before.before.loop-test.true c.before.before.before.flush-cell.ensures))
+    (omega (arith, c.before.before.before.flush-cell.auto, l.invariant.0), rw c.next-cell.ensures (change-turn (flushed_packet start.args.slot start.args.time) (state_of start.args.words.now) (state_of l.words) _ l.at l.left l.invariant.1 c.before.before.before.before.before.loop-test.true c.before.before.before.flush-cell.ensures))
 
 same_length : tie.Need-same-length invariant-loop decreases-loop
 same_length c = c.before.loop.invariant.0 ∙ sym c.before.before.before.before.requires.0
@@ -52,7 +52,7 @@ returns : tie.Need-returns invariant-loop decreases-loop
 returns c =
     let start = c.before.before.before.before in
     let l = c.before.loop in
-    change-end (flushedPacket start.args.slot start.args.time) (state_of start.args.words.now) (state_of l.words) l.at l.left l.invariant.1 c.loop-test.false
+    change-end (flushed_packet start.args.slot start.args.time) (state_of start.args.words.now) (state_of l.words) l.at l.left l.invariant.1 c.loop-test.false
 
 pub flush-packets-spec : {M : Type 1} → statement M
 flush-packets-spec =

@@ -1,6 +1,6 @@
 -- The packets, then the time.
 use borrow.Author.Rules.{rules}
-use Rattle.engine.specs.Flushing.{flushedState}
+use Rattle.engine.specs.Flushing.{flushed_state}
 use Rattle.sending_in_place.proofs.flushing.put_flushed.Statement.{statement}
 use Rattle.sending_in_place.proofs.flushing.put_flushed.Tie as tie
 
@@ -17,7 +17,7 @@ same_length : tie.Need-same-length
 same_length c = search rules
 
 returns : tie.Need-returns
-unfolding flushedState
+unfolding flushed_state
 returns c = rw (c.before.before.put-time.ensures, c.before.before.before.before.before.before.flush-packets.ensures)
 
 pub put-flushed-spec : {M : Type 1} → statement M

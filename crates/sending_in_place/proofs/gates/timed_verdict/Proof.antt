@@ -1,6 +1,6 @@
 -- The first gate is open.
 use borrow.Author.Rules.{rules}
-use Rattle.engine.specs.Gates.{timedVerdict}
+use Rattle.engine.specs.Gates.{timed_verdict}
 use Rattle.sending_in_place.proofs.gates.timed_verdict.Statement.{statement}
 use Rattle.sending_in_place.proofs.gates.timed_verdict.Tie as tie
 
@@ -17,7 +17,7 @@ gate-requires-2 : tie.Need-gate-requires-2
 gate-requires-2 c κs = search rules
 
 returns : tie.Need-returns
-unfolding timedVerdict
+unfolding timed_verdict
 returns c = simp (c.gate2.ensures, c.before.gate.ensures, c.before.before.slot_ok.ensures, c.before.before.before.time-ok.ensures, c.before.before.before.before.before.requires.judged)
 
 pub timed-verdict-spec : {M : Type 1} → statement M

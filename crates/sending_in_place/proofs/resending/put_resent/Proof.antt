@@ -8,13 +8,13 @@ use lib.ListN.{set}
 use Rattle.link.specs.declared.row.LinkRow.{LinkRow}
 use Rattle.engine.specs.declared.state.SentReliable.{SentReliable}
 use Rattle.engine.specs.declared.state.SentReliableStatus.TheVariants.{Sent}
-use Rattle.engine.specs.Sound.{rowAt}
+use Rattle.engine.specs.Sound.{row_at}
 use Rattle.engine.specs.Rows.{row_of, row-of}
-use Rattle.engine.specs.Fields.{withParts, newFlight, withStatus}
-use Rattle.engine.specs.Table.{lookedAt, withPacket}
+use Rattle.engine.specs.Fields.{with_parts, new_flight, with_status}
+use Rattle.engine.specs.Table.{looked_at, with_packet}
 use Rattle.engine.specs.InTable.{packet-short}
 use Rattle.engine.specs.Queue.{requeued}
-use Rattle.engine.specs.Resending.{resentState, resend-passed, resend-fits}
+use Rattle.engine.specs.Resending.{resent_state, resend-passed, resend-fits}
 use Rattle.words.specs.Meaning.{state_of}
 use Rattle.words.specs.Encoded.{bare}
 use Rattle.words.specs.Ready.{shaped-words}
@@ -48,7 +48,7 @@ add-with-unacked c =
     let p = resend-passed s start.args.slot start.args.time start.args.seq.0 shaped u32 start.requires.1 in
     let fits = resend-fits s start.args.slot start.args.time start.args.seq.0 shaped u32 start.requires.1 in
     let row : c.before.before.before.before.before.row_at.result.txed_unacked_data ≡ (row_of s start.args.slot).txed_unacked_data = ap (λ (r : LinkRow). r.txed_unacked_data) (c.before.before.before.before.before.row_at.ensures ∙ ap bare (sym (row-of s start.args.slot p.timed.at.small))) in
-    let len : start.args.p.len ≡ (lookedAt s.tx start.args.seq.0).len = ap (λ (x : SentReliable). x.len) start.requires.2 in
+    let len : start.args.p.len ≡ (looked_at s.tx start.args.seq.0).len = ap (λ (x : SentReliable). x.len) start.requires.2 in
     omega (arith, fits, row, len)
 
 with-unacked-requires : tie.Need-with-unacked-requires
@@ -89,7 +89,7 @@ same_length : tie.Need-same-length
 same_length c = search rules
 
 returns : tie.Need-returns
-unfolding resentState withPacket
+unfolding resent_state with_packet
 returns c =
     let start = c.before.before.before.before.before.before.before.before.before.before.before.before.before.before.before.before.before.before.before.before.before.before.before.before.before.before in
     let s = state_of start.args.words.now in
@@ -99,8 +99,8 @@ returns c =
     let row = row-of s start.args.slot p.timed.at.small in
     rw (c.before.before.put-time.ensures, c.before.before.before.before.before.before.requeue.ensures, c.before.before.before.before.before.before.before.before.before.before.put-packet.ensures, c.before.before.before.before.before.before.before.before.before.before.before.before.before.before.before.put-row.ensures)
     (rw (c.before.before.before.before.before.before.before.before.before.before.before.before.before.before.before.before.before.with-unacked.ensures, c.before.before.before.before.before.before.before.before.before.before.before.before.before.before.before.before.before.before.before.before.mark-resent.ensures, c.before.before.before.before.before.before.before.before.before.before.before.before.before.before.before.before.before.before.before.before.before.with-status.ensures, c.before.before.before.before.before.before.before.before.before.before.before.before.before.before.before.before.before.before.before.before.before.before.new.ensures, c.before.before.before.before.before.before.before.before.before.before.before.cell-of.ensures.0, c.before.before.before.before.before.before.before.before.before.before.before.before.before.before.before.before.before.before.before.before.before.before.before.row_at.ensures, start.requires.2, row)
-    (ap (λ (R : LinkRow). withParts s (set s.links start.args.slot R) (requeued (withPacket s.tx start.args.seq.0 (withStatus (lookedAt s.tx start.args.seq.0) (Sent (newFlight start.args.time start.args.slot (rowAt s start.args.slot).link_id true))))) s.rx start.args.time)
-    (resent-bare (rowAt s start.args.slot).limit_increased (rowAt s start.args.slot) start.args.seq.0 ((rowAt s start.args.slot).txed_unacked_data + (lookedAt s.tx start.args.seq.0).len))))
+    (ap (λ (R : LinkRow). with_parts s (set s.links start.args.slot R) (requeued (with_packet s.tx start.args.seq.0 (with_status (looked_at s.tx start.args.seq.0) (Sent (new_flight start.args.time start.args.slot (row_at s start.args.slot).link_id true))))) s.rx start.args.time)
+    (resent-bare (row_at s start.args.slot).limit_increased (row_at s start.args.slot) start.args.seq.0 ((row_at s start.args.slot).txed_unacked_data + (looked_at s.tx start.args.seq.0).len))))
 
 pub put-resent-spec : {M : Type 1} → statement M
 put-resent-spec =

@@ -4,9 +4,9 @@ use Prim.Native.Nat.{◌^◌, ◌<◌}
 use native.Mathlib.Omega.{arith}
 use borrow.Author.Rules.{rules}
 use lib.ListN.{get_or}
-use Rattle.engine.specs.Packets.{noPacket}
-use Rattle.engine.specs.Table.{packetOf, lookedAt}
-use Rattle.engine.specs.Resending.{resendOf, resend-cell}
+use Rattle.engine.specs.Packets.{no_packet}
+use Rattle.engine.specs.Table.{packet_of, looked_at}
+use Rattle.engine.specs.Resending.{resend_of, resend-cell}
 use Rattle.words.specs.Meaning.{state_of}
 use Rattle.words.specs.Ready.{shaped-words}
 use Rattle.sending_in_place.proofs.resending.resend.Statement.{statement}
@@ -28,21 +28,21 @@ packet-at-requires : tie.Need-packet-at-requires
 packet-at-requires c κs = search rules
 
 put-resent-requires : tie.Need-put-resent-requires
-unfolding packetOf
+unfolding packet_of
 put-resent-requires c κs =
     let start = c.before.before.before.before.before.before.before.before.before in
     let s = state_of start.args.words.now in
     let e = sym c.before.before.before.before.before.before.resend-verdict.ensures ∙ c.before.before.before.before.enum_told.given.1 in
     let u32 : start.args.seq.0 < 2 ^ 32 = omega (arith, start.well-formed) in
     let shaped = (shaped-words start.args.words.now start.requires.long (λ i. (c.before.before.before.before.before.before.before.before.slice-known.given i).fits)) in
-    let here : c.before.packet-at.result ≡ lookedAt s.tx start.args.seq.0 = c.before.packet-at.ensures.0 ∙ ap (λ n. get_or s.tx.txed_packets n noPacket) c.before.before.cell-of.ensures.0 ∙ resend-cell s start.args.slot start.args.time start.args.seq.0 shaped u32 e in
+    let here : c.before.packet-at.result ≡ looked_at s.tx start.args.seq.0 = c.before.packet-at.ensures.0 ∙ ap (λ n. get_or s.tx.txed_packets n no_packet) c.before.before.cell-of.ensures.0 ∙ resend-cell s start.args.slot start.args.time start.args.seq.0 shaped u32 e in
     (start.requires, e, here)
 
 same_length : tie.Need-same-length
 same_length c = search rules
 
 returns : tie.Need-returns
-unfolding resendOf
+unfolding resend_of
 returns c =
     let e = sym c.before.before.before.resend-verdict.ensures ∙ c.before.verdict.given.1 in
     (simp e, (simp e, λ ne. refl))
@@ -51,14 +51,14 @@ same-length-2 : tie.Need-same-length-2
 same-length-2 c = search rules
 
 returns-2 : tie.Need-returns-2
-unfolding resendOf packetOf
+unfolding resend_of packet_of
 returns-2 c =
     let start = c.before.before.before.before.before.before.before.before.before.before.before.before in
     let s = state_of start.args.words.now in
     let e = sym c.before.before.before.before.before.before.before.before.before.resend-verdict.ensures ∙ c.before.before.before.before.before.before.before.enum_told.given.1 in
     let u32 : start.args.seq.0 < 2 ^ 32 = omega (arith, start.well-formed) in
     let shaped = (shaped-words start.args.words.now start.requires.long (λ i. (c.before.before.before.before.before.before.before.before.before.before.before.slice-known.given i).fits)) in
-    let here : c.before.before.before.before.packet-at.result ≡ lookedAt s.tx start.args.seq.0 = c.before.before.before.before.packet-at.ensures.0 ∙ ap (λ n. get_or s.tx.txed_packets n noPacket) c.before.before.before.before.before.cell-of.ensures.0 ∙ resend-cell s start.args.slot start.args.time start.args.seq.0 shaped u32 e in
+    let here : c.before.before.before.before.packet-at.result ≡ looked_at s.tx start.args.seq.0 = c.before.before.before.before.packet-at.ensures.0 ∙ ap (λ n. get_or s.tx.txed_packets n no_packet) c.before.before.before.before.before.cell-of.ensures.0 ∙ resend-cell s start.args.slot start.args.time start.args.seq.0 shaped u32 e in
     (simp (e, here), (simp (e, c.before.before.put-resent.ensures), λ ne. absurd (ne refl)))
 
 pub resend-spec : {M : Type 1} → statement M

@@ -1,7 +1,7 @@
 -- One word more of the row.
 use mathlib.Core.Path.{◌≡◌, ap}
 use native.Mathlib.Omega.{arith}
-use Rattle.engine.specs.Sound.{rowAt}
+use Rattle.engine.specs.Sound.{row_at}
 use Rattle.words.specs.Meaning.{state_of}
 use borrow.Author.Rules.{rules}
 use Rattle.sending_in_place.proofs.rows.put_more.Statement.{statement}
@@ -12,7 +12,7 @@ row-at-requires c κs = search rules
 
 add-put-txed-unacked-data : tie.Need-overflow-add-put-txed-unacked-data
 add-put-txed-unacked-data c =
-    let e : c.before.before.row_at.result.txed_unacked_data ≡ (rowAt (state_of c.before.before.before.before.before.args.words.now) c.before.before.before.before.before.args.slot).txed_unacked_data = ap (λ r. r.txed_unacked_data) c.before.before.row_at.ensures in
+    let e : c.before.before.row_at.result.txed_unacked_data ≡ (row_at (state_of c.before.before.before.before.before.args.words.now) c.before.before.before.before.before.args.slot).txed_unacked_data = ap (λ r. r.txed_unacked_data) c.before.before.row_at.ensures in
     omega (arith, e, c.before.before.before.before.before.requires.2)
 
 put-txed-unacked-data-requires : tie.Need-put-txed-unacked-data-requires

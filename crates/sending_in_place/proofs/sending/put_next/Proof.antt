@@ -1,7 +1,7 @@
 -- The packet in its cell, then the numbers that change.
 use mathlib.Core.Path.{◌≡◌, ap}
 use native.Mathlib.Omega.{arith}
-use Rattle.engine.specs.Sending.{sentTx}
+use Rattle.engine.specs.Sending.{sent_tx}
 use Rattle.words.specs.Meaning.{state_of}
 use borrow.Author.Rules.{rules}
 use Rattle.sending_in_place.proofs.sending.put_next.Statement.{statement}
@@ -61,7 +61,7 @@ same_length : tie.Need-same-length
 same_length c = omega (arith, c.before.before.before.before.before.before.before.before.before.before.before.before.before.before.before.before.before.before.before.before.before.before.before.before.before.before.put-packet.auto, c.before.before.before.before.before.before.before.before.before.before.before.before.before.before.before.before.before.before.before.before.before.put-tx-seq.auto, c.before.before.before.before.before.before.before.before.before.before.before.before.before.before.before.before.put-txed-count.auto, c.before.before.before.before.before.before.before.before.before.before.before.put-txed-unacked.auto, c.before.before.before.before.before.before.put-txed-unconsumed.auto, c.before.before.put-finish.auto)
 
 returns : tie.Need-returns
-unfolding sentTx
+unfolding sent_tx
 returns c = rw (c.before.before.put-finish.ensures, c.before.before.before.before.before.before.put-txed-unconsumed.ensures, c.before.before.before.before.before.before.before.before.before.before.before.put-txed-unacked.ensures, c.before.before.before.before.before.before.before.before.before.before.before.before.before.before.before.before.put-txed-count.ensures, c.before.before.before.before.before.before.before.before.before.before.before.before.before.before.before.before.before.before.before.before.before.put-tx-seq.ensures, c.before.before.before.before.before.before.before.before.before.before.before.before.before.before.before.before.before.before.before.before.before.before.before.before.before.before.put-packet.ensures) (rw (c.before.before.before.before.before.before.before.before.before.before.before.before.before.before.before.before.before.before.before.before.before.before.add.ensures, c.before.before.before.before.before.before.before.before.before.before.before.before.before.before.before.before.before.before.before.before.before.before.before.before.before.before.before.before.before.new2.ensures, c.before.before.before.before.before.before.before.before.before.before.before.before.before.before.before.before.before.before.before.before.before.before.before.before.before.before.before.before.before.before.new.ensures, c.before.before.before.before.before.before.before.before.before.before.before.before.before.before.before.before.before.before.before.before.before.before.before.before.before.before.before.cell-of.ensures.0) (rw c.before.before.before.before.before.before.before.before.before.before.before.before.before.before.before.before.before.before.before.before.before.before.before.before.before.before.before.before.before.before.before.before.tx-of.ensures))
 
 pub put-next-spec : {M : Type 1} → statement M

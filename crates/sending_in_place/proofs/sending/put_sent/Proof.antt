@@ -2,7 +2,7 @@
 use native.Mathlib.Omega.{arith}
 use borrow.Author.Rules.{rules}
 use Rattle.engine.specs.Rows.{row-of}
-use Rattle.engine.specs.Sending.{sentState}
+use Rattle.engine.specs.Sending.{sent_state}
 use Rattle.words.specs.Meaning.{state_of}
 use Rattle.sending_in_place.proofs.sending.put_sent.Statement.{statement}
 use Rattle.sending_in_place.proofs.sending.put_sent.Tie as tie
@@ -32,7 +32,7 @@ same_length : tie.Need-same-length
 same_length c = search rules
 
 returns : tie.Need-returns
-unfolding sentState
+unfolding sent_state
 returns c =
     let start = c.before.before.before.before.before.before.before.before.before.before.before.before.before.before.before.before.before.before.before in
     rw (c.before.before.put-time.ensures, c.before.before.before.before.before.before.put-told.ensures, c.before.before.before.before.before.before.before.before.before.before.put_next.ensures, c.before.before.before.before.before.before.before.before.before.before.before.before.before.before.put-more.ensures) (rw (c.before.before.before.before.before.before.before.before.before.before.before.before.before.before.before.before.row-of.ensures, row-of (state_of start.args.words.now) start.args.slot start.requires.1))

@@ -1,7 +1,7 @@
 -- A Data tells of nothing; else the count told of goes.
 use mathlib.Core.Path.{◌≡◌, ap}
 use native.Mathlib.Omega.{arith}
-use Rattle.engine.specs.Sending.{toldRx}
+use Rattle.engine.specs.Sending.{told_rx}
 use Rattle.words.specs.Meaning.{state_of}
 use Rattle.sending_in_place.specs.Untold.{data-untold}
 use borrow.Author.Rules.{rules}
@@ -32,7 +32,7 @@ same_length : tie.Need-same-length
 same_length c = search rules
 
 returns-2 : tie.Need-returns-2
-unfolding toldRx
+unfolding told_rx
 returns-2 c = simp (c.before.before.put-rxed-reliable-consumed.ensures, c.before.before.before.before.before.before.rx-of.ensures, c.before.before.before.before.count.ensures)
 
 pub put-told-spec : {M : Type 1} → statement M

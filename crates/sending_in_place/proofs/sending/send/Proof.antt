@@ -3,7 +3,7 @@ use mathlib.Core.Path.{refl, ◌≡◌, sym, ap, ◌∙◌}
 use Prim.Native.Nat.{◌*◌, ◌%◌}
 use native.Mathlib.Omega.{arith}
 use Rattle.engine.specs.Sizes.{PACKETS, DATA_BYTES}
-use Rattle.engine.specs.Sending.{sendOf, sendStore, send-passed}
+use Rattle.engine.specs.Sending.{send_of, send_store, send-passed}
 use Rattle.engine.specs.Stores.{copied, mid-copied}
 use Rattle.words.specs.Meaning.{state_of}
 use borrow.Author.Rules.{rules}
@@ -61,7 +61,7 @@ same_length : tie.Need-same-length
 same_length c = search rules
 
 returns : tie.Need-returns
-unfolding sendOf sendStore
+unfolding send_of send_store
 returns c =
     let e = sym c.before.before.before.send-verdict.ensures ∙ c.before.verdict.given.1 in
     (simp e, (simp e, (simp e, λ ne. refl)))
@@ -73,7 +73,7 @@ same-length-3 : tie.Need-same-length-3
 same-length-3 c = search rules
 
 returns-2 : tie.Need-returns-2
-unfolding sendOf sendStore
+unfolding send_of send_store
 returns-2 c =
     let start = c.before.before.before.before.before.before.before.before.before.before.before.before.before.before.before.before.before.before.before in
     let e = sym c.before.before.before.before.before.before.before.before.before.before.before.before.before.before.send-verdict.ensures ∙ c.before.before.before.before.before.before.before.before.before.before.before.before.enum_told.given.1 in

@@ -5,7 +5,7 @@ use mathlib.Core.Bool.{true, false}
 use Rattle.link.specs.declared.row.LinkRow.{LinkRow}
 use Rattle.engine.specs.Rows.{row_of}
 use Rattle.engine.specs.Totals.{fits, MAX_TOTAL}
-use Rattle.engine.specs.Sending.{totalsOk}
+use Rattle.engine.specs.Sending.{totals_ok}
 use Rattle.words.specs.declared.sending.SendingNumbers.{SendingNumbers}
 use Rattle.words.specs.Meaning.{state_of}
 use borrow.Author.Rules.{rules}
@@ -16,7 +16,7 @@ sum-fits-requires : tie.Need-sum-fits-requires
 sum-fits-requires c κs = search rules
 
 returns : tie.Need-returns
-unfolding totalsOk
+unfolding totals_ok
 returns c =
     let s = state_of c.before.before.before.args.words.now in
     let n = c.before.before.before.args.len in
@@ -27,7 +27,7 @@ sum-fits-requires-2 : tie.Need-sum-fits-requires-2
 sum-fits-requires-2 c κs = search rules
 
 returns-2 : tie.Need-returns-2
-unfolding totalsOk
+unfolding totals_ok
 returns-2 c =
     let s = state_of c.before.before.before.before.before.args.words.now in
     let n = c.before.before.before.before.before.args.len in
@@ -42,7 +42,7 @@ sum-fits-requires-3 : tie.Need-sum-fits-requires-3
 sum-fits-requires-3 c κs = search rules
 
 returns-3 : tie.Need-returns-3
-unfolding totalsOk
+unfolding totals_ok
 returns-3 c =
     let s = state_of c.before.before.before.before.before.before.before.before.args.words.now in
     let n = c.before.before.before.before.before.before.before.before.args.len in
@@ -58,7 +58,7 @@ told-ok-requires : tie.Need-told-ok-requires
 told-ok-requires c κs = search rules
 
 returns-4 : tie.Need-returns-4
-unfolding totalsOk
+unfolding totals_ok
 returns-4 c =
     let s = state_of c.before.before.before.before.before.before.before.before.before.before.args.words.now in
     let n = c.before.before.before.before.before.before.before.before.before.before.args.len in

@@ -3,7 +3,7 @@ use mathlib.Core.Path.{refl, sym, ◌∙◌}
 use native.Mathlib.Omega.{arith}
 use borrow.Author.Rules.{rules}
 use Rattle.engine.specs.Gates.{slot-passed}
-use Rattle.engine.specs.Unconfirming.{removedState, removeOf}
+use Rattle.engine.specs.Unconfirming.{removed_state, remove_of}
 use Rattle.words.specs.Meaning.{state_of}
 use Rattle.words.specs.Ready.{ready-sound}
 use Rattle.sending_in_place.proofs.unconfirming.remove.Statement.{statement}
@@ -32,7 +32,7 @@ same_length : tie.Need-same-length
 same_length c = search rules
 
 returns : tie.Need-returns
-unfolding removeOf
+unfolding remove_of
 returns c =
     let e = sym c.before.before.before.slot-verdict.ensures ∙ c.before.verdict.given.1 in
     (simp e, (simp e, λ ne. refl))
@@ -41,7 +41,7 @@ same-length-2 : tie.Need-same-length-2
 same-length-2 c = search rules
 
 returns-2 : tie.Need-returns-2
-unfolding removeOf removedState
+unfolding remove_of removed_state
 returns-2 c =
     let e = (sym c.before.before.before.before.before.before.before.before.before.before.slot-verdict.ensures ∙ c.before.before.before.before.before.before.before.before.enum_told.given.1) in
     (simp e, (simp e (rw (c.before.before.put-empty.ensures, c.before.before.before.before.before.before.put-unconfirmed.ensures)), λ ne. absurd (ne refl)))

@@ -2,7 +2,7 @@
 use mathlib.Core.Path.{refl, sym, ◌∙◌}
 use borrow.Author.Rules.{rules}
 use Rattle.engine.specs.Gates.{slot-passed}
-use Rattle.engine.specs.Unconfirming.{unconfirmOf}
+use Rattle.engine.specs.Unconfirming.{unconfirm_of}
 use Rattle.words.specs.Meaning.{state_of}
 use Rattle.words.specs.Ready.{ready-sound}
 use Rattle.sending_in_place.proofs.unconfirming.unconfirm.Statement.{statement}
@@ -26,7 +26,7 @@ same_length : tie.Need-same-length
 same_length c = search rules
 
 returns : tie.Need-returns
-unfolding unconfirmOf
+unfolding unconfirm_of
 returns c =
     let e = sym c.before.before.before.slot-verdict.ensures ∙ c.before.verdict.given.1 in
     (simp e, (simp e, λ ne. refl))
@@ -35,7 +35,7 @@ same-length-2 : tie.Need-same-length-2
 same-length-2 c = search rules
 
 returns-2 : tie.Need-returns-2
-unfolding unconfirmOf
+unfolding unconfirm_of
 returns-2 c =
     let e = (sym c.before.before.before.before.before.before.slot-verdict.ensures ∙ c.before.before.before.before.enum_told.given.1) in
     (simp e, (simp (e, c.before.before.put-unconfirmed.ensures), λ ne. absurd (ne refl)))

@@ -2,7 +2,7 @@
 use native.Mathlib.Omega.{arith}
 use borrow.Author.Tests.{lt-ltb, le-ltb}
 use Prim.Native.Nat.{◌%◌}
-use Rattle.text.specs.Hex.{hexDigit}
+use Rattle.text.specs.Hex.{hex_digit}
 use borrow.Author.Rules.{rules}
 use Rattle.text.proofs.hex.hex_digit.Statement.{statement}
 use Rattle.text.proofs.hex.hex_digit.Tie as tie
@@ -17,11 +17,11 @@ add-result-2 : tie.Need-overflow-add-result-2
 add-result-2 c = search rules
 
 returns : tie.Need-returns
-unfolding hexDigit
+unfolding hex_digit
 returns c = simp (lt-ltb (c.before.args.n % 16) 10 c.if1.true)
 
 returns-2 : tie.Need-returns-2
-unfolding hexDigit
+unfolding hex_digit
 returns-2 c = simp (le-ltb (c.before.args.n % 16) 10 c.if1.false) (omega arith)
 
 pub hex-digit-spec : {M : Type 1} → statement M

@@ -6,12 +6,12 @@ use native.Mathlib.Omega.{arith}
 use lib.ListN.{length, get_or, drop, drop_of_length-le}
 use mathlib.Core.List.{[]}
 use borrow.Author.Rules.{rules}
-use Rattle.text.specs.Decimal.{digitValue, readFrom, read_none, read_past, read_step, read-other}
+use Rattle.text.specs.Decimal.{digit_value, read_from, read-none, read_past, read_step, read-other}
 use Rattle.text.proofs.reading.spelt.Statement.{statement}
 use Rattle.text.proofs.reading.spelt.Tie as tie
 
 abbrev invariant-loop : tie.invariant-loop
-invariant-loop word limit n₀ i₀ n i = (i ≤ length word) × (n ≤ limit) × (readFrom n (drop i word) limit ≡ readFrom 0 word limit)
+invariant-loop word limit n₀ i₀ n i = (i ≤ length word) × (n ≤ limit) × (read_from n (drop i word) limit ≡ read_from 0 word limit)
 
 abbrev decreases-loop : tie.decreases-loop
 decreases-loop word limit n₀ i₀ n i = length word - i
@@ -29,15 +29,15 @@ returns : tie.Need-returns invariant-loop decreases-loop
 returns c =
     let l = c.before.before.before.before.loop in
     let a = c.before.before.before.before.before.before.args in
-    let d : 10 ≤ digitValue (get_or a.word.now l.i 0) = omega (arith, c.before.digit_value.ensures) in
+    let d : 10 ≤ digit_value (get_or a.word.now l.i 0) = omega (arith, c.before.digit_value.ensures) in
     sym (sym l.invariant.2 ∙ read-other l.n a.word.now l.i a.limit c.before.before.before.loop-test.true d)
 
 returns-2 : tie.Need-returns-2 invariant-loop decreases-loop
 returns-2 c =
     let l = c.before.before.before.before.before.loop in
     let a = c.before.before.before.before.before.before.before.args in
-    let d : digitValue (get_or a.word.now l.i 0) < 10 = omega (arith, c.before.before.digit_value.ensures) in
-    let p : a.limit < l.n * 10 + digitValue (get_or a.word.now l.i 0) = omega arith in
+    let d : digit_value (get_or a.word.now l.i 0) < 10 = omega (arith, c.before.before.digit_value.ensures) in
+    let p : a.limit < l.n * 10 + digit_value (get_or a.word.now l.i 0) = omega arith in
     sym
     (sym l.invariant.2
     ∙ (read_step l.n a.word.now l.i a.limit c.before.before.before.before.loop-test.true d
@@ -54,8 +54,8 @@ returns-3 c =
     let l = c.before.before.before.before.before.before.loop in
     let a = c.before.before.before.before.before.before.before.before.args in
     let e = c.before.before.before.digit_value.ensures in
-    let d : digitValue (get_or a.word.now l.i 0) < 10 = omega (arith, e) in
-    let p : a.limit < l.n * 10 + digitValue (get_or a.word.now l.i 0) = omega (arith, e) in
+    let d : digit_value (get_or a.word.now l.i 0) < 10 = omega (arith, e) in
+    let p : a.limit < l.n * 10 + digit_value (get_or a.word.now l.i 0) = omega (arith, e) in
     sym
     (sym l.invariant.2
     ∙ (read_step l.n a.word.now l.i a.limit c.before.before.before.before.before.loop-test.true d
@@ -78,7 +78,7 @@ loop-again c =
     let l = c.before.before.before.before.before.before.loop in
     let a = c.before.before.before.before.before.before.before.before.args in
     let e = c.before.before.before.digit_value.ensures in
-    let d : digitValue (get_or a.word.now l.i 0) < 10 = omega (arith, e) in
+    let d : digit_value (get_or a.word.now l.i 0) < 10 = omega (arith, e) in
     (omega arith, omega arith, rw e (sym (read_step l.n a.word.now l.i a.limit c.before.before.before.before.before.loop-test.true d) ∙ l.invariant.2))
 
 returns-4 : tie.Need-returns-4 invariant-loop decreases-loop
@@ -87,7 +87,7 @@ returns-4 c =
     let a = c.before.before.before.args in
     let past : length a.word.now ≤ l.i = omega arith in
     let none : drop l.i a.word.now ≡ [] = drop_of_length-le a.word.now past in
-    sym (sym l.invariant.2 ∙ (rw none (read_none l.n a.limit l.invariant.1)))
+    sym (sym l.invariant.2 ∙ (rw none (read-none l.n a.limit l.invariant.1)))
 
 pub spelt-spec : {M : Type 1} → statement M
 spelt-spec =

@@ -1,14 +1,14 @@
 -- Past the eight, or the flag of its row.
 use mathlib.Core.Path.{sym, ◌∙◌}
 use borrow.Author.Tests.{le-ltb, lt-ltb}
-use Rattle.engine.specs.Rows.{slotOk}
+use Rattle.engine.specs.Rows.{slot_ok}
 use Rattle.words.specs.Read.{live-read}
 use borrow.Author.Rules.{rules}
 use Rattle.words.proofs.gates.slot_ok.Statement.{statement}
 use Rattle.words.proofs.gates.slot_ok.Tie as tie
 
 returns : tie.Need-returns
-unfolding slotOk
+unfolding slot_ok
 returns c = simp (le-ltb _ _ c.if1.true)
 
 mul-is-set : tie.Need-overflow-mul-is-set
@@ -27,7 +27,7 @@ is-set-requires : tie.Need-is-set-requires
 is-set-requires c κs = search rules
 
 returns-2 : tie.Need-returns-2
-unfolding slotOk
+unfolding slot_ok
 returns-2 c =
     let a = c.before.before.before.before.args in
     simp (lt-ltb _ _ c.before.before.if1.false) (c.is_set.ensures ∙ sym (live-read a.words.now c.before.before.before.before.requires a.slot c.before.before.if1.false))

@@ -1,5 +1,5 @@
 -- Both bounds.
-use Rattle.engine.specs.Rows.{timeOk}
+use Rattle.engine.specs.Rows.{time_ok}
 use borrow.Author.Rules.{rules}
 use Rattle.words.proofs.gates.time_ok.Statement.{statement}
 use Rattle.words.proofs.gates.time_ok.Tie as tie
@@ -11,7 +11,7 @@ both-requires : tie.Need-both-requires
 both-requires c κs = search rules
 
 returns : tie.Need-returns
-unfolding timeOk
+unfolding time_ok
 returns c = simp (c.both.ensures, c.before.time.ensures)
 
 pub time-ok-spec : {M : Type 1} → statement M

@@ -1,6 +1,6 @@
 -- Its words, one by one.
 use mathlib.Core.Path.{◌∙◌}
-use Rattle.words.specs.Meaning.{packetOf}
+use Rattle.words.specs.Meaning.{packet_of}
 use borrow.Author.Rules.{rules}
 use Rattle.words.proofs.packet.packet_in.Statement.{statement}
 use Rattle.words.proofs.packet.packet_in.Tie as tie
@@ -24,7 +24,7 @@ packet-held-requires : tie.Need-packet-held-requires
 packet-held-requires c κs = search rules
 
 returns : tie.Need-returns
-unfolding packetOf
+unfolding packet_of
 returns c = simp (c.packet-held.ensures, c.before.before.before.before.seq-word.ensures, c.before.before.held_of.ensures, c.before.status-in.ensures)
 
 pub packet-in-spec : {M : Type 1} → statement M

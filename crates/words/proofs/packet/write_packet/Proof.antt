@@ -3,7 +3,7 @@ use Rattle.words.specs.Parts.{all-written}
 use mathlib.Core.Path.{subst}
 use Prim.Native.Nat.{◌<◌}
 use Rattle.engine.specs.declared.state.InFlight.{InFlight}
-use Rattle.words.specs.Encoded.{packetWords}
+use Rattle.words.specs.Encoded.{packet_words}
 use lib.ListN.{length-set}
 use native.Mathlib.Omega.{arith}
 use borrow.Author.Rules.{rules}
@@ -62,7 +62,7 @@ returns : tie.Need-returns
 returns c =
     let a = c.before.before.before.before.before.before.before.before.args in (
       simp (c.before.before.before.before.record_of.ensures, c.before.before.before.status-word.ensures, c.before.before.before.before.before.before.flight-of.ensures, c.before.flushed-some.ensures, c.flushed-word.ensures)
-          (all-written a.part.now (packetWords a.p) c.before.before.before.before.before.before.before.before.requires.0),
+          (all-written a.part.now (packet_words a.p) c.before.before.before.before.before.before.before.before.requires.0),
       subst (λ (f : InFlight). f.slot < 256) c.before.before.before.before.before.before.flight-of.ensures (let h : c.before.before.before.before.before.before.flight-of.result.slot < 256 = search rules in h),
     )
 

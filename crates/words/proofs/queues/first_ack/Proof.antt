@@ -3,7 +3,7 @@ use mathlib.Core.Path.{sym, ap, ◌∙◌}
 use native.Mathlib.Omega.{arith}
 use Prim.Native.Nat.{ℕ}
 use lib.ListN.{get_or}
-use Rattle.words.specs.Meaning.{seqWord}
+use Rattle.words.specs.Meaning.{seq_word}
 use Rattle.words.specs.Read.{ack-read}
 use borrow.Author.Rules.{rules}
 use Rattle.words.proofs.queues.first_ack.Statement.{statement}
@@ -25,7 +25,7 @@ returns : tie.Need-returns
 returns c =
     let start = c.before.before.before.before in
     c.seq-word.ensures
-    ∙ ap (λ (n : ℕ). seqWord (get_or start.args.words.now n 0)) c.before.before.ack-at.ensures
+    ∙ ap (λ (n : ℕ). seq_word (get_or start.args.words.now n 0)) c.before.before.ack-at.ensures
     ∙ sym (ack-read start.args.words.now start.requires.0 start.args.slot 0 start.requires.1 (omega arith))
 
 pub first-ack-spec : {M : Type 1} → statement M

@@ -3,7 +3,7 @@ use mathlib.Core.Path.{◌∙◌}
 use Prim.Native.Nat.{◌+◌, ◌%◌}
 use native.Mathlib.Omega.{arith}
 use lib.ListN.{set, get_or, length-set}
-use Rattle.words.specs.Layout.{headAt}
+use Rattle.words.specs.Layout.{head_at}
 use Rattle.words.specs.Meaning.{state_of}
 use Rattle.words.specs.Acks.{acks-shift}
 use borrow.Author.Rules.{rules}
@@ -57,7 +57,7 @@ returns c =
     let start = c.before.before.before.before.before.before.before.before in
     let w = start.args.words.now in
     let j = start.args.slot in
-    (λ i. state_of (set (set w (c.before.before.before.ack-at.ensures i) (get_or w (c.before.ack-at2.ensures i) 0)) (headAt j) ((c.before.before.before.before.before.head_of.ensures i + 1) % 64)))
+    (λ i. state_of (set (set w (c.before.before.before.ack-at.ensures i) (get_or w (c.before.ack-at2.ensures i) 0)) (head_at j) ((c.before.before.before.before.before.head_of.ensures i + 1) % 64)))
     ∙ acks-shift w start.requires.0 j start.requires.1
 
 pub shift-acks-spec : {M : Type 1} → statement M

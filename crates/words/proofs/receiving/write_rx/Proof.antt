@@ -1,6 +1,6 @@
 -- Every word of the part is written.
 use Rattle.words.specs.Parts.{all-written}
-use Rattle.words.specs.Encoded.{rxWords}
+use Rattle.words.specs.Encoded.{rx_words}
 use lib.ListN.{length-set}
 use native.Mathlib.Omega.{arith}
 use borrow.Author.Rules.{rules}
@@ -53,7 +53,7 @@ same_length : tie.Need-same-length
 same_length c = simp length-set
 
 returns : tie.Need-returns
-returns c = all-written c.before.before.before.before.before.before.before.args.part.now (rxWords c.before.before.before.before.before.before.before.args.rx) c.before.before.before.before.before.before.before.requires
+returns c = all-written c.before.before.before.before.before.before.before.args.part.now (rx_words c.before.before.before.before.before.before.before.args.rx) c.before.before.before.before.before.before.before.requires
 
 pub write-rx-spec : {M : Type 1} → statement M
 write-rx-spec =

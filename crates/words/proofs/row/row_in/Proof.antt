@@ -1,6 +1,6 @@
 -- Word by word.
 use Rattle.words.specs.Meaning.{row_of}
-use Rattle.words.specs.Encoded.{noAcks}
+use Rattle.words.specs.Encoded.{no_acks}
 use borrow.Author.Rules.{rules}
 use Rattle.words.proofs.row.row_in.Statement.{statement}
 use Rattle.words.proofs.row.row_in.Tie as tie
@@ -72,7 +72,7 @@ shared-slice-read-t33 : tie.Need-shared-slice-read-t33
 shared-slice-read-t33 c = search rules
 
 returns : tie.Need-returns
-unfolding row_of noAcks
+unfolding row_of no_acks
 returns c = simp (c.before.before.before.before.before.before.before.before.before.before.before.is_set.ensures, c.before.before.before.before.before.before.before.before.before.before.before.before.before.before.before.before.before.before.before.max-ping-of.ensures, c.before.before.before.before.before.before.before.is-set2.ensures, c.before.before.before.before.before.is-set3.ensures, c.before.before.before.is-set4.ensures, c.before.before.before.before.before.before.before.before.before.before.before.before.before.before.before.before.limit-of.ensures, c.before.before.before.before.before.before.before.before.before.before.before.before.before.ping-of.ensures, c.before.half.ensures)
 
 pub row-in-spec : {M : Type 1} → statement M

@@ -2,7 +2,7 @@
 use Rattle.words.specs.Parts.{all-written}
 use mathlib.Core.Path.{subst}
 use Prim.Native.Nat.{◌<◌, ◌^◌}
-use Rattle.words.specs.Encoded.{rowWords}
+use Rattle.words.specs.Encoded.{row_words}
 use lib.ListN.{length-set}
 use native.Mathlib.Omega.{arith}
 use borrow.Author.Rules.{rules}
@@ -91,7 +91,7 @@ returns : tie.Need-returns
 returns c =
     let a = c.before.before.before.before.before.before.before.before.before.before.before.before.args in (
       simp (c.before.before.before.before.before.before.before.before.before.before.flag.ensures, c.before.before.before.before.before.before.before.before.before.max-ping-some.ensures, c.before.before.before.before.before.before.before.before.max-ping-word.ensures, c.before.before.before.before.before.before.before.flag2.ensures, c.before.before.before.before.before.before.flag3.ensures, c.before.before.before.before.before.flag4.ensures, c.before.before.before.before.limit-some.ensures, c.before.before.before.limit-word.ensures.0, c.before.before.ping-some.ensures, c.before.ping-word.ensures)
-          (all-written a.part.now (rowWords a.row) c.before.before.before.before.before.before.before.before.before.before.before.before.requires),
+          (all-written a.part.now (row_words a.row) c.before.before.before.before.before.before.before.before.before.before.before.before.requires),
       subst (λ n. n < 2 ^ 32) c.before.before.before.limit-word.ensures.0 c.before.before.before.limit-word.ensures.1,
     )
 

@@ -1,6 +1,6 @@
 -- Every word of the part is written.
 use Rattle.words.specs.Parts.{all-written}
-use Rattle.words.specs.Encoded.{numbersWords}
+use Rattle.words.specs.Encoded.{numbers_words}
 use lib.ListN.{length-set}
 use native.Mathlib.Omega.{arith}
 use borrow.Author.Rules.{rules}
@@ -59,7 +59,7 @@ same_length : tie.Need-same-length
 same_length c = simp length-set
 
 returns : tie.Need-returns
-returns c = simp (c.before.flag.ensures, c.flag2.ensures) (all-written c.before.before.before.before.before.before.before.before.args.part.now (numbersWords c.before.before.before.before.before.before.before.before.args.tx) c.before.before.before.before.before.before.before.before.requires)
+returns c = simp (c.before.flag.ensures, c.flag2.ensures) (all-written c.before.before.before.before.before.before.before.before.args.part.now (numbers_words c.before.before.before.before.before.before.before.before.args.tx) c.before.before.before.before.before.before.before.before.requires)
 
 pub write-tx-spec : {M : Type 1} → statement M
 write-tx-spec =

@@ -1,11 +1,11 @@
 -- The slots that are left to look at give the same answer at each turn.
 use Rattle.std.proofs.Common.{◌≡◌, sym, refl, ◌∙◌, arith}
-use Rattle.engine.specs.Roster.{livesBefore, lives-step, lives-none}
+use Rattle.engine.specs.Roster.{lives_before, lives-step, lives-none}
 use Rattle.engine.proofs.roster.Roster.lives_before.Statement.{statement}
 use Rattle.engine.proofs.roster.Roster.lives_before.Tie as tie
 
 abbrev invariant-loop : tie.invariant-loop
-invariant-loop self n id left₀ left = livesBefore self left id ≡ livesBefore self n id
+invariant-loop self n id left₀ left = lives_before self left id ≡ lives_before self n id
 
 abbrev decreases-loop : tie.decreases-loop
 decreases-loop self n id left₀ left = left

@@ -1,5 +1,5 @@
 -- The sixteen entries, one by one.
-use Rattle.engine.specs.Roster.{rosterOf}
+use Rattle.engine.specs.Roster.{roster_of}
 use Rattle.std.proofs.Common.{rules}
 use Rattle.engine.proofs.roster.Roster.of.Statement.{statement}
 use Rattle.engine.proofs.roster.Roster.of.Tie as tie
@@ -53,7 +53,7 @@ element-copy-out-t51 : tie.Need-element-copy-out-t51
 element-copy-out-t51 c = search rules
 
 returns : tie.Need-returns
-unfolding rosterOf
+unfolding roster_of
 returns c = search rules
 
 pub of_spec : {M : Type 1} → statement M

@@ -1,5 +1,5 @@
 -- The four tests, joined.
-use Rattle.link.specs.Sizes.{rowWithin}
+use Rattle.link.specs.Sizes.{row_within}
 use borrow.Author.Rules.{rules}
 use Rattle.link.proofs.row.LinkRow.is_within.Statement.{statement}
 use Rattle.link.proofs.row.LinkRow.is_within.Tie as tie
@@ -20,7 +20,7 @@ both-requires-3 : tie.Need-both-requires-3
 both-requires-3 c κs = search rules
 
 returns : tie.Need-returns
-unfolding rowWithin
+unfolding row_within
 returns c =
     simp (c.both3.ensures, c.before.both2.ensures, c.before.before.both.ensures, c.before.before.before.before.before.ping-within.ensures, c.before.before.before.before.before.before.max-ping-within.ensures)
 

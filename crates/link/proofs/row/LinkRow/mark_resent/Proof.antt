@@ -1,6 +1,6 @@
 -- By whether there is a mark, and whether the resent number is before it.
 use mathlib.Core.Path.{◌∙◌}
-use Rattle.link.specs.Limit.{markResentAs}
+use Rattle.link.specs.Limit.{mark_resent_as}
 use borrow.Author.Rules.{rules}
 use Rattle.link.proofs.row.LinkRow.mark_resent.Statement.{statement}
 use Rattle.link.proofs.row.LinkRow.mark_resent.Tie as tie
@@ -18,15 +18,15 @@ mark-requires : tie.Need-mark-requires
 mark-requires c κs = search rules
 
 returns : tie.Need-returns
-unfolding markResentAs
+unfolding mark_resent_as
 returns c = c.mark.ensures ∙ simp (c.before.before.before.before.limit.given.1, ← c.before.before.is-before.ensures, c.before.if1.true)
 
 returns-2 : tie.Need-returns-2
-unfolding markResentAs
+unfolding mark_resent_as
 returns-2 c = simp c.enum_told.given.1
 
 returns-3 : tie.Need-returns-3
-unfolding markResentAs
+unfolding mark_resent_as
 returns-3 c = simp (c.before.before.before.limit.given.1, ← c.before.is-before.ensures, c.if1.false)
 
 pub mark-resent-spec : {M : Type 1} → statement M

@@ -1,5 +1,5 @@
 -- By whether a ping is outstanding.
-use Rattle.link.specs.Roundtrip.{pongedAs}
+use Rattle.link.specs.Roundtrip.{ponged_as}
 use borrow.Author.Rules.{rules}
 use Rattle.link.proofs.row.LinkRow.pong.Statement.{statement}
 use Rattle.link.proofs.row.LinkRow.pong.Tie as tie
@@ -17,11 +17,11 @@ less-requires : tie.Need-less-requires
 less-requires c κs = search rules
 
 returns : tie.Need-returns
-unfolding pongedAs
+unfolding ponged_as
 returns c = simp c.enum_told.given.1
 
 returns-2 : tie.Need-returns-2
-unfolding pongedAs
+unfolding ponged_as
 returns-2 c = simp (c.before.before.before.ping.given.1, c.before.with-ping.ensures, c.less.ensures)
 
 pub pong-spec : {M : Type 1} → statement M

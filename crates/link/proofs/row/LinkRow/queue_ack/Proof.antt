@@ -1,12 +1,12 @@
 -- By whether there is room.
-use Rattle.link.specs.Acks.{ackQueued}
+use Rattle.link.specs.Acks.{ack_queued}
 use borrow.Author.Tests.{lt-ltb, le-ltb}
 use borrow.Author.Rules.{rules}
 use Rattle.link.proofs.row.LinkRow.queue_ack.Statement.{statement}
 use Rattle.link.proofs.row.LinkRow.queue_ack.Tie as tie
 
 returns : tie.Need-returns
-unfolding ackQueued
+unfolding ack_queued
 returns c = simp (le-ltb _ _ c.if1.true)
 
 mul-seq : tie.Need-overflow-mul-seq
@@ -19,7 +19,7 @@ add-out : tie.Need-overflow-add-out
 add-out c = search rules
 
 returns-2 : tie.Need-returns-2
-unfolding ackQueued
+unfolding ack_queued
 returns-2 c = simp (lt-ltb _ _ c.if1.false)
 
 pub queue-ack-spec : {M : Type 1} → statement M

@@ -1,5 +1,5 @@
 -- The formula's value, and the flag cleared.
-use Rattle.link.specs.Roundtrip.{tripMoved}
+use Rattle.link.specs.Roundtrip.{trip_moved}
 use borrow.Author.Rules.{rules}
 use Rattle.link.proofs.row.LinkRow.trip.Statement.{statement}
 use Rattle.link.proofs.row.LinkRow.trip.Tie as tie
@@ -11,7 +11,7 @@ trip-after-requires : tie.Need-trip-after-requires
 trip-after-requires c κs = search rules
 
 returns : tie.Need-returns
-unfolding tripMoved
+unfolding trip_moved
 returns c = simp (c.trip-after.ensures, c.before.less.ensures)
 
 pub trip-spec : {M : Type 1} → statement M

@@ -1,5 +1,5 @@
 -- The factors' three tests and the bounds', joined.
-use Rattle.link.specs.Timeout.{timeoutWithin}
+use Rattle.link.specs.Timeout.{timeout_within}
 use borrow.Author.Rules.{rules}
 use Rattle.link.proofs.timeout.AckTimeout.is_within.Statement.{statement}
 use Rattle.link.proofs.timeout.AckTimeout.is_within.Tie as tie
@@ -29,7 +29,7 @@ both-requires-5 : tie.Need-both-requires-5
 both-requires-5 c κs = search rules
 
 returns : tie.Need-returns
-unfolding timeoutWithin
+unfolding timeout_within
 returns c =
     simp (c.both5.ensures, c.before.both4.ensures, c.before.before.both3.ensures, c.before.before.before.both2.ensures, c.before.before.before.before.before.both.ensures, c.before.before.before.before.before.before.before.before.factor-ok3.ensures, c.before.before.before.before.before.before.before.before.before.factor-ok2.ensures, c.before.before.before.before.before.before.before.before.before.before.factor-ok.ensures)
 
