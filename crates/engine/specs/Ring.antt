@@ -2,7 +2,7 @@
 -- nothing.
 use Rattle.std.specs.Prelude.{◌≡◌, ℕ, zero, suc, ◌+◌, ◌-◌, ◌%◌, ◌<◌, ◌≤◌, cond, List, [], ◌∷◌, ◌++◌, map, length, get_or, drop, set, replicate, ◌≢◌, nat_lt, slice_index_or, slice_set}
 use Rattle.std.proofs.Math.Path.{refl, sym, ap}
-use Rattle.std.proofs.Common.{◌∙◌, not-suc-le-zero, mod-lt, mod-eq_of_lt}
+use Rattle.std.proofs.Common.{ap₂, ◌∙◌, not-suc-le-zero, mod-lt, mod-eq_of_lt}
 use Rattle.std.proofs.Math.Nat.{mod_self, mod-add-mod, add-mod_right, mod-eq-sub-mod}
 use native.Mathlib.Omega.{arith}
 use borrow.Table.Steps.{cases}
@@ -137,7 +137,7 @@ module _ {A : Type 0} (N : ℕ) (d : A) (cells : List A) where
       let tail : window N d (slice_set cells at x) (next_cell N at) n ≡ window N d cells (next_cell N at) n =
       ap (λ k. window N d (slice_set cells k x) (next_cell N at) n) (sym (last-cell N at h))
       ∙ window-set-out (next_cell N at) n (N - 1) x (next-cell-lt N at (omega arith)) (omega arith) (omega arith) in
-      simp (here N at h, head, tail)
+      ap (λ k. window N d (slice_set cells k x) at (suc n)) (here N at h) ∙ ap₂ (λ y ys. y ∷ ys) head tail
   window-set-in at (suc n) (suc m) x h c g l =
       let head : get_or (slice_set cells ((at + suc m) % N) x) at d ≡ get_or cells at d = get_or-set_other cells ((at + suc m) % N) at x d (elsewhere N at m h (omega arith)) in
       let tail : window N d (slice_set cells ((at + suc m) % N) x) (next_cell N at) n ≡ set (window N d cells (next_cell N at) n) m x =

@@ -32,3 +32,7 @@ mid-copied store bytes new at e =
     drop_of_length-le (take (length bytes) (drop at store)) h
     in
     simp (e, k, take-length, none, append-nil, drop-drop)
+
+-- the same of a middle part that became the bytes
+pub mid-same : (store bytes new : List ℕ) (at : ℕ) → new ≡ bytes → take at store ++ (new ++ drop (at + length bytes - at) (drop at store)) ≡ copied store at bytes
+mid-same store bytes new at e = let k : at + length bytes - at ≡ length bytes = omega arith in simp (e, k, drop-drop)

@@ -79,7 +79,7 @@ sent-first p ps e = let f = sent_is p.status e in (f.0, record { inside = omega 
 
 one-before : (p : SentReliable) (ps : List SentReliable) (i : ℕ) (flight : InFlight) → is_sent p.status ≡ false → Oldest ps i flight → Oldest (p ∷ ps) (suc i) flight
 one-before p ps i flight t o =
-    record { inside = omega (arith, o.inside); here = o.here; before = λ k. elim k [ zero ↦ λ l. t | suc m ↦ λ l. o.before m (omega arith) ] }
+    record { inside = omega (arith, o.inside); here = o.here; before = λ k. elim k as (λ m. m < suc i → is_sent (get_or (p ∷ ps) m no_packet).status ≡ false) [ zero ↦ λ l. t | suc m ↦ λ l. o.before m (omega arith) ] }
 
 -- where one is Sent there is an oldest, and none older
 pub oldest-of : (ps : List SentReliable) (i : ℕ) → i < length ps → is_sent (get_or ps i no_packet).status ≡ true → (j : ℕ) × (flight : InFlight) × (j ≤ i) × Oldest ps j flight

@@ -36,7 +36,7 @@ use Rattle.laws.specs.Good.{Good}
 use Rattle.laws.specs.SoundKept.{kept}
 use Rattle.laws.specs.RecordsKept.{records-kept}
 use Rattle.engine.specs.Sound.{SoundRecords}
-use Rattle.laws.specs.Unique.{Place, lent}
+use Rattle.laws.specs.Unique.{Place, lent, lent_mut}
 
 -- a call on what h holds tells t and leaves `after`, as `told` and `next` say
 abbrev pub Says : Call → Holding → Told → Holding → Type 0
@@ -59,19 +59,19 @@ Tied (Ping slot time) h = (κs : _) (r : Changed) (e : _) → engine.links.ping.
 Tied (Pong slot time) h = (κs : _) (r : Changed) (e : _) → engine.links.pong.Reads.Learnt κs (h.state, (slot, (time, tt))) r e → SaysChanged (Pong slot time) h r
 Tied (Flush slot time) h = (κs : _) (r : Changed) (e : _) → engine.flushing.flush.Reads.Learnt κs (h.state, (slot, (time, tt))) r e → SaysChanged (Flush slot time) h r
 Tied (Send slot time msg bytes) h = (κs : Lfts 2) (i j : Place) (r : SendResult) (e : _)
-    → engine.sending.send.Reads.Learnt κs (h.state, (lent i h.sent, (slot, (time, (msg, (lent j bytes, tt)))))) r e
+    → engine.sending.send.Reads.Learnt κs (h.state, (lent_mut i h.sent, (slot, (time, (msg, (lent j bytes, tt)))))) r e
     → Says (Send slot time msg bytes) h (send_told r.answer) (record { state = r.state; sent = e.1.0.now; received = h.received; records = h.records })
 Tied (Resend slot time n) h = (κs : _) (r : ResendResult) (e : _)
     → engine.resending.resend.Reads.Learnt κs (h.state, (slot, (time, (seq_of n, tt)))) r e
     → Says (Resend slot time n) h (resend_told r.answer) (with_state h r.state)
 Tied (Ack slot time n) h = (κs : _) (r : Changed) (e : _) → engine.acking.ack.Reads.Learnt κs (h.state, (slot, (time, (seq_of n, tt)))) r e → SaysChanged (Ack slot time n) h r
 Tied (Receive slot msg n bytes) h = (κs : Lfts 3) (i j k : Place) (r : Changed) (e : _)
-    → engine.receiving.receive.Reads.Learnt κs (h.state, (lent i h.received, (lent j h.records, (slot, (msg, (seq_of n, (lent k bytes, tt))))))) r e
+    → engine.receiving.receive.Reads.Learnt κs (h.state, (lent_mut i h.received, (lent_mut j h.records, (slot, (msg, (seq_of n, (lent k bytes, tt))))))) r e
     → Says (Receive slot msg n bytes) h (outcome_told r.outcome) (record { state = r.state; sent = h.sent; received = e.1.0.now; records = e.1.1.0.now })
 Tied Show h = (κs : Lfts 2) (i j : Place) (r : HandOut) (e : _)
     → engine.handing_out.showing.Reads.Learnt κs (h.state, (lent i h.received, (lent j h.records, tt))) r e → Says Show h (hand_out_told r) h
 Tied Take h = (κs : Lfts 1) (i : Place) (r : TakeResult) (e : _)
-    → engine.handing_out.take.Reads.Learnt κs (h.state, (lent i h.records, tt)) r e
+    → engine.handing_out.take.Reads.Learnt κs (h.state, (lent_mut i h.records, tt)) r e
     → Says Take h (hand_out_told r.answer) (record { state = r.state; sent = h.sent; received = h.received; records = e.1.0.now })
 Tied Due h = (κs : _) (r : DueAnswer) (e : _) → engine.handing_out.is_consume_ack_required.Reads.Learnt κs (h.state, tt) r e → Says Due h (due_told r) h
 Tied Close h = (κs : _) (r : Changed) (e : _) → engine.closing.close_reader.Reads.Learnt κs (h.state, tt) r e → SaysChanged Close h r
@@ -123,7 +123,7 @@ module _ (c : Call) (h : Holding) (t : Told) (after : Holding) (says : Says c h 
 -- ---- the promises of the calls that are no `Call`, word by word; and of one that is, to see what is learnt of two `ensures`
 
 fresh-learnt : (κs : Lfts 1) (start : Seq) (buffer cells : ℕ) (records : List ℕ) (i : Place) (r : Changed) (e : _)
-    → engine.starting.fresh.Reads.Learnt κs (start, (buffer, (cells, (lent i records, tt)))) r e
+    → engine.starting.fresh.Reads.Learnt κs (start, (buffer, (cells, (lent_mut i records, tt)))) r e
     ≡ ((r ≡ fresh_of start.0 buffer cells (length records))
     × ((outcome_told r.outcome ≡ told_by (fresh_verdict buffer cells (length records)) []) × (RefusedUnsound r × (e.1.1.1.0.now ≡ fresh_records buffer cells records))))
 fresh-learnt κs start buffer cells records i r e = refl
@@ -140,7 +140,7 @@ show-learnt : (κs : Lfts 2) (s : State) (store records : List ℕ) (i j : Place
 show-learnt κs s store records i j r e = refl
 
 receive-learnt : (κs : Lfts 3) (s : State) (store records : List ℕ) (slot : ℕ) (msg : ReliableMsg) (seq : Seq) (payload : List ℕ) (i j k : Place) (r : Changed) (e : _)
-    → engine.receiving.receive.Reads.Learnt κs (s, (lent i store, (lent j records, (slot, (msg, (seq, (lent k payload, tt))))))) r e
+    → engine.receiving.receive.Reads.Learnt κs (s, (lent_mut i store, (lent_mut j records, (slot, (msg, (seq, (lent k payload, tt))))))) r e
     ≡ ((r ≡ receive_of s (length store) records slot msg seq.0 (length payload))
     × ((outcome_told r.outcome ≡ told_by (receive_verdict s (length store) records slot msg seq.0 (length payload)) [])
     × ((e.1.0.now ≡ receive_store s store records slot msg seq.0 payload)

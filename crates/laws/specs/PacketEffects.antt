@@ -65,7 +65,7 @@ sweeps (p ∷ ps) =
     cases (is_received p.status)
     (λ t.
     let r = sweeps ps in
-    let first : (i : ℕ) → i < suc r.gone → is_received (get_or (p ∷ ps) i no_packet).status ≡ true = λ i. elim i [ zero ↦ λ h. t | suc j ↦ λ h. r.dropped j (omega arith) ] in
+    let first : (i : ℕ) → i < suc r.gone → is_received (get_or (p ∷ ps) i no_packet).status ≡ true = λ i. elim i as (λ k. k < suc r.gone → is_received (get_or (p ∷ ps) k no_packet).status ≡ true) [ zero ↦ λ h. t | suc j ↦ λ h. r.dropped j (omega arith) ] in
     record { gone = suc r.gone; within = omega (arith, r.within); left = simp t r.left; dropped = first; first = λ h. r.first (omega arith) })
     (λ t. record { gone = 0; within = omega arith; left = simp t; dropped = λ i h. absurd (omega arith); first = λ h. t })
 

@@ -4,9 +4,8 @@
 -- in it) and what was lent to it at exit. The checker makes it of the source, so that no copy here can differ. Assumes nothing.
 use Rattle.std.specs.Prelude.{length, ◌≡◌, refl, List, ℕ, Bool}
 use Rattle.std.proofs.Common.{sym, ap, ◌∙◌}
-use Rattle.std.specs.Borrow.{GName, Bor}
+use Rattle.std.specs.Borrow.{GName, Bor, MutBor}
 use contract.Lifetimes.{Lfts}
-use contract.Monad.{fact}
 use Rattle.seq.specs.declared.Seq.{Seq}
 use Rattle.msg.specs.declared.link_msg.LinkMsg.{LinkMsg}
 use Rattle.msg.specs.declared.reading.Reading.{Reading}
@@ -189,7 +188,11 @@ pub record Place : Type 0 where
   pub name : GName
 
 abbrev pub lent : {X : Type 0} → Place → X → Bor X
-lent i x = record { ref_ptr = i.ptr; ghost_name = i.name; now = x }
+lent i x = record { ref_ptr = i.ptr; now = x }
+
+-- .. and those that a call may change
+abbrev pub lent_mut : {X : Type 0} → Place → X → MutBor X
+lent_mut i x = record { ref_ptr = i.ptr; ghost_name = i.name; now = x }
 
 -- crates/msg/src/reading.rt
 pub msg-read : (κs κs' : Lfts 1) (bytes : List ℕ) (i i' : Place) (r r' : Reading) (e : _) (e' : _)
@@ -200,22 +203,22 @@ msg-read κs κs' bytes i i' r r' e e' p q = p.0 ∙ sym q.0
 
 -- crates/msg/src/writing.rt; `e.1.0` is the second parameter at exit, the buffer
 pub msg-write : (κs κs' : Lfts 1) (m : LinkMsg) (buffer : List ℕ) (i i' : Place) (r r' : Written) (e : _) (e' : _)
-    → msg.writing.write.Reads.Learnt κs (m, (lent i buffer, tt)) r e
-    → msg.writing.write.Reads.Learnt κs' (m, (lent i' buffer, tt)) r' e'
+    → msg.writing.write.Reads.Learnt κs (m, (lent_mut i buffer, tt)) r e
+    → msg.writing.write.Reads.Learnt κs' (m, (lent_mut i' buffer, tt)) r' e'
     → (r ≡ r') × (e.1.0.now ≡ e'.1.0.now)
 msg-write κs κs' m buffer i i' r r' e e' p q = (p.0 ∙ sym q.0, p.1.1 ∙ sym q.1.1)
 
 -- crates/engine/src/sending.rt
 pub send : (κs κs' : Lfts 2) (s : State) (store : List ℕ) (slot time : ℕ) (msg : ReliableMsg) (payload : List ℕ) (i i' j j' : Place) (r r' : SendResult) (e : _) (e' : _)
-    → engine.sending.send.Reads.Learnt κs (s, (lent i store, (slot, (time, (msg, (lent j payload, tt)))))) r e
-    → engine.sending.send.Reads.Learnt κs' (s, (lent i' store, (slot, (time, (msg, (lent j' payload, tt)))))) r' e'
+    → engine.sending.send.Reads.Learnt κs (s, (lent_mut i store, (slot, (time, (msg, (lent j payload, tt)))))) r e
+    → engine.sending.send.Reads.Learnt κs' (s, (lent_mut i' store, (slot, (time, (msg, (lent j' payload, tt)))))) r' e'
     → (r ≡ r') × (e.1.0.now ≡ e'.1.0.now)
 send κs κs' s store slot time msg payload i i' j j' r r' e e' p q = (p.0 ∙ sym q.0, p.1.1 ∙ sym q.1.1)
 
 -- crates/engine/src/starting.rt
 pub fresh : (κs κs' : Lfts 1) (start : Seq) (buffer cells : ℕ) (records : List ℕ) (i i' : Place) (r r' : Changed) (e : _) (e' : _)
-    → engine.starting.fresh.Reads.Learnt κs (start, (buffer, (cells, (lent i records, tt)))) r e
-    → engine.starting.fresh.Reads.Learnt κs' (start, (buffer, (cells, (lent i' records, tt)))) r' e'
+    → engine.starting.fresh.Reads.Learnt κs (start, (buffer, (cells, (lent_mut i records, tt)))) r e
+    → engine.starting.fresh.Reads.Learnt κs' (start, (buffer, (cells, (lent_mut i' records, tt)))) r' e'
     → (r ≡ r') × (e.1.1.1.0.now ≡ e'.1.1.1.0.now)
 fresh κs κs' start buffer cells records i i' r r' e e' p q = (p.0 ∙ sym q.0, p.1.1.1 ∙ sym q.1.1.1)
 
@@ -228,8 +231,8 @@ sound-with κs κs' s records i i' r r' e e' p q = p ∙ sym q
 
 -- crates/engine/src/receiving.rt; `e.1.0` is the store, `e.1.1.0` the record space
 pub receive : (κs κs' : Lfts 3) (s : State) (store records : List ℕ) (slot : ℕ) (msg : ReliableMsg) (seq : Seq) (payload : List ℕ) (i i' j j' k k' : Place) (r r' : Changed) (e : _) (e' : _)
-    → engine.receiving.receive.Reads.Learnt κs (s, (lent i store, (lent j records, (slot, (msg, (seq, (lent k payload, tt))))))) r e
-    → engine.receiving.receive.Reads.Learnt κs' (s, (lent i' store, (lent j' records, (slot, (msg, (seq, (lent k' payload, tt))))))) r' e'
+    → engine.receiving.receive.Reads.Learnt κs (s, (lent_mut i store, (lent_mut j records, (slot, (msg, (seq, (lent k payload, tt))))))) r e
+    → engine.receiving.receive.Reads.Learnt κs' (s, (lent_mut i' store, (lent_mut j' records, (slot, (msg, (seq, (lent k' payload, tt))))))) r' e'
     → (r ≡ r') × (e.1.0.now ≡ e'.1.0.now) × (e.1.1.0.now ≡ e'.1.1.0.now)
 receive κs κs' s store records slot msg seq payload i i' j j' k k' r r' e e' p q = (p.0 ∙ sym q.0, p.1.1.0 ∙ sym q.1.1.0, p.1.1.1 ∙ sym q.1.1.1)
 
@@ -248,17 +251,16 @@ pub show : (κs κs' : Lfts 2) (s : State) (store records : List ℕ) (i i' j j'
 show κs κs' s store records i i' j j' r r' e e' p q = (p.0 ∙ sym q.0, λ same. p.1 ∙ ap (shown_at s (length store) records) same ∙ sym q.1)
 
 pub take : (κs κs' : Lfts 1) (s : State) (records : List ℕ) (i i' : Place) (r r' : TakeResult) (e : _) (e' : _)
-    → engine.handing_out.take.Reads.Learnt κs (s, (lent i records, tt)) r e
-    → engine.handing_out.take.Reads.Learnt κs' (s, (lent i' records, tt)) r' e'
+    → engine.handing_out.take.Reads.Learnt κs (s, (lent_mut i records, tt)) r e
+    → engine.handing_out.take.Reads.Learnt κs' (s, (lent_mut i' records, tt)) r' e'
     → (r ≡ r') × (e.1.0.now ≡ e'.1.0.now)
 take κs κs' s records i i' r r' e e' p q = (p.0 ∙ sym q.0, p.1.1 ∙ sym q.1.1)
 
--- crates/engine/src/slowness.rt. Of a call that is lent a run of records the checker makes no `Learnt`. Its promise is its clause
--- of the source, `ensures-1`, and `slow-says` holds what is quoted of it in `slow` to that clause
-pub slow-says : {M : Type 1} (𝓤 : _) (H : _) (κs : _) (A : _) (mem : _) (run : _) (given rows : _) (r : SlowAnswer)
-    → engine.slowness.slow.ensures-1 {M = M} 𝓤 H κs A mem run given rows r
-    ≡ fact 𝓤 ((r ≡ slow_links_of rows.entry.now) × (slow_told r ≡ told_by (slow_verdict rows.entry.now) (slow_slots rows.entry.now)))
-slow-says 𝓤 H κs A mem run given rows r = refl
+-- crates/engine/src/slowness.rt; what it promises, in one clause, is the definition and what that tells
+pub slow-says : (κs : Lfts 1) (rows : List LinkRow) (i : Place) (r : SlowAnswer) (e : _)
+    → engine.slowness.slow.Reads.Learnt κs (lent i rows, tt) r e
+    ≡ ((r ≡ slow_links_of rows) × (slow_told r ≡ told_by (slow_verdict rows) (slow_slots rows)))
+slow-says κs rows i r e = refl
 
 pub slow : (rows : List LinkRow) (r r' : SlowAnswer) → r ≡ slow_links_of rows → r' ≡ slow_links_of rows → r ≡ r'
 slow rows r r' p q = p ∙ sym q

@@ -3,10 +3,10 @@
 use mathlib.Core.Path.{◌≡◌, refl, sym, ap, ap₂, ◌∙◌}
 use mathlib.Core.Bool.{true, false}
 use mathlib.Core.List.{List, ◌++◌, append-nil, append_assoc}
-use Prim.Native.Nat.{ℕ, ◌+◌, ◌-◌, ◌≤◌, ◌<◌}
+use Prim.Native.Nat.{ℕ, ◌+◌, ◌≤◌, ◌<◌}
 use native.Mathlib.Omega.{arith}
-use lib.ListN.{length, take, drop, length-append, length-take, length-drop, drop_of_length-le}
-use lib.Seq.{take_at, drop_at, take-take, drop-drop, length-take-le}
+use lib.ListN.{length, take, drop, length-append, length-take, length-drop}
+use lib.Seq.{take_at, drop_at, drop-drop}
 use borrow.Author.Tests.{le-leb, lt-leb, leb-true}
 use Rattle.refusal.specs.Refusals.{refuse}
 use Rattle.msg.specs.declared.link_msg.LinkMsg.{LinkMsg}
@@ -61,12 +61,6 @@ size_small (SetBlock blocked) w = omega arith
 size_small Goodbye w = omega arith
 size_small Terminate w = omega arith
 
--- all of a part copied over a part of the same length
-copied_all : (n : ℕ) (xs buffer : List ℕ) → n ≤ length buffer → take n (take n xs) ++ drop n (take n buffer) ≡ take n xs
-copied_all n xs buffer h =
-    ap₂ (λ (a b : List ℕ). a ++ b) (take-take n n xs (omega arith)) (drop_of_length-le (take n buffer) {i = n} (omega (arith, length-take n buffer)))
-    ∙ append-nil (take n xs)
-
 -- the head at the start, the pattern behind it, and the rest of the buffer as it was
 laid : (head buffer : List ℕ) (n size : ℕ) → length head ≡ n
     → take n (head ++ drop n buffer) ++ (pattern size ++ drop size (drop n (head ++ drop n buffer))) ≡ (head ++ pattern size) ++ drop (n + size) buffer
@@ -103,7 +97,7 @@ module _ (msg : LinkMsg) (parts : Parts) (p : Parted (writable msg) (head_of msg
       -- the head copied and the test data filled in
       pub write_done : parts.len + parts.size ≤ length buffer
           → (copied filled : List ℕ) (k : ℕ)
-          → copied ≡ take (length (take parts.len parts.bytes)) (take parts.len parts.bytes) ++ drop (length (take parts.len parts.bytes)) (take parts.len buffer)
+          → copied ≡ take parts.len parts.bytes
           → filled ≡ pattern (length (take k (drop parts.len (copied ++ drop parts.len buffer))))
           → k ≡ parts.size
           → (Bytes (parts.len + parts.size) ≡ write_of msg buffer)
@@ -112,10 +106,7 @@ module _ (msg : LinkMsg) (parts : Parts) (p : Parted (writable msg) (head_of msg
       write_done h copied filled k ec ef ek =
           let e = le-leb (length (bytes_of msg)) (length buffer) (omega (arith, whole)) in
           let head : copied ≡ head_of msg =
-          ec
-          ∙ ap (λ i. take i (take parts.len parts.bytes) ++ drop i (take parts.len buffer)) (length-take-le parts.len parts.bytes head-within)
-          ∙ copied_all parts.len parts.bytes buffer (omega arith)
-          ∙ p.bytes-head
+          ec ∙ p.bytes-head
           in
           let size : k ≡ size_of msg = ek ∙ p.test in
           let part : length (take k (drop parts.len (copied ++ drop parts.len buffer))) ≡ size_of msg =

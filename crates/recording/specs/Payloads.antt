@@ -1,7 +1,7 @@
 -- Document 01, "The replay program": "its payload line (possibly blank)"; "a bad or absent payload, or one over 1,024 bytes, gives hex 14
 -- (refusal 20)". Assumes nothing.
 use Rattle.std.proofs.Math.Path.{◌≡◌, ap}
-use Rattle.std.specs.Prelude.{refl, Bool, false, cond, ◌&&◌, List, ℕ, ◌/◌, ◌≤◌, ◌<◌, leb}
+use Rattle.std.specs.Prelude.{Bool, false, cond, ◌&&◌, List, ℕ, ◌/◌, ◌≤◌, ◌<◌, leb}
 use Rattle.std.proofs.Common.{sym, ◌∙◌}
 use Rattle.std.proofs.Math.Bool.{true}
 use native.Mathlib.Omega.{arith}

@@ -70,6 +70,17 @@ put-done run out new at h e =
     in
     (simp t, simp (t, e, k, take-length, none, append-nil, drop-drop))
 
+-- the same where the part became the run
+pub put-copied : (run out new : List ℕ) (at : ℕ)
+    → at + length run ≤ length out
+    → new ≡ run
+    → (at + length run ≡ put_end run out at) × (take at out ++ (new ++ drop (at + length run - at) (drop at out)) ≡ put_in run out at)
+unfolding has_room put_end put_in
+put-copied run out new at h e =
+    let t = le-leb (at + length run) (length out) h in
+    let k : at + length run - at ≡ length run = omega arith in
+    (simp t, simp (t, e, k, drop-drop))
+
 pub puts-append : (first rest : List (List ℕ)) (out : List ℕ) (at : ℕ)
     → (puts_end (first ++ rest) out at ≡ puts_end rest (puts_in first out at) (puts_end first out at))
     × (puts_in (first ++ rest) out at ≡ puts_in rest (puts_in first out at) (puts_end first out at))

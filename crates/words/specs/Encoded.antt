@@ -1,6 +1,6 @@
 -- The words that a part of the state is written as, and that they say it again. Assumes nothing.
-use Rattle.std.specs.Prelude.{◌≡◌, refl, Bool, true, false, cond, List, [], ◌∷◌, ℕ, ◌%◌, ◌^◌, ◌<◌, replicate, set}
-use Rattle.std.proofs.Common.{sym, ap, ◌∙◌, mod-eq_of_lt, arith}
+use Rattle.std.specs.Prelude.{◌≡◌, refl, Bool, true, false, cond, List, [], ◌∷◌, ℕ, ◌^◌, ◌<◌, replicate, set}
+use Rattle.std.proofs.Common.{sym, ap, ◌∙◌, mod-eq_of_lt}
 use Rattle.refusal.specs.Answers.{flag}
 use Rattle.seq.specs.declared.Seq.{Seq}
 use Rattle.seq.specs.Numbers.{seq_of}

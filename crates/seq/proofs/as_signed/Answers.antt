@@ -1,5 +1,5 @@
 -- Both halves of the range are read as `signed` says: a difference is stored as 32 bits and read back.
-use Rattle.std.proofs.Common.{◌-◌, arith, rules}
+use Rattle.std.proofs.Common.{◌-◌, arith}
 use Rattle.seq.proofs.Signed.{complement-fits, low_signed, high-signed}
 use Rattle.seq.proofs.as_signed.Goals as goal
 

@@ -1,5 +1,5 @@
 -- The supplied sum wraps as `plus` does.
-use Rattle.std.proofs.Common.{ap, rules}
+use Rattle.std.proofs.Common.{ap}
 use Rattle.seq.specs.Numbers.{seq_of, plus}
 use Rattle.seq.proofs.Seq.add.Goals as goal
 

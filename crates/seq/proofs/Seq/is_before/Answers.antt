@@ -1,5 +1,5 @@
 -- Below 0 is behind, and far is not.
-use Rattle.std.proofs.Common.{pos, sym, ap, ◌∙◌, rules}
+use Rattle.std.proofs.Common.{pos, sym, ap, ◌∙◌}
 use lib.Signed.{lt_z}
 use Rattle.seq.specs.Distance.{is_behind, before}
 use Rattle.seq.proofs.Signed.{read_back, below-zero}

@@ -1,5 +1,5 @@
 -- The one place says so.
-use Rattle.std.proofs.Common.{sym, ap, ◌∙◌, rules}
+use Rattle.std.proofs.Common.{sym, ap, ◌∙◌}
 use Rattle.seq.specs.Distance.{is_by, near}
 use Rattle.seq.proofs.Seq.is_near.Goals as goal
 

@@ -1,5 +1,5 @@
 -- What the one place tells where it isn't negative, else 2^30.
-use Rattle.std.proofs.Common.{T, ℤ, pos, nat_abs, sym, ap, ◌∙◌, w32, Fits, rules}
+use Rattle.std.proofs.Common.{T, ℤ, pos, nat_abs, sym, ap, ◌∙◌, w32, Fits}
 use mathlib.Core.Path.{subst⁻¹}
 use lib.Signed.{le_z, non_neg}
 use Rattle.seq.specs.Distance.{past_as, past, by-small}

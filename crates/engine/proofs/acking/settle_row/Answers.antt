@@ -1,0 +1,20 @@
+-- Each arm knows which status it is in.
+use Rattle.std.proofs.Common.{eq-eqb, ne_eqb}
+use Rattle.engine.specs.Acking.{settled_row_as}
+use Rattle.engine.proofs.acking.settle_row.Goals as goal
+
+pub returns-then-flight-slot : goal.returns-then-flight-slot
+unfolding settled_row_as
+returns-then-flight-slot c = simp (c.in-Sent.is, ne_eqb _ _ c.if-flight-slot.true)
+
+pub returns-else-flight-slot : goal.returns-else-flight-slot
+unfolding settled_row_as
+returns-else-flight-slot c = simp (c.in-Sent.is, eq-eqb _ _ c.if-flight-slot.false, c.trip.ensures, c.with_unacked.ensures, c.less-bytes.ensures)
+
+pub returns-in-Received : goal.returns-in-Received
+unfolding settled_row_as
+returns-in-Received c = simp c.in-Received.is
+
+pub returns-in-ResendQueued : goal.returns-in-ResendQueued
+unfolding settled_row_as
+returns-in-ResendQueued c = simp c.in-ResendQueued.is

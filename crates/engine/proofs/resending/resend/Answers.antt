@@ -1,0 +1,19 @@
+-- By the verdict.
+use Rattle.engine.proofs.Shapes.{shaped}
+use Rattle.std.proofs.Common.{sym, ◌∙◌}
+use Rattle.engine.specs.Resending.{resend_of, resend-cell}
+use Rattle.engine.proofs.resending.resend.Goals as goal
+
+pub resent_state-requires : goal.resent_state-requires
+resent_state-requires c = sym c.resend_verdict-verdict.ensures ∙ c.in-Pass.is
+
+pub returns-in-No : goal.returns-in-No
+unfolding resend_of
+returns-in-No c = let e = sym c.resend_verdict-verdict.ensures ∙ c.in-No.is in record { value = simp e; answer_value = simp e }
+
+pub returns-in-Pass : goal.returns-in-Pass
+unfolding resend_of
+returns-in-Pass c = let a = c.args in
+    let e = sym c.resend_verdict-verdict.ensures ∙ c.in-Pass.is in
+    let cell = c.packet_of-p.ensures ∙ resend-cell a.s a.slot a.time a.seq.0 (shaped a.s c.well_formed.0) c.well_formed.1.1.1.0.1.1.0.1 e in
+    record { value = simp (e, c.resent_state.ensures, cell); answer_value = simp (e, cell) }

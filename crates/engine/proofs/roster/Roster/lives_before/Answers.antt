@@ -1,0 +1,30 @@
+-- The slots that are left to look at give the same answer at each turn.
+use Rattle.std.proofs.Common.{sym, refl, ◌∙◌, arith}
+use Rattle.engine.specs.Roster.{lives-step, lives-none}
+use Rattle.engine.proofs.roster.Roster.lives_before.Goals as goal
+
+pub loop-left-init : goal.loop-left-init
+loop-left-init c = refl
+
+pub overflow_sub-left : goal.overflow_sub-left
+overflow_sub-left c = omega arith
+
+pub lives_in-requires : goal.lives_in-requires
+lives_in-requires c = tt
+
+pub returns-then-lives_in : goal.returns-then-lives_in
+returns-then-lives_in c = let a = c.args in
+    let l = c.loop-left in
+    sym (lives-step a.self a.id l.left c.loop-left-test.true ∙ simp (sym c.lives_in.ensures, c.if-lives_in.true)) ∙ l.invariant
+
+pub loop-left-smaller : goal.loop-left-smaller
+loop-left-smaller c = omega arith
+
+pub loop-left-preserved : goal.loop-left-preserved
+loop-left-preserved c = let a = c.args in
+    let l = c.loop-left in
+    sym (lives-step a.self a.id l.left c.loop-left-test.true ∙ simp (sym c.lives_in.ensures, c.if-lives_in.false)) ∙ l.invariant
+
+pub returns : goal.returns
+returns c = let a = c.args in
+    sym (lives-none a.self a.id c.loop-left.left c.loop-left-test.false) ∙ c.loop-left.invariant

@@ -1,0 +1,16 @@
+-- By whether there is a mark, and whether the resent number is before it.
+use mathlib.Core.Path.{◌∙◌}
+use Rattle.link.specs.Limit.{mark_resent_as}
+use Rattle.link.proofs.row.LinkRow.mark_resent.Goals as goal
+
+pub returns-then-is_before : goal.returns-then-is_before
+unfolding mark_resent_as
+returns-then-is_before c = c.mark.ensures ∙ simp (c.in-At.is, ← c.is_before.ensures, c.if-is_before.true)
+
+pub returns-in-Clear : goal.returns-in-Clear
+unfolding mark_resent_as
+returns-in-Clear c = simp c.in-Clear.is
+
+pub returns-else-is_before : goal.returns-else-is_before
+unfolding mark_resent_as
+returns-else-is_before c = simp (c.in-At.is, ← c.is_before.ensures, c.if-is_before.false)

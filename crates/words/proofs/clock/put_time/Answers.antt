@@ -1,0 +1,6 @@
+-- One word.
+use Rattle.words.specs.Put.{time-put}
+use Rattle.words.proofs.clock.put_time.Goals as goal
+
+pub returns : goal.returns
+returns c = time-put c.args.words.now c.requires c.args.time

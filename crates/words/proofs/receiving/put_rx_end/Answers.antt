@@ -1,0 +1,7 @@
+-- One word.
+use Rattle.words.specs.OneWord.{rx-end-put}
+use borrow.Author.Rules.{rules}
+use Rattle.words.proofs.receiving.put_rx_end.Goals as goal
+
+pub returns : goal.returns
+returns c = rx-end-put c.args.words.now c.requires c.args.seq (search rules)

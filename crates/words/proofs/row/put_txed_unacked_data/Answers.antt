@@ -1,0 +1,7 @@
+-- One word.
+use Rattle.words.specs.OneWord.{unacked-data-put}
+use borrow.Author.Rules.{rules}
+use Rattle.words.proofs.row.put_txed_unacked_data.Goals as goal
+
+pub returns : goal.returns
+returns c = unacked-data-put c.args.words.now c.requires.0 c.args.slot c.requires.1 c.args.bytes (search rules)
