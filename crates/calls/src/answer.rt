@@ -142,12 +142,10 @@ pub fn resent(out: &mut Buffer, at: usize, answer: ResendAnswer, store: &[u8], n
 
 fn listed(out: &mut Buffer, at: usize, links: SlowLinks) -> usize {
     let mut end = at;
-    let mut i: usize = 0;
-    while i < SLOTS {
+    for i in 0..SLOTS {
         if i < links.count {
             end = out::next(out, end, links.slots[i] as u64);
         }
-        i += 1;
     }
     end
 }

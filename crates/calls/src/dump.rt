@@ -84,13 +84,11 @@ fn ping(out: &mut Buffer, at: usize, ping: Ping) -> usize {
 
 fn acks(out: &mut Buffer, at: usize, row: LinkRow) -> usize {
     let mut end = at;
-    let mut i: usize = 0;
-    while i < ACKS {
+    for i in 0..ACKS {
         if i < row.ack_count {
             let n = row.tx_ack_queue[i];
             end = seq(out, end, n);
         }
-        i += 1;
     }
     end
 }
@@ -120,11 +118,9 @@ fn live_row(out: &mut Buffer, at: usize, slot: usize, r: LinkRow) -> usize {
 
 fn links(out: &mut Buffer, at: usize, links: [LinkRow; SLOTS]) -> usize {
     let mut end = at;
-    let mut slot: usize = 0;
-    while slot < SLOTS {
+    for slot in 0..SLOTS {
         let r = links[slot];
         end = live_row(out, end, slot, r);
-        slot += 1;
     }
     end
 }
@@ -181,26 +177,22 @@ fn first_number(tx: Sending) -> Seq {
 fn packets(out: &mut Buffer, at: usize, tx: Sending) -> usize {
     let mut end = at;
     let mut n = first_number(tx);
-    let mut left = tx.txed_count % COUNTS;
-    while 0 < left {
+    for _ in 0..tx.txed_count % COUNTS {
         let i = (n.0 % PACKET_ROUND) as usize;
         let p = tx.txed_packets[i];
         end = packet(out, end, p);
         n = n.add(1);
-        left -= 1;
     }
     end
 }
 
 fn queued(out: &mut Buffer, at: usize, tx: Sending) -> usize {
     let mut end = at;
-    let mut i: usize = 0;
-    while i < PACKETS {
+    for i in 0..PACKETS {
         if i < tx.resend_count {
             let n = tx.resend_queue[i];
             end = seq(out, end, n);
         }
-        i += 1;
     }
     end
 }
@@ -269,14 +261,12 @@ fn held_at(n: Seq, cells: u32, records: &[u64]) -> Held {
 fn cells(out: &mut Buffer, at: usize, rx: Receiving, records: &[u64]) -> usize {
     let mut end = at;
     let mut n = rx.rx_oldest;
-    let mut k: u32 = 0;
     let used = in_use(rx);
     let expected = rx.rx_seq.past(rx.rx_oldest);
-    while k < used {
+    for k in 0..used {
         let held_here = held_at(n, rx.cells, records);
         end = waiting(out, end, n, held_here, k < expected);
         n = n.add(1);
-        k += 1;
     }
     end
 }
@@ -303,13 +293,11 @@ fn sent_cell(out: &mut Buffer, at: usize, p: SentReliable, store: &[u8]) -> usiz
 fn sent_cells(out: &mut Buffer, at: usize, tx: Sending, store: &[u8]) -> usize {
     let mut end = at;
     let mut n = first_number(tx);
-    let mut left = tx.txed_count % COUNTS;
-    while 0 < left {
+    for _ in 0..tx.txed_count % COUNTS {
         let i = (n.0 % PACKET_ROUND) as usize;
         let p = tx.txed_packets[i];
         end = sent_cell(out, end, p, store);
         n = n.add(1);
-        left -= 1;
     }
     end
 }
@@ -324,13 +312,11 @@ fn kept_cell(out: &mut Buffer, at: usize, cell: u32, held_here: Held, store: &[u
 fn kept_cells(out: &mut Buffer, at: usize, rx: Receiving, store: &[u8], records: &[u64]) -> usize {
     let mut end = at;
     let mut n = rx.rx_oldest;
-    let mut k: u32 = 0;
     let used = in_use(rx);
-    while k < used {
+    for _ in 0..used {
         let held_here = held_at(n, rx.cells, records);
         end = kept_cell(out, end, cell_of(n, rx.cells), held_here, store);
         n = n.add(1);
-        k += 1;
     }
     end
 }

@@ -1,12 +1,12 @@
 // Reads the script in pieces, and has each line answered as soon as it is whole.
-ghost use Rattle.std.specs.Prelude.{◌≤◌, length};
+ghost use Rattle.std.specs.Prelude.{◌≡◌, ℕ, ◌<◌, ◌≤◌, ◌≢◌, length, slice_index};
 
 use crate::out::Buffer;
 use crate::run::{Payload, Records, SentStore};
 use crate::session::Session;
 use crate::words::first;
 use crate::{call, out, run};
-use libc::STDIN_FILENO;
+use std::io::Read;
 
 // A piece of the input.
 pub type Piece = [u8; 65536];
@@ -91,6 +91,22 @@ fn pass(
     kept
 }
 
+// The place of the next line feed from a place on, or the piece's end.
+fn line_end(piece: &[u8], at: usize) -> usize
+    requires { at ≤ length piece.now }
+    ensures start { at ≤ result }
+    ensures end { result ≤ length piece.now }
+    ensures before { (k : ℕ) → at ≤ k → k < result → slice_index piece.now k ≢ 10 }
+    ensures found { result < length piece.now → slice_index piece.now result ≡ 10 }
+{
+    for i in at..piece.len() {
+        if piece[i] == b'\n' {
+            return i;
+        }
+    }
+    piece.len()
+}
+
 // Answers the rest of a piece, up to its end or to a `fresh` that asks for more cells than there is room for.
 fn lines(
     s: Session,
@@ -108,7 +124,7 @@ fn lines(
         if next.has_outgrown(received.len()) {
             return next.answered_to(at);
         }
-        let end = bytes::scan::find(piece, at, piece.len(), b'\n');
+        let end = line_end(piece, at);
         next = pass(
             next, piece, at, end, line, payload, sent, received, records, out,
         );
@@ -118,25 +134,25 @@ fn lines(
 }
 
 // Writes out the answers to what was read, so that whoever asks has them before more is read, and reads once.
-fn read_on(s: Session, input: &mut Piece, out: &mut Buffer) -> Session {
+fn read_on(s: Session, source: &mut impl Read, input: &mut Piece, out: &mut Buffer) -> Session {
     if !out::write_out(out, s.at) {
         return s.cut_off();
     }
     let told = s.to(0);
-    let got = libc::read(STDIN_FILENO, input);
-    if got < 0 {
-        out::complain(b"calls: standard input cannot be read\n");
-        return told.at_end();
+    match source.read(input) {
+        Ok(0) => told.at_end(),
+        Ok(n) => told.on_piece(n),
+        Err(_) => {
+            out::complain(b"calls: standard input cannot be read\n");
+            told.at_end()
+        }
     }
-    if got == 0 {
-        return told.at_end();
-    }
-    told.on_piece(io::count(got, input))
 }
 
 // Answers what was read, or, where that is done, reads on.
 fn turn(
     s: Session,
+    source: &mut impl Read,
     input: &mut Piece,
     line: &mut Line,
     payload: &mut Payload,
@@ -146,7 +162,7 @@ fn turn(
     out: &mut Buffer,
 ) -> Session {
     if s.upto <= s.from {
-        return read_on(s, input, out);
+        return read_on(s, source, input, out);
     }
     lines(
         s,
@@ -161,9 +177,10 @@ fn turn(
 }
 
 // Reads to the end of the input, or to a `fresh` that asks for more cells than there is room for. A proved loop has to end, and
-// nothing says that the input does, so that the turns are counted down from a number that no run uses up.
+// nothing says that the input does, so that the turns are counted, up to a number that no run comes to.
 fn read_all(
     s: Session,
+    source: &mut impl Read,
     input: &mut Piece,
     line: &mut Line,
     payload: &mut Payload,
@@ -173,16 +190,16 @@ fn read_all(
     out: &mut Buffer,
 ) -> Session {
     let mut next = s;
-    let mut turns = u64::MAX;
-    while 0 < turns {
+    for _ in 0..u64::MAX {
         if !next.is_open {
             return next;
         }
         if next.has_outgrown(received.len()) {
             return next;
         }
-        next = turn(next, input, line, payload, sent, received, records, out);
-        turns -= 1;
+        next = turn(
+            next, source, input, line, payload, sent, received, records, out,
+        );
     }
     next
 }
@@ -206,6 +223,7 @@ fn last_line(
 // Answers every line, to the end of the input or, with more to read then, to a `fresh` that asks for more cells than there is room for.
 pub fn answer_all(
     s: Session,
+    source: &mut impl Read,
     input: &mut Piece,
     line: &mut Line,
     payload: &mut Payload,
@@ -214,7 +232,9 @@ pub fn answer_all(
     records: &mut Records,
     out: &mut Buffer,
 ) -> Session {
-    let end = read_all(s, input, line, payload, sent, received, records, out);
+    let end = read_all(
+        s, source, input, line, payload, sent, received, records, out,
+    );
     if end.is_open {
         return end;
     }

@@ -19,10 +19,8 @@ pub fn first_records(records: &[u64], n: usize) -> &[u64] {
 
 // Makes every byte zero.
 fn clear(store: &mut [u8]) {
-    let mut i: usize = 0;
-    while i < store.len() {
-        store[i] = 0;
-        i += 1;
+    for byte in store.iter_mut() {
+        *byte = 0;
     }
 }
 

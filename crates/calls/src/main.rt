@@ -19,7 +19,8 @@ mod words;
 use crate::call::{MOST_RECORDS_LENT, MOST_SENT_LENT};
 
 // The buffers are made here, once, and lent to everything below; but for the received store, which `rooms` makes.
-fn main() {
+fn main(rt: HostRuntime) {
+    let mut stdin = rt.stdin();
     let mut piece = [0u8; 65536];
     let mut line = [0u8; 4160];
     let mut payload = [0u8; 2048];
@@ -27,6 +28,8 @@ fn main() {
     let mut records = [0u64; MOST_RECORDS_LENT];
     let mut out = [0u8; 65536];
     rooms::script(
+        &rt,
+        &mut stdin,
         &mut piece,
         &mut line,
         &mut payload,

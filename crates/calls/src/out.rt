@@ -1,5 +1,7 @@
 // Standard output, through a buffer. Each function takes the place up to which the buffer is full, and answers the new one.
-use libc::{STDERR_FILENO, STDOUT_FILENO};
+const STDOUT_FILENO: i32 = 1;
+
+const STDERR_FILENO: i32 = 2;
 
 pub type Buffer = [u8; 65536];
 
@@ -61,10 +63,8 @@ fn hex(out: &mut Buffer, at: usize, b: u8) -> usize {
 
 fn hex_all(out: &mut Buffer, at: usize, bytes: &[u8]) -> usize {
     let mut end = at;
-    let mut i: usize = 0;
-    while i < bytes.len() {
-        end = hex(out, end, bytes[i]);
-        i += 1;
+    for b in bytes {
+        end = hex(out, end, *b);
     }
     end
 }

@@ -8,6 +8,8 @@ use crate::run::{Payload, Records, SentStore};
 use crate::session::Session;
 use crate::{input, out, session, stack};
 use engine::DATA_BYTES;
+use std::io::Read;
+use std::rt::Files;
 
 // The most cells of the small room.
 const SMALL_CELLS: usize = 4096;
@@ -26,6 +28,7 @@ type LargeStore = [u8; MOST_RECEIVED_LENT];
 // Lends the store as a run of bytes. Where a store is made, the checker would count its bytes one by one for that.
 fn with_small_store(
     s: Session,
+    source: &mut impl Read,
     input: &mut Piece,
     line: &mut Line,
     payload: &mut Payload,
@@ -34,11 +37,14 @@ fn with_small_store(
     records: &mut Records,
     out: &mut Buffer,
 ) -> Session {
-    input::answer_all(s, input, line, payload, sent, received, records, out)
+    input::answer_all(
+        s, source, input, line, payload, sent, received, records, out,
+    )
 }
 
 fn in_small_room(
     s: Session,
+    source: &mut impl Read,
     input: &mut Piece,
     line: &mut Line,
     payload: &mut Payload,
@@ -47,11 +53,22 @@ fn in_small_room(
     out: &mut Buffer,
 ) -> Session {
     let mut received = [0u8; SMALL_ROOM];
-    with_small_store(s, input, line, payload, sent, &mut received, records, out)
+    with_small_store(
+        s,
+        source,
+        input,
+        line,
+        payload,
+        sent,
+        &mut received,
+        records,
+        out,
+    )
 }
 
 fn with_large_store(
     s: Session,
+    source: &mut impl Read,
     input: &mut Piece,
     line: &mut Line,
     payload: &mut Payload,
@@ -60,7 +77,9 @@ fn with_large_store(
     records: &mut Records,
     out: &mut Buffer,
 ) -> Session {
-    input::answer_all(s, input, line, payload, sent, received, records, out)
+    input::answer_all(
+        s, source, input, line, payload, sent, received, records, out,
+    )
 }
 
 // Goes on in the large room to the end of the input; were the turns of `input` ever used up, with as many again. A function that calls
@@ -68,6 +87,7 @@ fn with_large_store(
 fn in_large_room(
     s: Session,
     again: u64,
+    source: &mut impl Read,
     input: &mut Piece,
     line: &mut Line,
     payload: &mut Payload,
@@ -76,19 +96,41 @@ fn in_large_room(
     out: &mut Buffer,
 ) -> Session {
     let mut received = [0u8; MOST_RECEIVED_LENT];
-    let end = with_large_store(s, input, line, payload, sent, &mut received, records, out);
+    let end = with_large_store(
+        s,
+        source,
+        input,
+        line,
+        payload,
+        sent,
+        &mut received,
+        records,
+        out,
+    );
     if !end.is_open {
         return end;
     }
     if again == 0 {
         return end;
     }
-    in_large_room(end, again - 1, input, line, payload, sent, records, out)
+    in_large_room(
+        end,
+        again - 1,
+        source,
+        input,
+        line,
+        payload,
+        sent,
+        records,
+        out,
+    )
 }
 
 // Goes on with what the small room left, if the stack may grow so far. Where it may not, that is told, and nothing more is answered.
 fn go_on(
+    rt: &(impl Files + Alloc),
     s: Session,
+    source: &mut impl Read,
     input: &mut Piece,
     line: &mut Line,
     payload: &mut Payload,
@@ -99,17 +141,29 @@ fn go_on(
     if !s.is_open {
         return s;
     }
-    if !stack::may_take(LARGE_STACK) {
+    if !stack::may_take(rt, LARGE_STACK) {
         out::complain(
             b"calls: more than 4096 cells take a stack of 80 MiB, which its limit does not allow\n",
         );
         return s;
     }
-    in_large_room(s, u64::MAX, input, line, payload, sent, records, out)
+    in_large_room(
+        s,
+        u64::MAX,
+        source,
+        input,
+        line,
+        payload,
+        sent,
+        records,
+        out,
+    )
 }
 
-// Answers every line of standard input.
+// Answers every line of a source.
 pub fn script(
+    rt: &(impl Files + Alloc),
+    source: &mut impl Read,
     input: &mut Piece,
     line: &mut Line,
     payload: &mut Payload,
@@ -118,7 +172,7 @@ pub fn script(
     out: &mut Buffer,
 ) {
     let start = session::start();
-    let s = in_small_room(start, input, line, payload, sent, records, out);
-    let end = go_on(s, input, line, payload, sent, records, out);
+    let s = in_small_room(start, source, input, line, payload, sent, records, out);
+    let end = go_on(rt, s, source, input, line, payload, sent, records, out);
     out::flush(out, end.at);
 }

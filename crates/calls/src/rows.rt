@@ -8,15 +8,14 @@ use link::LinkRow;
 
 pub const MOST_ROWS: usize = SLOTS + 1;
 
-// The engine's answer, with the array beside the enum: the checker covers no enum that holds one.
+// The engine's answer, with the array beside the enum.
 #[derive(Clone, Copy)]
 pub struct Told {
     pub outcome: Outcome,
     pub links: SlowLinks,
 }
 
-// Lends the first n rows, and takes the answer apart. The checker covers no reference to structs either, so that this one
-// function is proved by hand.
+// Lends the first n rows, and takes the answer apart.
 fn ask(rows: [LinkRow; MOST_ROWS], n: usize, none: SlowLinks) -> Told
     requires { n ≤ 9 }
     ensures { result ≡ told_of none (slow_links_of (take n rows)) }

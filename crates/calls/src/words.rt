@@ -38,12 +38,10 @@ pub fn split(line: &[u8]) -> Words {
         ends: [0; MOST],
         next: 0,
     };
-    let mut i: usize = 0;
-    while i < line.len() {
+    for i in 0..line.len() {
         if line[i] == b' ' {
             words = words.cut(i);
         }
-        i += 1;
     }
     words.cut(line.len())
 }

@@ -6,8 +6,22 @@ use comparing::{
     Compared, DIFFERENCES, LINE, SUMMARY, Side, compare, write_difference, write_refused,
     write_summary,
 };
-use libc::{STDERR_FILENO, STDOUT_FILENO};
 use refusal::Refusal;
+use std::env::FillError;
+use std::fs::File;
+use std::io::{Cursor, Error, ErrorKind, Read, Write};
+use std::rt::{Env, Files};
+use std::str;
+
+// The descriptors of standard output and of standard error.
+const STDOUT_FILENO: i32 = 1;
+
+const STDERR_FILENO: i32 = 2;
+
+// The system's numbers for an argument that is not there and for a name that is too long.
+const EINVAL: i32 = 22;
+
+const ENAMETOOLONG: i32 = 36;
 
 // The most bytes of a recording. The room for one has a byte more, by which a larger file shows itself.
 const MOST: usize = 24_576;
@@ -18,10 +32,32 @@ fn complain(what: &[u8]) {
     io::write_all(STDERR_FILENO, what);
 }
 
-// Says on what a call failed, and why. A write that succeeds leaves errno as it was, and after one that fails nobody reads on.
-fn complain_of(what: &[u8]) {
+// The text of an error without the number that std puts behind the system's words.
+fn words_of(text: &str) -> &str {
+    match text.split_once(" (os error ") {
+        Some((words, _)) => words,
+        None => text,
+    }
+}
+
+// The room is enough for the longest text of an error, whose words the system has in 256 bytes.
+fn complain_error(error: Error) {
+    let mut room = Cursor::new([0u8; 320]);
+    let _ = write!(room, "{error}");
+    let text = room.get_ref();
+    let length = (room.position() as usize).min(text.len());
+    if let Ok(text) = str::from_utf8(&text[..length]) {
+        complain(words_of(text).as_bytes());
+    }
+}
+
+// Says on what a call failed, and why.
+fn complain_of(what: &[u8], error: Error) {
     complain(b"compare: ");
-    os::fail(what);
+    complain(what);
+    complain(b": ");
+    complain_error(error);
+    complain(b"\n");
 }
 
 fn complain_of_size(name: &[u8]) {
@@ -36,58 +72,74 @@ enum Found {
     // at its end, after so many bytes
     Whole(usize),
     Larger,
-    Unread,
+    Unread(Error),
 }
 
 // Reads up to the file's end or the room's. A turn that adds no byte is the last, so that the loop ends.
-fn read_all(fd: i32, into: &mut [u8]) -> Found {
+fn read_all(file: &mut impl Read, into: &mut [u8]) -> Found {
     let mut n: usize = 0;
     while n < into.len() {
-        let got = libc::read(fd, &mut into[n..]);
-        if got < 0 {
-            return Found::Unread;
+        match file.read(&mut into[n..]) {
+            Ok(0) => return Found::Whole(n),
+            Ok(more) => n += more,
+            Err(error) => return Found::Unread(error),
         }
-        let more = io::count(got, &into[n..]);
-        if more == 0 {
-            return Found::Whole(n);
-        }
-        n += more;
     }
     Found::Larger
 }
 
 // Reads an open file, and answers as `load` does.
-fn load_open(fd: i32, name: &[u8], into: &mut [u8]) -> usize {
-    let found = read_all(fd, into);
-    match found {
+fn load_open(file: &mut impl Read, name: &[u8], into: &mut [u8]) -> usize {
+    match read_all(file, into) {
         Found::Whole(n) => n,
         Found::Larger => {
             complain_of_size(name);
             ROOM
         }
-        Found::Unread => {
-            complain_of(name);
+        Found::Unread(error) => {
+            complain_of(name, error);
             ROOM
         }
     }
 }
 
+// Opens the file of a name. Of a name that is not UTF-8 std opens none.
+fn open<R: Files>(rt: &R, name: &[u8]) -> std::io::Result<R::File> {
+    match str::from_utf8(name) {
+        Ok(path) => File::open(rt, path),
+        Err(_) => Err(Error::from(ErrorKind::InvalidFilename)),
+    }
+}
+
+// Reads the file of a name, and answers as `load` does.
+fn load_named(rt: &impl Files, name: &[u8], into: &mut [u8]) -> usize {
+    match open(rt, name) {
+        Ok(mut file) => load_open(&mut file, name, into),
+        Err(error) => {
+            complain_of(name, error);
+            ROOM
+        }
+    }
+}
+
+// Why an argument could not be had, in the system's words.
+fn missed(error: FillError) -> Error {
+    match error {
+        FillError::NotPresent => Error::from_raw_os_error(EINVAL),
+        FillError::TooLong => Error::from_raw_os_error(ENAMETOOLONG),
+    }
+}
+
 // Reads the file that an argument names, and says how many bytes it has: above MOST where it is no recording, and then why was said.
-fn load(argument: usize, meaning: &[u8], into: &mut [u8]) -> usize {
+fn load(rt: &(impl Env + Files), argument: usize, meaning: &[u8], into: &mut [u8]) -> usize {
     let mut name = io::buffer();
-    let length = os::arg(argument, &mut name);
-    if os::errno() != 0 {
-        complain_of(meaning);
-        return ROOM;
+    match rt.arg(argument, &mut name) {
+        Ok(length) => load_named(rt, &name[..length], into),
+        Err(error) => {
+            complain_of(meaning, missed(error));
+            ROOM
+        }
     }
-    let fd = os::open_read(&name[..length]);
-    if fd < 0 {
-        complain_of(&name[..length]);
-        return ROOM;
-    }
-    let n = load_open(fd, &name[..length], into);
-    libc::close(fd);
-    n
 }
 
 // Writes the start of a text, and says whether it could be written. No text is as long as its room, so that the test always passes.
@@ -114,15 +166,10 @@ fn show_difference(word: u64) -> bool {
 
 // Writes the differences up to the first that cannot be written, and says whether all were.
 fn show_differences(list: &[u64; DIFFERENCES], n: usize) -> bool {
-    let mut i: usize = 0;
-    while i < DIFFERENCES {
-        if n <= i {
-            return true;
-        }
-        if !show_difference(list[i]) {
+    for word in list.iter().take(n) {
+        if !show_difference(*word) {
             return false;
         }
-        i += 1;
     }
     true
 }
@@ -145,10 +192,11 @@ fn argument_of(side: Side) -> usize {
     }
 }
 
-fn explain_file(side: Side) {
+fn explain_file(env: &impl Env, side: Side) {
     let mut name = io::buffer();
-    let length = os::arg(argument_of(side), &mut name);
-    complain(&name[..length]);
+    if let Ok(length) = env.arg(argument_of(side), &mut name) {
+        complain(&name[..length]);
+    }
 }
 
 fn explain_bad_line(line: usize) {
@@ -159,9 +207,9 @@ fn explain_bad_line(line: usize) {
     complain(b": no frame or payload as it must be, or its payload is missing\n");
 }
 
-fn explain(refusal: Refusal, side: Side, line: usize) {
+fn explain(env: &impl Env, refusal: Refusal, side: Side, line: usize) {
     complain(b"compare: ");
-    explain_file(side);
+    explain_file(env, side);
     complain(b": line ");
     io::print_decimal(STDERR_FILENO, line as u64);
     match refusal {
@@ -172,46 +220,54 @@ fn explain(refusal: Refusal, side: Side, line: usize) {
 }
 
 // Writes the line of a refusal, and then what it means.
-fn show_refusal(refusal: Refusal, side: Side, line: usize) -> bool {
+fn show_refusal(env: &impl Env, refusal: Refusal, side: Side, line: usize) -> bool {
     let mut text = [0u8; LINE];
     let length = write_refused(refusal, side, line, &mut text);
     if !write_line(&text, length) {
         return false;
     }
-    explain(refusal, side, line);
+    explain(env, refusal, side, line);
     true
 }
 
-fn show(compared: Compared, list: &[u64; DIFFERENCES]) -> bool {
+fn show(env: &impl Env, compared: Compared, list: &[u64; DIFFERENCES]) -> bool {
     match compared {
         Compared::Lists(n, first, second) => show_list(list, n, first, second),
-        Compared::No(refusal, side, line) => show_refusal(refusal, side, line),
+        Compared::No(refusal, side, line) => show_refusal(env, refusal, side, line),
     }
 }
 
-fn compare_files(first: &[u8], second: &[u8]) {
+fn compare_files(env: &impl Env, first: &[u8], second: &[u8]) {
     let mut list = [0u64; DIFFERENCES];
     let compared = compare(first, second, &mut list);
-    if !show(compared, &list) {
+    if !show(env, compared, &list) {
         complain(b"compare: standard output cannot be written\n");
     }
 }
 
+// Whether the program was started with an argument of that number, of which 0 is its own name.
+fn has_argument(env: &impl Env, argument: usize) -> bool {
+    match env.arg(argument, &mut []) {
+        Err(FillError::NotPresent) => false,
+        _ => true,
+    }
+}
+
 // Both files are read before either ends the program, so that each is told of.
-fn main() {
-    if os::arg_count() != 3 {
+fn main(rt: HostRuntime) {
+    if !has_argument(&rt, 2) || has_argument(&rt, 3) {
         complain(b"usage: compare FIRST SECOND\n");
         return;
     }
     let mut first = [0u8; ROOM];
     let mut second = [0u8; ROOM];
-    let n = load(1, b"FIRST", &mut first);
-    let m = load(2, b"SECOND", &mut second);
+    let n = load(&rt, 1, b"FIRST", &mut first);
+    let m = load(&rt, 2, b"SECOND", &mut second);
     if MOST < n {
         return;
     }
     if MOST < m {
         return;
     }
-    compare_files(&first[..n], &second[..m]);
+    compare_files(&rt, &first[..n], &second[..m]);
 }

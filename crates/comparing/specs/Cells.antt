@@ -1,5 +1,5 @@
 -- Rows in the cells of an array, three each: reading, marking and inserting one. Assumes nothing.
-use Rattle.std.specs.Prelude.{◌≡◌, refl, List, [], ◌∷◌, ◌++◌, ℕ, zero, suc, ◌+◌, ◌-◌, ◌*◌, ◌≤◌, ◌<◌, eqb, length, get_or, take, drop, set}
+use Rattle.std.specs.Prelude.{◌≡◌, refl, List, [], ◌∷◌, ◌++◌, ℕ, zero, suc, ◌+◌, ◌*◌, ◌≤◌, ◌<◌, eqb, length, get_or, take, drop, set}
 use Rattle.std.proofs.Math.Path.{sym, ap}
 use Rattle.std.proofs.Common.{◌∙◌, append_assoc, not-suc-le-zero, arith, drop_of_length-le, drop-cons, take_at, drop_at, get_or-take, take-take, length-take-le}
 use Rattle.std.proofs.lemmas.List.{set_split}

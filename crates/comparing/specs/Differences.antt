@@ -1,7 +1,7 @@
 -- Document 02 [6]: "lists the messages by number. For each number: only in the first, only in the second, or in both with the first
 -- differing byte's place and both byte values; where one is a beginning of the other, the shorter length. Repeats with equal content count
 -- once; a repeat with other content is listed as a conflict of that recording, and the first stands." Assumes nothing.
-use Rattle.std.specs.Prelude.{Bool, true, false, cond, not, ◌&&◌, ◌||◌, List, [], ◌∷◌, ◌++◌, ℕ, zero, suc, ◌+◌, ◌^◌, eqb}
+use Rattle.std.specs.Prelude.{Bool, true, false, cond, not, ◌&&◌, ◌||◌, List, [], ◌∷◌, ◌++◌, ℕ, zero, suc, ◌^◌, eqb}
 use Rattle.comparing.specs.declared.messages.Message.{Message}
 use Rattle.comparing.specs.declared.runs.Content.{Content}
 use Rattle.comparing.specs.declared.runs.Content.TheVariants as contents

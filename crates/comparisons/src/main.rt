@@ -8,8 +8,12 @@ use comparing::{
     Compared, DIFFERENCES, LINE, SUMMARY, Side, compare, write_difference, write_refused,
     write_summary,
 };
-use libc::{STDIN_FILENO, STDOUT_FILENO};
 use refusal::Refusal;
+
+// The descriptors of standard input and output.
+const STDIN_FILENO: i32 = 0;
+
+const STDOUT_FILENO: i32 = 1;
 
 // The most bytes of a recording.
 const MOST: usize = 24_576;
@@ -54,13 +58,8 @@ fn show_difference(word: u64) {
 }
 
 fn show_differences(list: &[u64; DIFFERENCES], n: usize) {
-    let mut i: usize = 0;
-    while i < DIFFERENCES {
-        if n <= i {
-            return;
-        }
-        show_difference(list[i]);
-        i += 1;
+    for word in list.iter().take(n) {
+        show_difference(*word);
     }
 }
 
@@ -127,13 +126,11 @@ fn compare_next() -> bool {
     true
 }
 
-// A proved loop has to end, so this one counts its turns down, from a number that no run uses up.
+// A proved loop has to end, so this one has as many turns as no run uses up.
 fn main() {
-    let mut turns = u64::MAX;
-    while turns > 0 {
+    for _ in 0..u64::MAX {
         if !compare_next() {
             return;
         }
-        turns -= 1;
     }
 }

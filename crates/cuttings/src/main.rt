@@ -6,10 +6,14 @@
 
 ghost use Rattle.std.specs.Prelude.{◌≤◌};
 
-use libc::{STDIN_FILENO, STDOUT_FILENO};
 use recording::MAX_LINE;
 use replaying::{CELLS, LINE_TEXT, RECEIVED_BYTES, Session, begin, close, feed};
 use text::{hex_digit, hex_value};
+
+// The descriptors of standard input and of standard output.
+const STDIN_FILENO: i32 = 0;
+
+const STDOUT_FILENO: i32 = 1;
 
 // The most bytes of a piece, and of a buffer.
 const PIECE: usize = 8192;

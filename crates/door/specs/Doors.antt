@@ -1,5 +1,5 @@
 -- What a call that was judged is given. Assumes nothing.
-use Rattle.std.specs.Prelude.{◌≡◌, Bool, true, List, ℕ}
+use Rattle.std.specs.Prelude.{◌≡◌, true, List, ℕ}
 use Rattle.refusal.specs.Tests.{split}
 use Rattle.engine.specs.Decide.{soundb, sound_withb}
 use Rattle.words.specs.Meaning.{state_of}

@@ -309,7 +309,7 @@ done_all (◌then◌ r x) j q i d =
     let l = grows r in let m = step-grows x in
     done_next x (joined-after r j) (omega (arith, q, l, m)) i (done_all r j (omega (arith, q, l, m)) i d)
 
-done-returned : {U W : World} {r : Run U W} (i : ℕ) → Joined U → length W.a.given ≡ length U.a.given → Returned U i W r → Done W.a i
+done-returned : {U : World} (i : ℕ) {W : World} {r : Run U W} → Joined U → length W.a.given ≡ length U.a.given → Returned U i W r → Done W.a i
 done-returned i j q (now {W} r slot time n brought timely e over ok) = let k = joined-after r j in done-now W k.one k.good-a i slot time n timely e over ok
 done-returned i j q (earlier {W} {X} {r} x h) =
     let l = grows r in let m = step-grows x in

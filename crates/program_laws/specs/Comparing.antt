@@ -121,7 +121,7 @@ for-exact n [] d m = absurd (Memᴰ.not-nil m)
 for-exact n (x ∷ ds) d (Memᴰ.head e) = (ap (λ l. l.number) e, Memᴰ.head (ap (λ l. l.what) e))
 for-exact n (x ∷ ds) d (Memᴰ.tail m) = let h = for-exact n ds d m in (h.0, Memᴰ.tail h.1)
 
-for-complete : (n : ℕ) {ds : List Difference} {d : Difference} → d ∈ ds → entry n d ∈ listed_for n ds
+for-complete : (n : ℕ) {d : Difference} {ds : List Difference} → d ∈ ds → entry n d ∈ listed_for n ds
 for-complete n (Memᴰ.head e) = Memᴰ.head (ap (entry n) e)
 for-complete n (Memᴰ.tail m) = Memᴰ.tail (for-complete n m)
 

@@ -1,3 +1,2 @@
 // What holds of the libraries that the programs are made of (specs/). Theorems alone.
 #![tactic(auto)]
-

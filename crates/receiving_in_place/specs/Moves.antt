@@ -1,5 +1,5 @@
 -- What of the receiving half a stored message moves, and what a taken one: the other fields are as they were, and are not written. Assumes nothing.
-use Rattle.std.specs.Prelude.{◌≡◌, refl, List, ℕ, ◌+◌, ◌-◌, set}
+use Rattle.std.specs.Prelude.{◌≡◌, refl, ℕ, ◌+◌, ◌-◌, set}
 use Rattle.std.proofs.Common.{ap}
 use Rattle.msg.specs.declared.reliable.ReliableMsg.{ReliableMsg}
 use Rattle.engine.specs.declared.state.Receiving.{Receiving}

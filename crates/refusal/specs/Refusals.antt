@@ -141,7 +141,25 @@ pub unused-18 : named 18 ≡ Unnamed
 unused-18 = refl
 
 pub none-bears-18 : (e : Refusal) → number_of e ≢ 18
-none-bears-18 e h =
-    let named-18 : Is e ≡ Unnamed = sym (number-named e) ∙ ap named h ∙ unused-18 in
-    let z : ◌≡◌ {A = ℕ} 0 1 = cc in
-    omega arith
+none-bears-18 Unsound = λ h. omega arith
+none-bears-18 StoreLength = λ h. omega arith
+none-bears-18 Time = λ h. omega arith
+none-bears-18 Slot = λ h. omega arith
+none-bears-18 NoSlot = λ h. omega arith
+none-bears-18 Identity = λ h. omega arith
+none-bears-18 Length = λ h. omega arith
+none-bears-18 Finished = λ h. omega arith
+none-bears-18 Total = λ h. omega arith
+none-bears-18 Full = λ h. omega arith
+none-bears-18 Offset = λ h. omega arith
+none-bears-18 Window = λ h. omega arith
+none-bears-18 Acks = λ h. omega arith
+none-bears-18 Buffer = λ h. omega arith
+none-bears-18 Consumed = λ h. omega arith
+none-bears-18 NotQueued = λ h. omega arith
+none-bears-18 SameIdentity = λ h. omega arith
+none-bears-18 Nothing = λ h. omega arith
+none-bears-18 Bytes = λ h. omega arith
+none-bears-18 Setting = λ h. omega arith
+none-bears-18 Far = λ h. omega arith
+none-bears-18 Many = λ h. omega arith

@@ -6,9 +6,14 @@ ghost use Rattle.std.specs.Prelude.{◌≡◌, true};
 ghost use Rattle.replaying.specs.Feeding.{carrying, fed_by};
 ghost use Rattle.replaying.specs.Pieces.{lent};
 
-use libc::{EINTR, STDIN_FILENO, STDOUT_FILENO};
 use recording::MAX_LINE;
 use replaying::{CELLS, LINE_TEXT, RECEIVED_BYTES, Session, begin, close, feed};
+use std::io::{ErrorKind, Read};
+
+// The descriptors of standard output and of standard error.
+const STDOUT_FILENO: i32 = 1;
+
+const STDERR_FILENO: i32 = 2;
 
 // A session to go on with, and whether all of its text could be written.
 #[derive(Clone, Copy)]
@@ -67,38 +72,47 @@ fn finish(session: Session, store: &mut [u8], records: &mut [u64], line: &[u8; M
     Ended::Unwritten
 }
 
-// Replays standard input. A read that a signal interrupted has brought an empty piece. A proved loop has to end, so this one counts its
-// turns down, from a number that no run uses up.
-fn replay_input(store: &mut [u8], records: &mut [u64], line: &mut [u8; MAX_LINE]) -> Ended {
+// Replays an input. A read that a signal interrupted has brought an empty piece. A proved loop has to end, so this one counts its turns down,
+// from a number that no run uses up.
+fn replay_input(
+    input: &mut impl Read,
+    store: &mut [u8],
+    records: &mut [u64],
+    line: &mut [u8; MAX_LINE],
+) -> Ended {
     let mut session = begin(records);
-    let mut turns = u64::MAX;
-    while turns > 0 {
-        let mut buffer = io::large_buffer();
-        let got = libc::read(STDIN_FILENO, &mut buffer);
-        if got == 0 {
-            return finish(session, store, records, line);
-        }
-        if got < 0 && os::errno() != EINTR {
-            return Ended::Unread;
-        }
-        let n = io::count(got, &buffer);
+    let mut buffer = io::large_buffer();
+    for _ in 0..u64::MAX {
+        let n = match input.read(&mut buffer) {
+            Ok(0) => return finish(session, store, records, line),
+            Ok(n) => n,
+            Err(error) => {
+                if error.kind() != ErrorKind::Interrupted {
+                    return Ended::Unread;
+                }
+                0
+            }
+        };
         let going = answer_piece(session, store, records, line, &buffer[..n]);
         if !going.is_written {
             return Ended::Unwritten;
         }
         session = going.session;
-        turns -= 1;
     }
     Ended::Unread
 }
 
-fn main() {
+fn complain(what: &[u8]) {
+    io::write_all(STDERR_FILENO, what);
+}
+
+fn main(rt: HostRuntime) {
     let mut store = [0u8; RECEIVED_BYTES];
     let mut records = [0u64; CELLS];
     let mut line = [0u8; MAX_LINE];
-    match replay_input(&mut store, &mut records, &mut line) {
+    match replay_input(&mut rt.stdin(), &mut store, &mut records, &mut line) {
         Ended::Closed => {}
-        Ended::Unread => os::fail(b"replay: standard input cannot be read"),
-        Ended::Unwritten => os::fail(b"replay: standard output cannot be written"),
+        Ended::Unread => complain(b"replay: standard input cannot be read\n"),
+        Ended::Unwritten => complain(b"replay: standard output cannot be written\n"),
     }
 }

@@ -17,7 +17,7 @@ use Rattle.engine.specs.Acking.{acked_state}
 use Rattle.engine.specs.Receiving.{repeated_state}
 use Rattle.engine.specs.HandingOut.{taken_ack_state}
 use Rattle.laws.specs.Good.{Good}
-use Rattle.laws.specs.Calls.{Call, Add, Remove, Confirm, Unconfirm, Block, Mark, Ping, Pong, Flush, Send, Resend, Ack, Receive, Show, Take, Due, Close, TakeAck, EarliestConfirmTimeout, Holding, table, again, next, Typed, done, Passed}
+use Rattle.laws.specs.Calls.{Call, Add, Remove, Confirm, Unconfirm, Block, Mark, Ping, Pong, Flush, Send, Resend, Ack, Receive, Show, Take, Due, Close, TakeAck, EarliestConfirmTimeout, Holding, table, again, Typed, done, Passed}
 use Rattle.laws.specs.Passed.{next-keeps, passed}
 use Rattle.laws.specs.SoundKept.{kept}
 use Rattle.laws.specs.ReceiveKept.{received-good}

@@ -12,7 +12,7 @@ use borrow.Table.Steps.{cases}
 use Rattle.seq.specs.declared.Apart.{Apart}
 use Rattle.seq.specs.declared.Apart.TheVariants.{By, Far}
 use Rattle.seq.specs.Numbers.{plus, minus, signed}
-use Rattle.seq.specs.Laws.{minus-lt, signed_low, signed_high, minus-ahead, minus-behind}
+use Rattle.seq.specs.Laws.{minus-lt, signed_low, signed_high}
 
 -- "2^30 or more either way" (`negsuc m` is −1 − m)
 abbrev pub is_far : ℤ → Bool
@@ -200,30 +200,33 @@ module _ (a b : ℕ) (ha : a < 2 ^ 32) (hb : b < 2 ^ 32) where
 
 module _ (s k l : ℕ) where
   counted-ahead : l ≤ k → k < l + 2 ^ 30 → distance_of (plus s k) (plus s l) ≡ By (pos (k - l))
-  counted-ahead h g = let e = minus-ahead s k l h (omega arith) in is-ahead (plus s k) (plus s l) (omega (arith, e)) ∙ ap (λ d. By (pos d)) e
+  unfolding plus minus
+  counted-ahead h g =
+      let e : minus (plus s k) (plus s l) ≡ k - l = omega arith in
+      is-ahead (plus s k) (plus s l) (omega (arith, e)) ∙ ap (λ d. By (pos d)) e
 
   counted-behind : k < l → l < k + 2 ^ 30 → distance_of (plus s k) (plus s l) ≡ By (negsuc (l - k - 1))
+  unfolding plus minus
   counted-behind h g =
-      let e = minus-behind s k l h (omega arith) in
-      let n : 2 ^ 32 - 1 - minus (plus s k) (plus s l) ≡ l - k - 1 = omega (arith, e) in
-      is-behind (plus s k) (plus s l) (omega (arith, e)) ∙ ap (λ d. By (negsuc d)) n
+      let n : 2 ^ 32 - 1 - minus (plus s k) (plus s l) ≡ l - k - 1 = omega arith in
+      is-behind (plus s k) (plus s l) (omega arith) ∙ ap (λ d. By (negsuc d)) n
 
   pub past-counted : l ≤ k → k < l + 2 ^ 30 → past (plus s k) (plus s l) ≡ k - l
-  unfolding past
-  past-counted h g = ap past_as (counted-ahead h g)
+  unfolding plus minus
+  past-counted h g = let e : minus (plus s k) (plus s l) ≡ k - l = omega arith in past-ahead (plus s k) (plus s l) (omega (arith, e)) ∙ e
 
   pub before-counted : k < l → l < k + 2 ^ 30 → before (plus s k) (plus s l) ≡ true
-  unfolding before
-  before-counted h g = ap is_behind (counted-behind h g)
+  unfolding plus minus
+  before-counted h g = before-behind (plus s k) (plus s l) (omega arith)
 
   pub not-before-counted : l ≤ k → k < l + 2 ^ 30 → before (plus s k) (plus s l) ≡ false
-  unfolding before
-  not-before-counted h g = ap is_behind (counted-ahead h g)
+  unfolding plus minus
+  not-before-counted h g = not-before-ahead (plus s k) (plus s l) (omega arith)
 
   pub near-counted : l < k + 2 ^ 30 → k < l + 2 ^ 30 → near (plus s k) (plus s l) ≡ true
-  unfolding near
+  unfolding near plus minus
   near-counted h g =
       elim (dec_lt k l) [
-        | yes y ↦ ap is_by (counted-behind y h)
-        | no y ↦ ap is_by (counted-ahead (omega arith) g)
+        | yes y ↦ ap is_by (is-behind (plus s k) (plus s l) (omega arith))
+        | no y ↦ ap is_by (is-ahead (plus s k) (plus s l) (omega arith))
       ]

@@ -85,12 +85,10 @@ pub fn payload_of(room: &Room) -> &[u8] {
 
 // The first free place, or PLACES.
 fn free(air: &Air) -> usize {
-    let mut k: usize = 0;
-    while k < PLACES {
+    for k in 0..PLACES {
         if air[k * ROOM + TICKS] == FREE {
             return k;
         }
-        k += 1;
     }
     PLACES
 }
@@ -189,27 +187,23 @@ fn sooner(ticks: u8) -> u8 {
 
 // A tick of weather: the frames that it knows come nearer, and it meets the new ones.
 pub fn pass(chance: &mut Chance, tally: &mut Tally, air: &mut Air) {
-    let mut k: usize = 0;
-    while k < PLACES {
+    for k in 0..PLACES {
         let at = k * ROOM;
         if air[at + TICKS] == NEW {
             meet(chance, tally, air, k);
         } else {
             air[at + TICKS] = sooner(air[at + TICKS]);
         }
-        k += 1;
     }
 }
 
 // A link dies: what is under way over it doesn't arrive.
 pub fn cut(air: &mut Air, slot: u8, tally: &mut Tally) {
-    let mut k: usize = 0;
-    while k < PLACES {
+    for k in 0..PLACES {
         let at = k * ROOM;
         if air[at + TICKS] != FREE && air[at + SLOT] == slot {
             air[at + TICKS] = FREE;
             count(tally, CUT_OFF);
         }
-        k += 1;
     }
 }

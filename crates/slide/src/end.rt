@@ -161,10 +161,8 @@ fn arrivals(
     now: u64,
 ) -> State {
     let mut out = s;
-    let mut k: usize = 0;
-    while k < PLACES {
+    for k in 0..PLACES {
         out = arrive_at(out, received, records, tally, air, k, end, now);
-        k += 1;
     }
     out
 }
@@ -172,9 +170,8 @@ fn arrivals(
 // Sends the acks that wait on a link, over that link.
 fn send_acks(s: State, tally: &mut Tally, air: &mut Air, slot: u8, to: u8) -> State {
     let row = row_of(s, slot);
-    let mut more = row.ack_count;
     let mut out = s;
-    while 0 < more {
+    for _ in 0..row.ack_count {
         let taken = engine::take_ack(out, slot);
         let answer = taken.answer;
         let TakeAck::Number(received) = answer else {
@@ -182,7 +179,6 @@ fn send_acks(s: State, tally: &mut Tally, air: &mut Air, slot: u8, to: u8) -> St
         };
         post(tally, air, slot, to, LinkMsg::Ack { received }, b"");
         out = taken.state;
-        more -= 1;
     }
     out
 }
@@ -290,10 +286,8 @@ fn serve_all(
     now: u64,
 ) -> State {
     let mut out = s;
-    let mut slot: u8 = 0;
-    while slot < LINKS {
+    for slot in 0..LINKS {
         out = serve(out, sent, tally, air, slot, to, now);
-        slot += 1;
     }
     out
 }

@@ -287,8 +287,7 @@ fn run(
     row: &mut Row,
 ) -> bool {
     let mut ends = start(plan, scanner_records, server_records);
-    let mut tick: u64 = 0;
-    while tick < LAST_TICK {
+    for tick in 0..LAST_TICK {
         ends = pass_tick(
             plan,
             ends,
@@ -307,7 +306,6 @@ fn run(
         if is_over(ends, tally) {
             return true;
         }
-        tick += 1;
     }
     false
 }

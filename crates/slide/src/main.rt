@@ -73,8 +73,7 @@ fn tell_all(
     server_records: &mut LargeRecords,
     tally: &mut Tally,
 ) {
-    let mut k: u8 = 0;
-    while k < JOURNEYS {
+    for k in 0..JOURNEYS {
         tell(
             plan::journey(k),
             scanner_sent,
@@ -85,7 +84,6 @@ fn tell_all(
             server_records,
             tally,
         );
-        k += 1;
     }
 }
 

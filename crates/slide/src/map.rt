@@ -4,8 +4,11 @@ use crate::tally::{
     AGAIN, AHEAD, CUT_OFF, DELAYED, DIED, DOUBTED, EVENT, FINISHED, FRAMES, GOOD, KINDS, LOST,
     REFUSED, REPEATED, RESENT, RETURNED, TOLD, Tally, UNWRITTEN, WRAPPED, WRONG, count,
 };
-use libc::{STDERR_FILENO, STDOUT_FILENO};
 use tiles::{COLUMNS, TILES};
+
+const STDOUT_FILENO: i32 = 1;
+
+const STDERR_FILENO: i32 = 2;
 
 // The row that is arriving.
 pub type Row = [u8; 41];
@@ -20,10 +23,8 @@ pub fn write(tally: &mut Tally, text: &[u8]) {
 pub fn number(tally: &mut Tally, n: u64, width: usize) {
     let mut digits = [0u8; 20];
     let places = io::decimal(n, &mut digits);
-    let mut at = places;
-    while at < width {
+    for _ in places..width {
         write(tally, b" ");
-        at += 1;
     }
     write(tally, &digits[..places]);
 }

@@ -79,8 +79,7 @@ fn take_ready(
     tick: u64,
 ) -> State {
     let mut out = s;
-    let mut more = plan.cells;
-    while 0 < more {
+    for _ in 0..plan.cells {
         if is_drained(out) {
             return out;
         }
@@ -92,7 +91,6 @@ fn take_ready(
         };
         look_at(plan, msg, seq, shown, tally, row, tick);
         out = taken.state;
-        more -= 1;
     }
     out
 }

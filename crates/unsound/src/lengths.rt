@@ -72,13 +72,11 @@ fn each(
 // The good state, and then one that is not sound.
 pub fn all(received: &mut ReceivedStore, records: Records, tally: &mut Tally, s: State) {
     let unsound = set::count(s, 65);
-    let mut k: usize = 0;
-    while k < KINDS {
+    for k in 0..KINDS {
         let good = name(k, s);
         each(received, records, tally, k, 0, good);
         let other = not_sound(name(k, unsound));
         each(received, records, tally, k, 1, other);
-        k += 1;
     }
 }
 

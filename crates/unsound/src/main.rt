@@ -125,10 +125,8 @@ fn all(
     tally: &mut Tally,
     s: State,
 ) {
-    let mut k: usize = 0;
-    while k < KINDS {
+    for k in 0..KINDS {
         one(sent, received, records, tally, k, s);
-        k += 1;
     }
 }
 

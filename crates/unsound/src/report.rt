@@ -2,7 +2,10 @@
 use crate::good::{ROOM, ReceivedStore, Records, SentStore};
 use crate::same;
 use engine::{Receiving, State};
-use libc::{STDERR_FILENO, STDOUT_FILENO};
+
+const STDOUT_FILENO: i32 = 1;
+
+const STDERR_FILENO: i32 = 2;
 
 // How many calls answered 0, 1 and 2 to this state, as they must; how many states were handed over, and how many of them differ from
 // the good one; how many calls answered otherwise.

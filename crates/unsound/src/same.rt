@@ -9,14 +9,12 @@ use msg::ReliableMsg;
 use seq::Seq;
 
 fn numbers(a: [Seq; ACKS], b: [Seq; ACKS]) -> bool {
-    let mut i: usize = 0;
-    while i < ACKS {
+    for i in 0..ACKS {
         let x = a[i];
         let y = b[i];
         if !x.eq(y) {
             return false;
         }
-        i += 1;
     }
     true
 }
@@ -101,14 +99,12 @@ fn row(a: LinkRow, b: LinkRow) -> bool {
 }
 
 fn rows(a: [LinkRow; SLOTS], b: [LinkRow; SLOTS]) -> bool {
-    let mut i: usize = 0;
-    while i < SLOTS {
+    for i in 0..SLOTS {
         let x = a[i];
         let y = b[i];
         if !row(x, y) {
             return false;
         }
-        i += 1;
     }
     true
 }
@@ -175,14 +171,12 @@ fn packet(a: SentReliable, b: SentReliable) -> bool {
 }
 
 fn packets(a: [SentReliable; PACKETS], b: [SentReliable; PACKETS]) -> bool {
-    let mut i: usize = 0;
-    while i < PACKETS {
+    for i in 0..PACKETS {
         let x = a[i];
         let y = b[i];
         if !packet(x, y) {
             return false;
         }
-        i += 1;
     }
     true
 }
@@ -244,10 +238,8 @@ fn more(n: usize, is: bool) -> usize {
 // How many words are the same in both.
 pub fn alike_words(a: &Records, b: &Records) -> usize {
     let mut n: usize = 0;
-    let mut i: usize = 0;
-    while i < ROOM {
+    for i in 0..ROOM {
         n = more(n, a[i] == b[i]);
-        i += 1;
     }
     n
 }

@@ -126,10 +126,8 @@ fn turn(at: usize, even: u64, odd: u64) -> u64 {
 
 fn by_turns(records: &mut [u64], from: usize, end: usize, even: u64, odd: u64) {
     let last = fit(end, records.len());
-    let mut at = from;
-    while at < last {
+    for at in from..last {
         records[at] = turn(at, even, odd);
-        at += 1;
     }
 }
 

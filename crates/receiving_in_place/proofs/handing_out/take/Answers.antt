@@ -1,0 +1,55 @@
+-- By the tests in their order, and then by what is ready.
+use mathlib.Core.Path.{refl, sym, ap, ◌∙◌}
+use borrow.Author.Tests.{eq-eqb, ne_eqb}
+use Rattle.engine.specs.HandingOut.{take_of, take_records, take_verdict, taken_state, hand_out_by, ready_bytes}
+use Rattle.engine.specs.Fields.{with_rx}
+use Rattle.engine.specs.Received.{table_of}
+use Rattle.engine.specs.Totals.{total-fits}
+use Rattle.words.specs.Meaning.{state_of}
+use Rattle.receiving_in_place.specs.Moves.{taken-moves}
+use Rattle.receiving_in_place.specs.ReadyWith.{ready-lent}
+use Rattle.receiving_in_place.proofs.handing_out.take.Goals as goal
+
+pub returns-then-records-rx : goal.returns-then-records-rx
+unfolding take_of take_records take_verdict taken_state hand_out_by
+returns-then-records-rx c = let bad = rw c.rx_of-rx.ensures at (ne_eqb _ _ c.if-records-rx.true) in record { value = simp bad; words_after = simp bad; records_after = simp bad; left = λ ne. refl }
+
+pub oldest_ready-held-requires : goal.oldest_ready-held-requires
+oldest_ready-held-requires c = let a = c.args in
+    rw c.rx_of-rx.ensures (ready-lent a.words.now a.records.now c.requires (rw c.rx_of-rx.ensures at c.if-records-rx.false))
+
+pub returns-then-not-sum_fits : goal.returns-then-not-sum_fits
+unfolding take_of take_records take_verdict taken_state hand_out_by
+returns-then-not-sum_fits c = let a = c.args in
+    let cells = rw c.rx_of-rx.ensures at c.if-records-rx.false in
+    let long = eq-eqb _ _ cells in
+    let ok = c.requires.recorded cells in
+    let total = rw (c.ready_bytes-bytes.ensures, c.oldest_ready-held.ensures, c.rx_of-rx.ensures) at (sym c.sum_fits.ensures ∙ c.if-not-sum_fits.true) in
+    record { value = simp (long, ok, total); words_after = simp (long, ok, total); records_after = simp (long, ok, total); left = λ ne. refl }
+
+pub take_message-next-requires : goal.take_message-next-requires
+take_message-next-requires c = let a = c.args in
+    (rw c.rx_of-rx.ensures (ready-lent a.words.now a.records.now c.requires (rw c.rx_of-rx.ensures at c.if-records-rx.false)), total-fits c.rx_of-rx.result.rxed_reliable_consumed c.ready_bytes-bytes.result (sym c.sum_fits.ensures ∙ c.if-not-sum_fits.false))
+
+pub put_taken-requires : goal.put_taken-requires
+put_taken-requires c = c.requires.ready.long
+
+pub returns-in-Nothing : goal.returns-in-Nothing
+unfolding take_of take_records take_verdict taken_state hand_out_by
+returns-in-Nothing c = let a = c.args in
+    let cells = rw c.rx_of-rx.ensures at c.if-records-rx.false in
+    let long = eq-eqb _ _ cells in
+    let ok = c.requires.recorded cells in
+    let total = rw (c.ready_bytes-bytes.ensures, c.in-Nothing.is, c.rx_of-rx.ensures) at (sym c.sum_fits.ensures ∙ c.if-not-sum_fits.false) in
+    let none = rw c.rx_of-rx.ensures at (sym c.oldest_ready-held.ensures ∙ c.in-Nothing.is) in
+    record { value = simp (long, ok, none, total); words_after = simp (long, ok, none, total); records_after = simp (long, ok, none, total); left = λ ne. refl }
+
+pub returns-in-Message : goal.returns-in-Message
+unfolding take_of take_records take_verdict taken_state hand_out_by
+returns-in-Message c = let a = c.args in
+    let cells = rw c.rx_of-rx.ensures at c.if-records-rx.false in
+    let long = eq-eqb _ _ cells in
+    let ok = c.requires.recorded cells in
+    let total = rw (c.ready_bytes-bytes.ensures, c.in-Message.is, c.rx_of-rx.ensures) at (sym c.sum_fits.ensures ∙ c.if-not-sum_fits.false) in
+    let one = rw c.rx_of-rx.ensures at (sym c.oldest_ready-held.ensures ∙ c.in-Message.is) in
+    let bytes = c.ready_bytes-bytes.ensures ∙ ap ready_bytes c.in-Message.is in record { value = simp (long, ok, one, total, c.rx_of-rx.ensures); words_after = simp (long, ok, one, total) (rw (c.put_taken.ensures, c.take_message-next.ensures.value, c.rx_of-rx.ensures, bytes) (ap (with_rx (state_of a.words.now)) (sym (taken-moves (state_of a.words.now).rx.cells (table_of (state_of a.words.now).rx a.records.now) _)))); records_after = simp (long, ok, one, total) (rw (c.take_message-next.ensures.records_after, c.rx_of-rx.ensures)); left = λ ne. absurd (ne refl) }

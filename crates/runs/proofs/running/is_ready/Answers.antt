@@ -1,0 +1,16 @@
+-- By the length of the words, then by that of the records.
+use borrow.Author.Tests.{eq-eqb, ne_eqb}
+use Rattle.runs.specs.Runs.{readyb, unlike-ready}
+use Rattle.runs.proofs.running.is_ready.Goals as goal
+
+pub returns-then-words-ne-WORDS : goal.returns-then-words-ne-WORDS
+unfolding readyb
+returns-then-words-ne-WORDS c = unlike-ready c.args.words.now c.args.records.now c.if-words-ne-WORDS.true
+
+pub returns-then-records-rx : goal.returns-then-records-rx
+unfolding readyb
+returns-then-records-rx c = let long = eq-eqb _ _ (rw c.rx_of-rx.ensures at c.if-records-rx.true) in simp long c.is_sound_with.ensures
+
+pub returns : goal.returns
+unfolding readyb
+returns c = let long = ne_eqb _ _ (rw c.rx_of-rx.ensures at c.if-records-rx.false) in simp long c.is_sound.ensures

@@ -1,0 +1,21 @@
+-- By the verdict; a sound state has a count within its size.
+use mathlib.Core.Path.{refl, sym, ◌∙◌}
+use Rattle.engine.specs.Gates.{slot-passed}
+use Rattle.engine.specs.Unconfirming.{unconfirm_of}
+use Rattle.words.specs.Meaning.{state_of}
+use Rattle.words.specs.Ready.{ready-sound}
+use Rattle.sending_in_place.proofs.unconfirming.unconfirm.Goals as goal
+
+pub put_unconfirmed-requires : goal.put_unconfirmed-requires
+put_unconfirmed-requires c =
+    (c.requires.long, (slot-passed (state_of c.args.words.now) c.args.slot (sym c.slot_verdict-verdict.ensures ∙ c.in-Pass.is)).small, (ready-sound c.args.words.now c.requires).packet-count)
+
+pub returns-in-No : goal.returns-in-No
+unfolding unconfirm_of
+returns-in-No c = let e = sym c.slot_verdict-verdict.ensures ∙ c.in-No.is in
+    record { value = simp e; words_after = simp e; left = λ ne. refl }
+
+pub returns-in-Pass : goal.returns-in-Pass
+unfolding unconfirm_of
+returns-in-Pass c = let e = (sym c.slot_verdict-verdict.ensures ∙ c.in-Pass.is) in
+    record { value = simp e; words_after = simp (e, c.put_unconfirmed.ensures); left = λ ne. absurd (ne refl) }
