@@ -366,7 +366,7 @@ impl End {
             write!(out, "{} {} {} {} ", flag(at + 5), flag(at + 6), flag(at + 7), or_none(at + 8, half(at + 9).to_string()))?;
             write!(out, "{} {}", or_none(at + 10, w[at + 11].to_string()), half(at + 12))?;
             for i in 0..w[at + 13] as usize {
-                write!(out, " {}", half(160 + 64 * slot + (w[at + 14] as usize % 64 + i) % 64))?;
+                write!(out, " {}", half(160 + 64 * slot + i))?;
             }
             writeln!(out)?;
         }

@@ -1,11 +1,12 @@
 -- What one pass over the records in use finds: the code's own way of deciding what Sound asks of them. That it decides just that is proved in
 -- DecidedRecords. N is the cell count. Assumes nothing.
-use Rattle.std.specs.Prelude.{◌≡◌, ℕ, ◌+◌, ◌-◌, ◌*◌, ◌/◌, ◌%◌, ◌<◌, ◌≤◌, Bool, true, false, cond, ◌&&◌, ◌||◌, List, [], ◌∷◌, ◌==◌, ◌≢◌, nat_eq, nat_le, nat_lt, slice_index}
+use Rattle.std.specs.Prelude.{◌≡◌, ℕ, ◌+◌, ◌-◌, ◌*◌, ◌/◌, ◌%◌, ◌<◌, ◌≤◌, Bool, true, false, cond, not, ◌&&◌, ◌||◌, List, [], ◌∷◌, ◌==◌, ◌≢◌, nat_eq, nat_le, nat_lt, slice_index}
 use Rattle.std.proofs.Common.{sym, ap, ◌∙◌, mod-lt, arith}
-use Rattle.refusal.specs.Tests.{split, join}
+use Rattle.refusal.specs.Tests.{split, join, same_test}
 use Rattle.msg.specs.declared.reliable.ReliableMsg.TheVariants.{Data}
 use borrow.Table.Steps.{cases}
-use borrow.Author.Tests.{eqb-true, eq-eqb, ne_eqb, le-leb}
+use Rattle.msg.specs.Reliable.{MSG_DATA}
+use borrow.Author.Tests.{eqb-true, eq-eqb, ne_eqb, leb-true, le-leb}
 use Rattle.seq.specs.Numbers.{plus, minus}
 use Rattle.engine.specs.declared.state.Held.{Held}
 use Rattle.engine.specs.declared.state.Held.TheVariants.{Nothing, Message}
@@ -43,7 +44,7 @@ word_ok word k e = is_record word && cell_ok (held_of word) k e
 
 unfoldable pub record_weighed : CellTally → ℕ → ℕ → ℕ → CellTally
 unfolding cell_ok
-record_weighed t word k e = record { ok = t.ok && word_ok word k e; size = plus t.size (held_bytes (held_of word)) }
+record_weighed t word k e = record { ok = t.ok && (is_record word && cell_ok (held_of word) k e); size = plus t.size (held_bytes (held_of word)) }
 
 unfoldable pub record_tally_from : List ℕ → ℕ → ℕ → CellTally → CellTally
 unfolding record_weighed
@@ -80,24 +81,51 @@ data-long len =
     (λ z. simp z (sym (le-leb len DATA_BYTES (omega (arith, eqb-true len 0 z)))))
     (λ z. simp z (cases (nat_le len DATA_BYTES) (λ t. simp t) (λ t. simp t)))
 
--- a Data by its word alone
-module _ (word : ℕ) (is : DataRecord word) where
+-- a Data by its word alone: it is a record and not too long just where the word is no more than that of a Data of 1,024 bytes
+module _ (word : ℕ) (kind : word % 256 ≡ MSG_DATA) where
   abbrev bytes : ℕ
   bytes = word / 256 % 16777216
 
   pub data-held : held_of word ≡ Message Data bytes
   unfolding held_of held_as
-  data-held = simp is.kind
+  data-held = simp kind
 
-  pub data-fits : length_ok Data bytes ≡ true
-  data-fits = data-long bytes ∙ le-leb bytes DATA_BYTES (omega (arith, is.long))
+  data-within : (record_of (Message Data bytes) == word && length_ok Data bytes) ≡ nat_le word 262151
+  data-within =
+      same_test _ _
+      (λ t.
+      let b = split (record_of (Message Data bytes) == word) (length_ok Data bytes) t in
+      let whole : 7 + 256 * (word / 256 % 16777216) + 0 ≡ word = eqb-true _ word b.0 in
+      let short : word / 256 % 16777216 ≤ 1024 = leb-true _ DATA_BYTES (sym (data-long bytes) ∙ b.1) in
+      le-leb word 262151 (omega (arith, whole, short)))
+      (λ t.
+      let small : word ≤ 262151 = leb-true word 262151 t in
+      let all : word / 256 % 16777216 ≡ word / 256 = omega (arith, small) in
+      let whole : 7 + 256 * (word / 256 % 16777216) + 0 ≡ word = omega (arith, kind, all) in
+      let short : bytes ≤ DATA_BYTES = omega (arith, small, all) in
+      join (eq-eqb (record_of (Message Data bytes)) word whole) (data-long bytes ∙ le-leb bytes DATA_BYTES short))
+
+  pub data-weighed : (t : CellTally) (k e : ℕ) → record_weighed t word k e ≡ record { ok = t.ok && (not (k == e) && nat_le word 262151); size = plus t.size (word / 256 % 16777216) }
+  unfolding record_weighed cell_ok is_record
+  data-weighed t k e =
+      simp data-held
+      (cases (k == e)
+      (λ x. simp x (ap (λ b. record { ok = t.ok && b; size = plus t.size bytes }) (cases (record_of (Message Data bytes) == word) (λ y. simp y) (λ y. simp y))))
+      (λ x.
+      simp x (ap (λ b. record { ok = t.ok && b; size = plus t.size bytes })
+      (ap (λ b. (record_of (Message Data bytes) == word) && b) (cases (nat_lt k e) (λ y. simp y) (λ y. simp y)) ∙ data-within))))
+
+-- .. and one that is no longer than 1,024 bytes is well wherever it may stand
+module _ (word : ℕ) (is : DataRecord word) where
+  pub data-fits : length_ok Data (word / 256 % 16777216) ≡ true
+  data-fits = data-long (word / 256 % 16777216) ∙ le-leb (word / 256 % 16777216) DATA_BYTES (omega (arith, is.long))
 
   pub data-well : (k e : ℕ) → (k ≢ e) → word_ok word k e ≡ true
   unfolding cell_ok is_record
   data-well k e ne =
       let whole : 7 + 256 * (word / 256 % 16777216) + 0 ≡ word = omega (arith, is.kind, is.long) in
-      join (ap (λ h. nat_eq (record_of h) word) data-held ∙ eq-eqb (record_of (Message Data bytes)) word whole)
-      (ap (λ h. cell_ok h k e) data-held ∙ simp (ne_eqb k e ne) (cases (nat_lt k e) (λ t. simp t data-fits) (λ t. simp t data-fits)))
+      join (ap (λ h. nat_eq (record_of h) word) (data-held word is.kind) ∙ eq-eqb (record_of (Message Data (word / 256 % 16777216))) word whole)
+      (ap (λ h. cell_ok h k e) (data-held word is.kind) ∙ simp (ne_eqb k e ne) (cases (nat_lt k e) (λ t. simp t data-fits) (λ t. simp t data-fits)))
 
 -- a record that is well adds its length
 pub well-weighed : (size word k e : ℕ) → word_ok word k e ≡ true

@@ -54,7 +54,7 @@ fn rows_ok(links: [LinkRow; SLOTS], on: [u32; SLOTS], time: u64) -> bool
 }
 
 // No identity lives twice: nobody below a live slot has its identity.
-fn distinct(roster: Roster) -> bool
+pub fn distinct(roster: Roster) -> bool
     ensures { result ≡ distinct_below roster SLOTS }
 {
     let mut left: usize = SLOTS;

@@ -3,7 +3,9 @@ use Rattle.std.specs.Prelude.{◌≡◌, ℕ, zero, suc, ◌+◌, ◌-◌, ◌/�
 use Rattle.std.proofs.Math.Path.{refl, sym, ap}
 use Rattle.std.proofs.Common.{◌∙◌, arith}
 use borrow.Table.Steps.{cases}
-use borrow.Author.Tests.{eq-eqb, ne_eqb}
+use borrow.Author.Tests.{le-leb, eqb-true, eq-eqb, ne_eqb}
+use Rattle.msg.specs.Reliable.{MSG_DATA, MSG_CONSUMED, MSG_SEND_FINISH, MSG_RECEIVE_CLOSE, MSG_RECEIVE_FINISH}
+use Rattle.msg.specs.declared.reliable.ReliableMsg.TheVariants.{Data}
 use Rattle.refusal.specs.Tests.{false-true}
 use Rattle.seq.specs.declared.Seq.{Seq}
 use Rattle.seq.specs.Numbers.{seq_of, plus}
@@ -15,14 +17,14 @@ use Rattle.engine.specs.declared.state.SentReliable.{SentReliable}
 use Rattle.engine.specs.declared.state.SentReliableStatus.{SentReliableStatus}
 use Rattle.engine.specs.declared.state.SentReliableStatus.TheVariants.{Sent, Received, ResendQueued}
 use Rattle.engine.specs.CellTally.{data-held, data-fits}
-use Rattle.engine.specs.Records.{is_full, held_of, held_bytes, DataRecord, full-long}
+use Rattle.engine.specs.Records.{is_full, held_as, held_of, held_bytes, DataRecord, full-long}
 use Rattle.engine.specs.declared.state.State.{State}
 use Rattle.engine.specs.DecidedPackets.{pass_of, each_ok, each-tally}
 use Rattle.engine.specs.Packets.{no_packet}
 use Rattle.engine.specs.Ring.{window, next_cell, next-mod}
 use Rattle.engine.specs.Roster.{roster_of, lives_in}
 use Rattle.engine.specs.Tally.{length_ok, flushed_ok, status_ok, packet_ok, weighed, tally-step}
-use Rattle.engine.specs.Sizes.{SLOTS, PACKETS}
+use Rattle.engine.specs.Sizes.{SLOTS, PACKETS, DATA_BYTES}
 use Rattle.words.specs.Meaning.{NO_SLOT, half, seq_word, flushed_of, flight_of, status_of, packet_held, packet_of}
 use Rattle.judging.specs.declared.packet.Weight.{Weight}
 use Rattle.judging.specs.declared.packet.Weight.TheVariants.{Wrong, Flying, Settled, Waiting}
@@ -60,13 +62,27 @@ clipped t = cond t.ok t spoilt
 
 -- ---- laws: the packet's words
 
+held-long : (kind len count : ℕ) → held_fine (held_as kind len count) ≡ true → held_bytes (held_as kind len count) ≡ len
+unfolding held_as
+held-long kind len count e =
+    cases (kind == MSG_DATA) (λ t1. simp t1)
+    (λ f1. cases (kind == MSG_CONSUMED) (λ t2. simp (f1, t2))
+    (λ f2. cases (kind == MSG_SEND_FINISH) (λ t3. simp (f1, f2, t3))
+    (λ f3. cases (kind == MSG_RECEIVE_CLOSE) (λ t4. simp (f1, f2, f3, t4))
+    (λ f4. cases (kind == MSG_RECEIVE_FINISH) (λ t5. simp (f1, f2, f3, f4, t5))
+    (λ f5. false-true (simp (f1, f2, f3, f4, f5) at e))))))
+
+pub long-word : (word : ℕ) → held_fine (held_of word) ≡ true → held_bytes (held_of word) ≡ word / 256 % 16777216
+unfolding held_of
+long-word word e = held-long (word % 256) (word / 256 % 16777216) (word / 4294967296) e
+
 fine-full : (h : Held) → held_fine h ≡ true → is_full h ≡ true
 fine-full Nothing e = e
 fine-full (Message msg len) e = refl
 
 -- a Data's, by its word alone
 pub data-fine : (word : ℕ) → DataRecord word → held_fine (held_of word) ≡ true
-data-fine word is = ap held_fine (data-held word is) ∙ data-fits word is
+data-fine word is = ap held_fine (data-held word is.kind) ∙ data-fits word is
 
 module _ (n next : Seq) (roster : Roster) (time : ℕ) where
   held-other : (h : Held) (seq : Seq) (st : SentReliableStatus) → (seq.0 == n.0) ≡ false → weight_of (packet_held h seq st) n next roster time ≡ Wrong
@@ -147,6 +163,15 @@ module _ (n next : Seq) (roster : Roster) (time : ℕ) where
     pub tag-grounded : 0 < slice_index xs 2 → slice_index xs 2 < 3 → flight_fine roster xs (slice_index xs 3 % 256) time ≡ false → status_weight xs n next roster time ≡ Wrong
     unfolding status_ok status
     tag-grounded l m e = ap status (sent-tag (slice_index xs 2) refl l m).1 ∙ simp e
+
+-- a length of Data
+pub data-long : (len : ℕ) → nat_le len DATA_BYTES ≡ length_ok Data len
+unfolding length_ok
+data-long len = cases (len == 0) (λ t. simp t (le-leb len DATA_BYTES (omega (arith, eqb-true len 0 t)))) (λ t. simp t (plain (nat_le len DATA_BYTES)))
+  where
+    plain : (b : Bool) → b ≡ (b && true)
+    plain true = refl
+    plain false = refl
 
 -- ---- laws: the tally
 

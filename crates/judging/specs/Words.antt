@@ -128,3 +128,12 @@ sound-links s few p =
     and-true-first (le-leb _ _ few)
     ∙ and-true-first (join p.tally (join p.first p.sums))
     ∙ and-true-first p.receiving
+
+-- a tally that is not well is that of no sound state
+pub tally-spoilt : (s : State) → (tally_of s.tx (roster_of s.links) s.time).ok ≡ false → found_sound s ≡ false
+unfolding found_sound sendingb
+tally-spoilt s e = simp e (none (nat_le s.tx.txed_count PACKETS))
+  where
+    none : (b : Bool) → (b && false) ≡ false
+    none true = refl
+    none false = refl

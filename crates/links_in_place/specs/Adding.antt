@@ -23,16 +23,14 @@ use Rattle.engine.specs.Links.{lowest_in, is_taken, add_verdict, add_of}
 use Rattle.engine.specs.Rows.{slot_ok}
 use Rattle.engine.specs.Sizes.{SLOTS}
 use Rattle.engine.specs.Sound.{row_at}
-use Rattle.words.specs.Acks.{put-twice}
 use Rattle.words.specs.Encoded.{no_acks}
-use Rattle.words.specs.Layout.{WORDS, row_start, acks_start, head_at}
+use Rattle.words.specs.Layout.{WORDS, row_start, acks_start}
 use Rattle.words.specs.Meaning.{seq_word, row_of, state_of}
 use Rattle.words.specs.Parts.{part, part_at, part_length, lent-part}
 use Rattle.words.specs.Put.{lent, run}
 use Rattle.words.specs.Read.{row_read}
-use Rattle.words.specs.Ring.{turned-zeros}
 use Rattle.words.specs.Written.{acks-written}
-use Rattle.links_in_place.specs.Acks.{row_put}
+use Rattle.links_in_place.specs.Acks.{row_put, row-put-twice}
 use Rattle.links_in_place.specs.RowsBare.{over}
 
 pub slot-live : (s : State) (slot : ℕ) → slot < SLOTS → slot_ok s slot ≡ (row_at s slot).live
@@ -63,7 +61,7 @@ module _ (w : List ℕ) (long : length w ≡ WORDS) (j : ℕ) (lt : j < 8) where
       ap (λ (l : List ℕ). state_of (lent w (acks_start j) 64 l)) (e ∙ ap (λ m. replicate m 0) n)
       ∙ ap state_of (lent-part w vs (acks_start j) 64 full)
       ∙ acks-written w long vs j lt full
-      ∙ ap (λ (l : List Seq). with_row (state_of w) j (row_of (part (row_start j) 14 w) l)) (ap (map seq_word) (turned-zeros (get_or w (head_at j) 0)) ∙ zero-numbers 64)
+      ∙ ap (λ (l : List Seq). with_row (state_of w) j (row_of (part (row_start j) 14 w) l)) (zero-numbers 64)
       ∙ ap (λ r. with_row (state_of w) j (with_acks r (replicate 64 (seq_of 0)) r.ack_count)) (sym (row_read w long j lt))
 
 -- a row over one whose acks are 0
@@ -73,7 +71,7 @@ pub new_row : (s : State) (slot : ℕ) (row : LinkRow) → slot < length s.links
     ≡ with_row s slot (with_acks row no_acks row.ack_count)
 new_row s slot row h =
     let q = with_acks (row_at s slot) no_acks (row_at s slot).ack_count in
-    ap (λ x. with_row (with_row s slot q) slot (over x row)) (row_put s slot h q) ∙ put-twice s slot q (over q row)
+    ap (λ x. with_row (with_row s slot q) slot (over x row)) (row_put s slot h q) ∙ row-put-twice s slot h q (over q row)
 
 -- a row that was just added has no acks
 pub fresh-acks : (id roundtrip : ℕ) (max : MaxPing) (blocked unconfirmed : Bool)

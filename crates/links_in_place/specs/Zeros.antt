@@ -4,7 +4,7 @@ use Rattle.std.proofs.Common.{sym, ◌∙◌, arith, add-one, drop_of_length-le}
 use Rattle.std.proofs.Math.Path.{ap, ap₂}
 use mathlib.Core.List.{List, [], ◌∷◌, ◌++◌, map, append-nil}
 use Prim.Native.Nat.{ℕ, zero, suc, ◌+◌, ◌≤◌, ◌<◌}
-use Rattle.std.proofs.Math.ListN.{get_or, replicate}
+use Rattle.std.proofs.Math.ListN.{replicate}
 use Rattle.std.proofs.lemmas.List.{length-replicate, get_or-replicate}
 use Rattle.seq.specs.declared.Seq.{Seq}
 use Rattle.seq.specs.Numbers.{seq_of}
@@ -16,11 +16,10 @@ use Rattle.engine.specs.Packets.{no_packet}
 use Rattle.engine.specs.Sizes.{SLOTS, PACKETS}
 use Rattle.engine.specs.Starting.{fresh_tx, fresh_rx, fresh_state}
 use Rattle.words.specs.Encoded.{numbers_of, with_counts}
-use Rattle.words.specs.Layout.{WORDS, TIME, row_start, acks_start, head_at, packet_start, QUEUE}
+use Rattle.words.specs.Layout.{WORDS, TIME, row_start, acks_start, packet_start, QUEUE}
 use Rattle.words.specs.Meaning.{seq_word, row_of, packet_of, acks_in, links_in, packets_in, queue_in, tx_of, decoded, state_of, stated}
 use Rattle.words.specs.Parts.{part, entries-length, same_entries}
 use Rattle.words.specs.Read.{time-read, queue-read}
-use Rattle.words.specs.Ring.{turned, turned-zeros}
 use Rattle.links_in_place.specs.Adding.{zero-numbers}
 
 -- ---- the packet table
@@ -68,9 +67,7 @@ module _ (N : ℕ) (e : N ≡ WORDS) where
 
   acks-zeros : (j : ℕ) → j < 8 → acks_in (replicate N 0) j ≡ replicate 64 (seq_of 0)
   unfolding acks_in
-  acks-zeros j lt =
-      let head = get_or {A = ℕ} (replicate N 0) (head_at j) 0 in
-      ap (λ (l : List ℕ). map seq_word (turned head l)) (part-zeros N (acks_start j) 64 (omega arith)) ∙ ap (map seq_word) (turned-zeros head) ∙ zero-numbers 64
+  acks-zeros j lt = ap (map seq_word) (part-zeros N (acks_start j) 64 (omega arith)) ∙ zero-numbers 64
 
   links-zeros : (state_of (replicate N 0)).links ≡ replicate SLOTS empty_row
   unfolding decoded links_in row_of empty_row

@@ -1,26 +1,39 @@
 // Taking an ack.
-ghost use Rattle.std.specs.Prelude.{◌≡◌, ◌<◌, length};
+ghost use Rattle.std.specs.Prelude.{◌≡◌, ◌-◌, ◌<◌, length};
 ghost use Rattle.link.specs.Acks.{ack_taken};
+ghost use Rattle.link.specs.Fields.{with_acks};
 ghost use Rattle.engine.specs.Fields.{with_row};
 ghost use Rattle.engine.specs.HandingOut.{take_ack_of, take_ack_told};
 ghost use Rattle.engine.specs.Sound.{row_at};
+ghost use Rattle.words.specs.Encoded.{bare};
 ghost use Rattle.words.specs.Layout.{WORDS};
 ghost use Rattle.words.specs.Meaning.{state_of};
 ghost use Rattle.words.specs.Ready.{Ready, Left};
 
 use engine::TakeAck;
+use link::LinkRow;
 use refusal::Refusal;
 use words::gates::slot_ok;
 use words::queues::{first_ack, shift_acks};
-use words::row::{ack_count_at, put_ack_count};
+use words::row::{put_row, row_at};
 
-// A slot, whose acks were counted, loses the oldest.
-fn drop_ack(words: &mut [u64], slot: usize, n: usize)
-    requires { (length words.old ≡ WORDS) × (slot < 8) × (n ≡ (row_at (state_of words.old) slot).ack_count) × (0 < n) }
+// A row with one ack less.
+fn fewer(row: LinkRow) -> LinkRow
+    requires { 0 < row.ack_count }
+    ensures { result ≡ with_acks row row.tx_ack_queue (row.ack_count - 1) }
+{
+    let mut out = row;
+    out.ack_count = row.ack_count - 1;
+    out
+}
+
+// A slot's row, which is not read twice, loses its oldest ack.
+fn drop_ack(words: &mut [u64], slot: usize, row: LinkRow)
+    requires { (length words.old ≡ WORDS) × (slot < 8) × (row ≡ bare (row_at (state_of words.old) slot)) × (0 < row.ack_count) }
     ensures { state_of words.new ≡ with_row (state_of words.old) slot (ack_taken (row_at (state_of words.old) slot)) }
 {
     shift_acks(words, slot);
-    put_ack_count(words, slot, n - 1);
+    put_row(words, slot, fewer(row));
 }
 
 // Takes the link's oldest ack.
@@ -34,11 +47,11 @@ pub fn take_ack(words: &mut [u64], slot: u8) -> TakeAck
         return TakeAck::No(Refusal::Slot);
     }
     let j = slot as usize;
-    let n = ack_count_at(words, j);
-    if n == 0 {
+    let row = row_at(words, j);
+    if row.ack_count == 0 {
         return TakeAck::No(Refusal::Nothing);
     }
     let seq = first_ack(words, j);
-    drop_ack(words, j, n);
+    drop_ack(words, j, row);
     TakeAck::Number(seq)
 }

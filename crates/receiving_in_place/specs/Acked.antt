@@ -30,9 +30,23 @@ abbrev pub placed : State → ℕ → Seq → State
 placed s slot seq = with_row s slot (with_acks (row_at s slot) (set (row_at s slot).tx_ack_queue (row_at s slot).ack_count seq) (row_at s slot).ack_count)
 
 pub ack-counted : (w : List ℕ) (slot : ℕ) (seq : Seq) → length w ≡ WORDS → slot < 8 → (row_at (state_of w) slot).ack_count < ACKS
-    → with_row (placed (state_of w) slot seq) slot (with_acks (row_at (placed (state_of w) slot seq) slot) (row_at (placed (state_of w) slot seq) slot).tx_ack_queue ((row_at (state_of w) slot).ack_count + 1)) ≡ repeated_state (state_of w) slot seq.0
+    → with_row (placed (state_of w) slot seq) slot (with_acks (row_at (state_of w) slot) (row_at (placed (state_of w) slot seq) slot).tx_ack_queue ((row_at (state_of w) slot).ack_count + 1)) ≡ repeated_state (state_of w) slot seq.0
 unfolding repeated_state ack_queued
 ack-counted w slot seq long lt room =
+    let s = state_of w in
+    let r = row_at s slot in
+    let acks = set r.tx_ack_queue r.ack_count seq in
+    let here : row_at (placed s slot seq) slot ≡ with_acks r acks r.ack_count = get_or-set_same s.links slot (with_acks r acks r.ack_count) no_row (omega (arith, eight w long)) in
+    let one : ltb r.ack_count ACKS ≡ true = lt-ltb r.ack_count ACKS room in
+    ap (λ (q : LinkRow). with_row (placed s slot seq) slot (with_acks r q.tx_ack_queue (r.ack_count + 1))) here
+    ∙ ap (λ (l : List LinkRow). record { links = l; tx = s.tx; rx = s.rx; time = s.time; read_open = s.read_open }) (set-set s.links slot _ (with_acks r acks (r.ack_count + 1)))
+    ∙ sym (rw (row-of s slot lt, one))
+
+-- the same where the row is read once more
+pub ack-counted-there : (w : List ℕ) (slot : ℕ) (seq : Seq) → length w ≡ WORDS → slot < 8 → (row_at (state_of w) slot).ack_count < ACKS
+    → with_row (placed (state_of w) slot seq) slot (with_acks (row_at (placed (state_of w) slot seq) slot) (row_at (placed (state_of w) slot seq) slot).tx_ack_queue ((row_at (state_of w) slot).ack_count + 1)) ≡ repeated_state (state_of w) slot seq.0
+unfolding repeated_state ack_queued
+ack-counted-there w slot seq long lt room =
     let s = state_of w in
     let r = row_at s slot in
     let acks = set r.tx_ack_queue r.ack_count seq in

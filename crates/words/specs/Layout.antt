@@ -25,10 +25,6 @@ row_start slot = 32 + slot * 16
 abbrev pub acks_start : ℕ → ℕ
 acks_start slot = 160 + slot * 64
 
--- which of its acks is the oldest: the ring starts there
-abbrev pub head_at : ℕ → ℕ
-head_at slot = row_start slot + 14
-
 -- a cell of the packet table, eight words
 abbrev pub packet_start : ℕ → ℕ
 packet_start at = 672 + at * 8

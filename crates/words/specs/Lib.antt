@@ -1,5 +1,4 @@
 pub mod Parts
-pub mod Ring
 pub mod Layout
 pub mod Meaning
 pub mod Written
@@ -8,4 +7,3 @@ pub mod Read
 pub mod Put
 pub mod OneWord
 pub mod Ready
-pub mod Acks

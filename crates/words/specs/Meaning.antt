@@ -1,8 +1,8 @@
 -- What the words of a state say. Every list of words says some state: a number of 32 bits is its word's lower half, a slot its word's lowest byte, a flag
 -- is set by any word but 0. A tag that is none makes a packet that no sound state has, and so does a message word that is none; words of any other length say a
 -- state without cells, which is not sound. Assumes nothing.
-use Rattle.std.specs.Prelude.{◌≡◌, Bool, true, false, cond, not, List, [], map, ℕ, ◌+◌, ◌%◌, eqb, length, get_or}
-use Rattle.std.proofs.Common.{eq-eqb}
+use Rattle.std.specs.Prelude.{◌≡◌, refl, Bool, true, false, cond, not, List, [], map, ℕ, ◌%◌, eqb, length, get_or}
+use Rattle.std.proofs.Common.{ap, eq-eqb}
 use Rattle.seq.specs.declared.Seq.{Seq}
 use Rattle.seq.specs.Numbers.{seq_of}
 use Rattle.msg.specs.declared.reliable.ReliableMsg.TheVariants.{Data}
@@ -27,8 +27,7 @@ use Rattle.engine.specs.declared.state.State.{State}
 use Rattle.engine.specs.Fields.{new_packet}
 use Rattle.engine.specs.Records.{held_of}
 use Rattle.words.specs.Parts.{part, entries}
-use Rattle.words.specs.Ring.{turned}
-use Rattle.words.specs.Layout.{WORDS, TX, RX, TIME, READER, row_start, acks_start, head_at, packet_start, QUEUE}
+use Rattle.words.specs.Layout.{WORDS, TX, RX, TIME, READER, row_start, acks_start, packet_start, QUEUE}
 
 -- a number of 32 bits; a sequence number; a flag
 abbrev pub half : ℕ → ℕ
@@ -100,13 +99,8 @@ packet_of xs = packet_held (held_of (get_or xs 1 0)) (seq_word (get_or xs 0 0)) 
 
 -- ---- the parts of the state
 
--- a slot's acks, oldest first: a ring
 unfoldable pub acks_in : List ℕ → ℕ → List Seq
-acks_in w slot = map seq_word (turned (get_or w (head_at slot) 0) (part (acks_start slot) 64 w))
-
--- where the ring has the ack that stands i behind the oldest
-abbrev pub ack_at : List ℕ → ℕ → ℕ → ℕ
-ack_at w slot i = acks_start slot + (get_or w (head_at slot) 0 + i) % 64
+acks_in w slot = map seq_word (part (acks_start slot) 64 w)
 
 unfoldable pub links_in : List ℕ → List LinkRow
 unfolding row_of acks_in

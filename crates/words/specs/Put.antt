@@ -1,27 +1,29 @@
 -- What the functions leave that write a part of a state's words: the part was lent on as a run, and came back as the words of what is put there.
 -- Assumes nothing.
-use Rattle.std.specs.Prelude.{◌≡◌, refl, ℕ, zero, suc, ◌+◌, ◌-◌, ◌^◌, ◌<◌, take, drop, Bool}
-use Rattle.std.proofs.Common.{sym, ◌∙◌, arith}
+use Rattle.std.specs.Prelude.{◌≡◌, refl, ℕ, zero, suc, ◌+◌, ◌-◌, ◌^◌, ◌≤◌, ◌<◌, get_or, take, Bool}
+use Rattle.std.proofs.Common.{sym, ◌∙◌, arith, length-append}
 use Rattle.std.proofs.Math.Path.{ap}
 use mathlib.Core.List.{List, [], ◌∷◌, ◌++◌, map}
-use Rattle.std.proofs.Math.ListN.{length, set, length-set}
+use Rattle.std.proofs.Math.ListN.{length, set, drop, length-set, length-drop}
 use Rattle.seq.specs.declared.Seq.{Seq}
 use Rattle.seq.specs.Numbers.{seq_of}
 use Rattle.link.specs.declared.row.LinkRow.{LinkRow}
 use Rattle.link.specs.Fields.{with_acks, with_trip, with_sending}
+use Rattle.link.specs.Acks.{shifted}
 use Rattle.engine.specs.declared.state.Receiving.{Receiving}
 use Rattle.engine.specs.declared.state.SentReliable.{SentReliable}
+use Rattle.engine.specs.declared.state.State.{State}
 use Rattle.engine.specs.Fields.{with_row, with_tx, with_rx, with_time, with_reader, with_packets, with_queue}
 use Rattle.engine.specs.Sound.{row_at}
 use Rattle.refusal.specs.Answers.{flag}
 use Rattle.words.specs.declared.sending.SendingNumbers.{SendingNumbers}
 use Rattle.words.specs.Parts.{part, part_length, one_word, lent-part, entries}
-use Rattle.words.specs.Layout.{WORDS, TX, RX, TIME, READER, row_start, packet_start, QUEUE}
-use Rattle.words.specs.Meaning.{seq_word, row_of, acks_in, queue_in, state_of}
+use Rattle.words.specs.Layout.{WORDS, TX, RX, TIME, READER, row_start, packet_start, QUEUE, acks_start}
+use Rattle.words.specs.Meaning.{seq_word, is_set, row_of, acks_in, queue_in, state_of}
 use Rattle.words.specs.Encoded.{set-flag, half-small, rx_words, SmallRx, rx-back, with_counts, numbers_words, SmallNumbers, tx-back, row_words, SmallLimit, limit-back, row_back, acked_words, packet_words, SmallSlot, packet-back}
 use Rattle.words.specs.OneWord.{row_word, row-changed}
-use Rattle.words.specs.Read.{acks-read, queue-read}
-use Rattle.words.specs.Written.{row_written, packet-written, queue-written, tx-written, rx-written, time-written, reader-written}
+use Rattle.words.specs.Read.{acks-read, queue-read, row_read}
+use Rattle.words.specs.Written.{row_written, packet-written, queue-written, tx-written, rx-written, time-written, reader-written, acks-written}
 
 -- a run of n words from the place a on, lent and come back as `new`
 abbrev pub lent : List ℕ → ℕ → ℕ → List ℕ → List ℕ
@@ -38,10 +40,20 @@ came : (w vs new : List ℕ) (a n : ℕ) → length vs ≡ n → new ≡ vs → 
 came w vs new a n e h = ap (λ (l : List ℕ). state_of (lent w a n l)) h ∙ ap state_of (lent-part w vs a n e)
 
 -- one number of a run
-pub run-set : (xs : List ℕ) (i : ℕ) (seq : Seq) → seq.0 < 2 ^ 32 → map seq_word (set xs i seq.0) ≡ set (map seq_word xs) i seq
+run-set : (xs : List ℕ) (i : ℕ) (seq : Seq) → seq.0 < 2 ^ 32 → map seq_word (set xs i seq.0) ≡ set (map seq_word xs) i seq
 run-set [] i seq h = refl
 run-set (x ∷ xs) zero seq h = ap (λ (y : Seq). y ∷ map seq_word xs) (ap seq_of (half-small seq.0 h))
 run-set (x ∷ xs) (suc i) seq h = ap (λ (l : List Seq). seq_word x ∷ l) (run-set xs i seq h)
+
+-- the numbers of a run from one on, and of two runs
+run_drop : (n : ℕ) (xs : List ℕ) → map seq_word (drop n xs) ≡ drop n (map seq_word xs)
+run_drop zero xs = refl
+run_drop (suc n) [] = refl
+run_drop (suc n) (x ∷ xs) = run_drop n xs
+
+run-append : (xs ys : List ℕ) → map seq_word (xs ++ ys) ≡ map seq_word xs ++ map seq_word ys
+run-append [] ys = refl
+run-append (x ∷ xs) ys = ap (λ (l : List Seq). seq_word x ∷ l) (run-append xs ys)
 
 module _ (w : List ℕ) (long : length w ≡ WORDS) where
   pub time-put : (v : ℕ) → state_of (set w TIME v) ≡ with_time (state_of w) v
@@ -81,6 +93,39 @@ module _ (w : List ℕ) (long : length w ≡ WORDS) where
       came w (acked_words xs r) new (row_start j) 14 n (e ∙ ap (λ (l : List ℕ). acked_words l r) (run-part w (row_start j) 14))
       ∙ row-changed w long j lt (λ l. acked_words l r) (λ q. with_trip (with_sending q r.limit_increased r.txed_unacked_data) r.roundtrip r.zero_estimate q.current_ping_sent) n
       (λ i. with_trip (with_sending row (limit-back r.limit_increased mark i) (half-small r.txed_unacked_data small i)) r.roundtrip (set-flag r.zero_estimate i) row.current_ping_sent)
+
+  -- a slot's acks, its row being as it was
+  acks-put : (vs : List ℕ) (j : ℕ) → j < 8 → length vs ≡ 64 → (acks : List Seq) → map seq_word vs ≡ acks
+      → state_of (take (acks_start j) w ++ (vs ++ drop (acks_start j + length vs) w)) ≡ with_row (state_of w) j (with_acks (row_at (state_of w) j) acks (row_at (state_of w) j).ack_count)
+  unfolding row_of
+  acks-put vs j lt e acks h =
+      acks-written w long vs j lt e
+      ∙ ap (λ (l : List Seq). with_row (state_of w) j (row_of (part (row_start j) 14 w) l)) h
+      ∙ ap (λ r. with_row (state_of w) j (with_acks r acks r.ack_count)) (sym (row_read w long j lt))
+
+  acks-long : (j : ℕ) → j < 8 → length (part (acks_start j) 64 w) ≡ 64
+  acks-long j lt = part_length (acks_start j) 64 w (omega arith)
+
+  pub ack-put : (new : List ℕ) (j i : ℕ) (seq : Seq) → j < 8 → seq.0 < 2 ^ 32 → new ≡ set (run w (acks_start j) 64) i seq.0
+      → state_of (lent w (acks_start j) 64 new) ≡ with_row (state_of w) j (with_acks (row_at (state_of w) j) (set (row_at (state_of w) j).tx_ack_queue i seq) (row_at (state_of w) j).ack_count)
+  unfolding acks_in
+  ack-put new j i seq lt small e =
+      let vs = set (part (acks_start j) 64 w) i seq.0 in
+      let n : length vs ≡ 64 = length-set (part (acks_start j) 64 w) i seq.0 ∙ acks-long j lt in
+      came w vs new (acks_start j) 64 n (e ∙ ap (λ (l : List ℕ). set l i seq.0) (run-part w (acks_start j) 64))
+      ∙ acks-put vs j lt n (set (row_at (state_of w) j).tx_ack_queue i seq)
+      (run-set (part (acks_start j) 64 w) i seq small ∙ ap (λ (l : List Seq). set l i seq) (sym (acks-read w long j lt)))
+
+  pub acks-shift : (new : List ℕ) (j : ℕ) → j < 8 → new ≡ drop 1 (run w (acks_start j) 64) ++ drop 63 (run w (acks_start j) 64)
+      → state_of (lent w (acks_start j) 64 new) ≡ with_row (state_of w) j (with_acks (row_at (state_of w) j) (shifted (row_at (state_of w) j).tx_ack_queue) (row_at (state_of w) j).ack_count)
+  unfolding acks_in shifted
+  acks-shift new j lt e =
+      let xs = part (acks_start j) 64 w in
+      let vs = drop 1 xs ++ drop 63 xs in
+      let n : length vs ≡ 64 = simp (length-append, length-drop, acks-long j lt) in
+      came w vs new (acks_start j) 64 n (e ∙ ap (λ (l : List ℕ). drop 1 l ++ drop 63 l) (run-part w (acks_start j) 64))
+      ∙ acks-put vs j lt n (shifted (row_at (state_of w) j).tx_ack_queue)
+      (run-append (drop 1 xs) (drop 63 xs) ∙ (λ i. run_drop 1 xs i ++ run_drop 63 xs i) ∙ ap shifted (sym (acks-read w long j lt)))
 
   pub queued-put : (new : List ℕ) (i : ℕ) (seq : Seq) → seq.0 < 2 ^ 32 → new ≡ set (part QUEUE 64 w) i seq.0
       → state_of (lent w QUEUE 64 new) ≡ with_tx (state_of w) (with_queue (state_of w).tx (set (state_of w).tx.resend_queue i seq) (state_of w).tx.resend_count)

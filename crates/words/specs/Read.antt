@@ -1,8 +1,8 @@
 -- What stands at the places of a state's words: the state's parts, word by word. Assumes nothing.
-use Rattle.std.specs.Prelude.{◌≡◌, ℕ, ◌+◌, ◌-◌, ◌%◌, ◌^◌, ◌<◌, length, take, drop}
+use Rattle.std.specs.Prelude.{◌≡◌, refl, ℕ, ◌+◌, ◌-◌, ◌^◌, ◌<◌, length, take, drop}
 use Rattle.std.proofs.Common.{sym, ◌∙◌}
 use Rattle.std.proofs.Math.Path.{ap}
-use mathlib.Core.List.{List}
+use mathlib.Core.List.{List, map}
 use native.Mathlib.Omega.{arith}
 use Rattle.std.proofs.Math.ListN.{get_or, get_or-map}
 use Rattle.seq.specs.declared.Seq.{Seq}
@@ -16,11 +16,14 @@ use Rattle.engine.specs.declared.state.State.{State}
 use Rattle.engine.specs.Packets.{no_packet}
 use Rattle.engine.specs.Records.{RecordFits, held_of, held_fits}
 use Rattle.engine.specs.Sound.{row_at}
-use Rattle.words.specs.Parts.{part, part_length, part_at, entry_at}
-use Rattle.words.specs.Ring.{turned, turned-at}
-use Rattle.words.specs.Layout.{WORDS, TX, RX, TIME, READER, row_start, acks_start, head_at, packet_start, QUEUE}
-use Rattle.words.specs.Meaning.{half, seq_word, is_set, row_of, packet_held, packet_of, status_of, acks_in, ack_at, links_in, packets_in, queue_in, tx_of, rx_of, decoded, state_of, stated}
+use Rattle.words.specs.Parts.{part, part_at, entry_at}
+use Rattle.words.specs.Layout.{WORDS, TX, RX, TIME, READER, row_start, acks_start, packet_start, QUEUE}
+use Rattle.words.specs.Meaning.{half, seq_word, is_set, row_of, packet_held, packet_of, status_of, acks_in, links_in, packets_in, queue_in, tx_of, rx_of, decoded, state_of, stated}
 use Rattle.words.specs.Encoded.{numbers_of, no_acks, bare}
+
+-- a number of a run, by its word
+run_at : (a n i : ℕ) (w : List ℕ) → i < n → get_or (map seq_word (part a n w)) i (seq_of 0) ≡ seq_word (get_or w (a + i) 0)
+run_at a n i w h = get_or-map seq_word (part a n w) i 0 ∙ ap seq_word (part_at a n i w h)
 
 packet-short : (h : Held) (seq : Seq) (st : SentReliableStatus) → RecordFits h → (packet_held h seq st).len < 2 ^ 24
 packet-short (Message msg len) seq st f = f
@@ -105,14 +108,11 @@ module _ (w : List ℕ) (long : length w ≡ WORDS) where
   unfolding row_of
   acks-read j h = ap (λ r. r.tx_ack_queue) (row_read j h)
 
-  pub ack-read : (j i : ℕ) → j < 8 → i < 64 → get_or (row_at (state_of w) j).tx_ack_queue i (seq_of 0) ≡ seq_word (get_or w (ack_at w j i) 0)
+  pub ack-read : (j : ℕ) → j < 8 → get_or (row_at (state_of w) j).tx_ack_queue 0 (seq_of 0) ≡ seq_word (get_or w (acks_start j) 0)
   unfolding acks_in
-  ack-read j i h lt =
-      let head = get_or w (head_at j) 0 in
-      let ring = part (acks_start j) 64 w in
-      ap (λ (l : List Seq). get_or l i (seq_of 0)) (acks-read j h)
-      ∙ get_or-map seq_word (turned head ring) i 0
-      ∙ ap seq_word (turned-at ring (part_length (acks_start j) 64 w (omega arith)) head i lt ∙ part_at (acks_start j) 64 ((head + i) % 64) w (omega arith))
+  ack-read j h =
+      let z : acks_start j + 0 ≡ acks_start j = omega arith in
+      ap (λ (l : List Seq). get_or l 0 (seq_of 0)) (acks-read j h) ∙ run_at (acks_start j) 64 0 w (omega arith) ∙ ap (λ n. seq_word (get_or w n 0)) z
 
   pub packet-read : (k : ℕ) → k < 64 → get_or (state_of w).tx.txed_packets k no_packet ≡ packet_of (part (packet_start k) 8 w)
   unfolding decoded packets_in tx_of
@@ -129,4 +129,4 @@ module _ (w : List ℕ) (long : length w ≡ WORDS) where
 
   pub queued-read : (i : ℕ) → i < 64 → get_or (state_of w).tx.resend_queue i (seq_of 0) ≡ seq_word (get_or w (QUEUE + i) 0)
   unfolding queue_in
-  queued-read i h = ap (λ (l : List Seq). get_or l i (seq_of 0)) queue-read ∙ get_or-map seq_word (part QUEUE 64 w) i 0 ∙ ap seq_word (part_at QUEUE 64 i w h)
+  queued-read i h = ap (λ (l : List Seq). get_or l i (seq_of 0)) queue-read ∙ run_at QUEUE 64 i w h

@@ -1,14 +1,16 @@
 -- Words that a call in place is given: those of a sound state. Assumes nothing.
-use Rattle.std.specs.Prelude.{◌≡◌, ◌≢◌, true, List, ℕ, ◌^◌, ◌<◌, length, get_or}
+use Rattle.std.specs.Prelude.{◌≡◌, refl, ◌≢◌, true, List, [], map, ℕ, ◌%◌, ◌^◌, ◌<◌, length, get_or}
 use Rattle.std.proofs.Common.{sym, ap, ◌∙◌, subst, mod-lt, arith}
 use Rattle.std.proofs.lemmas.List.{length-map}
+use Rattle.seq.specs.declared.Seq.{Seq}
 use Rattle.link.specs.declared.row.LinkRow.{LinkRow}
 use Rattle.link.specs.Row.{no_row}
+use Rattle.link.specs.Sizes.{ACKS}
+use Rattle.engine.specs.declared.state.State.{State}
 use Rattle.engine.specs.Sound.{Sound, Shaped, row_at}
 use Rattle.engine.specs.Decide.{soundb, sound}
 use Rattle.words.specs.Parts.{part, part_length, part_at, entries-length, entry_at}
-use Rattle.words.specs.Ring.{turned-length}
-use Rattle.words.specs.Layout.{WORDS, TX, TIME, row_start, acks_start, head_at, packet_start, QUEUE}
+use Rattle.words.specs.Layout.{WORDS, TX, TIME, row_start, acks_start, packet_start, QUEUE}
 use Rattle.words.specs.Meaning.{half, row_of, packet_of, acks_in, links_in, packets_in, queue_in, tx_of, rx_of, decoded, state_of, stated}
 
 pub record Ready (w : List ℕ) : Type 0 where
@@ -38,7 +40,7 @@ shaped-words w long small =
     let two : get_or (part TX 9 w) 2 0 ≡ get_or w 2 0 = part_at TX 9 2 w (omega arith) in
     subst Shaped (sym (stated w long)) (record {
       links-full = entries-length (λ k. row_of (part (row_start k) 14 w) (acks_in w k)) 8;
-      queues = λ j h. ap (λ (r : LinkRow). length r.tx_ack_queue) (row j h) ∙ simp length-map (turned-length (part (acks_start j) 64 w) (part_length (acks_start j) 64 w (omega arith)) (get_or w (head_at j) 0));
+      queues = λ j h. ap (λ (r : LinkRow). length r.tx_ack_queue) (row j h) ∙ simp length-map (part_length (acks_start j) 64 w (omega arith));
       packets-full = entries-length (λ k. packet_of (part (packet_start k) 8 w)) 64;
       queue-full = simp length-map (part_length QUEUE 64 w (omega arith));
       next-u32 = half_lt _;

@@ -1,22 +1,26 @@
 -- What writing over one part of a state's words does to the state: that part says something else, and every other what it said. Assumes nothing.
-use Rattle.std.specs.Prelude.{◌≡◌, ◌⊎◌, Bool, ℕ, ◌+◌, ◌≤◌, ◌<◌, ltb}
-use Rattle.std.proofs.Common.{sym, ◌∙◌, ⊎_elim, eq-or-lt_of_le, ltb-true, ltb-false}
+use Rattle.std.specs.Prelude.{◌≡◌, refl, ◌⊎◌, Bool, ℕ, ◌+◌, ◌*◌, ◌≤◌, ◌<◌, ltb}
+use Rattle.std.proofs.Common.{sym, subst, ◌∙◌, ⊎_elim, eq-or-lt_of_le, ltb-true, ltb-false}
 use Rattle.std.proofs.Math.Path.{ap, ap₂}
 use Rattle.std.proofs.Math.Logic.{inl, inr}
 use mathlib.Core.List.{List, [], ◌∷◌, map}
 use native.Mathlib.Omega.{arith}
 use borrow.Table.Steps.{cases}
-use Rattle.std.proofs.Math.ListN.{length, get_or, set}
+use Rattle.std.proofs.Math.ListN.{length, get_or, set, get_or-map}
+use Rattle.std.proofs.lemmas.List.{length-map}
+use Rattle.seq.specs.declared.Seq.{Seq}
+use Rattle.seq.specs.Numbers.{seq_of}
 use Rattle.link.specs.declared.row.LinkRow.{LinkRow}
+use Rattle.link.specs.Row.{no_row}
 use Rattle.engine.specs.Stores.{copied}
 use Rattle.engine.specs.Fields.{with_row, with_tx, with_rx, with_time, with_reader, with_packets, with_queue}
+use Rattle.engine.specs.Packets.{no_packet}
 use Rattle.engine.specs.declared.state.State.{State}
 use Rattle.engine.specs.declared.state.Sending.{Sending}
 use Rattle.engine.specs.declared.state.Receiving.{Receiving}
-use Rattle.words.specs.Parts.{part, part_at, part_in, part_out, copied-length, same_entries, put-entry}
-use Rattle.words.specs.Ring.{turned}
-use Rattle.words.specs.Layout.{WORDS, TX, RX, TIME, READER, row_start, acks_start, head_at, packet_start, QUEUE}
-use Rattle.words.specs.Meaning.{seq_word, is_set, row_of, packet_of, acks_in, links_in, packets_in, queue_in, tx_of, rx_of, decoded, state_of, stated}
+use Rattle.words.specs.Parts.{part, part_length, part_at, part_in, part_out, copied-length, entries, entries-length, entry_at, same_entries, put-entry}
+use Rattle.words.specs.Layout.{WORDS, TX, RX, TIME, READER, row_start, acks_start, packet_start, QUEUE}
+use Rattle.words.specs.Meaning.{half, seq_word, is_set, row_of, packet_of, acks_in, links_in, packets_in, queue_in, tx_of, rx_of, decoded, state_of, stated}
 
 abbrev state_from : List LinkRow → Sending → Receiving → ℕ → Bool → State
 state_from links tx rx time reads = record { links = links; tx = tx; rx = rx; time = time; read_open = reads }
@@ -40,23 +44,15 @@ module _ (w vs : List ℕ) (a : ℕ) (fits : a + length vs ≤ length w) where
       ∙ part_at i 1 0 w (omega arith)
       ∙ ap (λ n. get_or w n 0) z
 
-  -- the first word that is written
-  word_in : 0 < length vs → get_or (copied w a vs) a 0 ≡ get_or vs 0 0
-  word_in some =
-      let z : a ≡ a + 0 = omega arith in
-      ap (λ n. get_or (copied w a vs) n 0) z ∙ sym (part_at a (length vs) 0 (copied w a vs) some) ∙ ap (λ l. get_or l 0 0) (part_in w vs a fits)
-
-  -- a slot's acks, where neither its head nor the ring is written over
-  acks-out : (j : ℕ) → (head_at j < a) ⊎ (a + length vs ≤ head_at j) → (acks_start j + 64 ≤ a) ⊎ (a + length vs ≤ acks_start j) → acks_in (copied w a vs) j ≡ acks_in w j
+  acks-out : (j : ℕ) → (acks_start j + 64 ≤ a) ⊎ (a + length vs ≤ acks_start j) → acks_in (copied w a vs) j ≡ acks_in w j
   unfolding acks_in
-  acks-out j head ring = λ i. map seq_word (turned (word_out (head_at j) head i) (part_out w vs a fits (acks_start j) 64 ring i))
+  acks-out j h = ap (map seq_word) (part_out w vs a fits (acks_start j) 64 h)
 
   links-out : (a + length vs ≤ 32) ⊎ (672 ≤ a) → links_in (copied w a vs) ≡ links_in w
   unfolding links_in
   links-out h =
       same_entries (λ j. row_of (part (row_start j) 14 w) (acks_in w j)) (λ j. row_of (part (row_start j) 14 (copied w a vs)) (acks_in (copied w a vs) j)) 8
-      (λ j lt. ap₂ row_of (part_out w vs a fits (row_start j) 14 (⊎_elim (λ l. inr (omega arith)) (λ r. inl (omega arith)) h))
-      (acks-out j (⊎_elim (λ l. inr (omega arith)) (λ r. inl (omega arith)) h) (⊎_elim (λ l. inr (omega arith)) (λ r. inl (omega arith)) h)))
+      (λ j lt. ap₂ row_of (part_out w vs a fits (row_start j) 14 (⊎_elim (λ l. inr (omega arith)) (λ r. inl (omega arith)) h)) (acks-out j (⊎_elim (λ l. inr (omega arith)) (λ r. inl (omega arith)) h)))
 
   packets-out : (a + length vs ≤ 672) ⊎ (1184 ≤ a) → packets_in (copied w a vs) ≡ packets_in w
   unfolding packets_in
@@ -103,55 +99,35 @@ module _ (w : List ℕ) (long : length w ≡ WORDS) (vs : List ℕ) where
     tx-left : a + length vs ≤ 672 → tx_of (part TX 9 (copied w a vs)) (packets_in (copied w a vs)) (queue_in (copied w a vs)) ≡ tx_of (part TX 9 w) (packets_in w) (queue_in w)
     tx-left high = λ i. tx_of (tx-out w vs a fits (omega arith) i) (packets-out w vs a fits (inl high) i) (queue-out w vs a fits (omega arith) i)
 
-  -- words of one slot: its row is another, and the others are as they were
-  slot-written : (a j : ℕ) (r : LinkRow) → 32 ≤ a → a + length vs ≤ 672 → j < 8
-      → ((k : ℕ) → k < 8 → (k < j) ⊎ (j < k) → row_of (part (row_start k) 14 (copied w a vs)) (acks_in (copied w a vs) k) ≡ row_of (part (row_start k) 14 w) (acks_in w k))
-      → row_of (part (row_start j) 14 (copied w a vs)) (acks_in (copied w a vs) j) ≡ r
-      → state_of (copied w a vs) ≡ with_row (state_of w) j r
-  unfolding decoded links_in
-  slot-written a j r low high lt others mine =
-      let fits : a + length vs ≤ length w = omega arith in
-      after a fits
-      (put-entry (λ k. row_of (part (row_start k) 14 w) (acks_in w k)) (λ k. row_of (part (row_start k) 14 (copied w a vs)) (acks_in (copied w a vs) k)) 8 j r lt (λ k l ne. others k l (unequal k j ne)) mine)
-      (tx-left a fits low high) (rx-left a fits low) (time-left a fits low) (reads-left a fits low)
-      ∙ ap (λ s. with_row s j r) (sym (stated w long))
-
   -- a slot's row
   pub row_written : (j : ℕ) → j < 8 → length vs ≡ 14 → state_of (copied w (row_start j) vs) ≡ with_row (state_of w) j (row_of vs (acks_in w j))
+  unfolding decoded links_in
   row_written j lt e =
       let a = row_start j in
       let fits : a + length vs ≤ length w = omega arith in
-      slot-written a j (row_of vs (acks_in w j)) (omega arith) (omega arith) lt
-      (λ k l side. ap₂ row_of (part_out w vs a fits (row_start k) 14 (⊎_elim (λ h. inl (omega arith)) (λ h. inr (omega arith)) side))
-      (acks-out w vs a fits k (⊎_elim (λ h. inl (omega arith)) (λ h. inr (omega arith)) side) (inr (omega arith))))
-      (ap₂ row_of (ap (λ n. part a n (copied w a vs)) (sym e) ∙ part_in w vs a fits) (acks-out w vs a fits j (inr (omega arith)) (inr (omega arith))))
+      let others : (k : ℕ) → k < 8 → (k ≡ j → ⊥) → row_of (part (row_start k) 14 (copied w a vs)) (acks_in (copied w a vs) k) ≡ row_of (part (row_start k) 14 w) (acks_in w k) =
+      λ k l ne. ap₂ row_of (part_out w vs a fits (row_start k) 14 (⊎_elim (λ h. inl (omega arith)) (λ h. inr (omega arith)) (unequal k j ne))) (acks-out w vs a fits k (inr (omega arith))) in
+      let mine : row_of (part a 14 (copied w a vs)) (acks_in (copied w a vs) j) ≡ row_of vs (acks_in w j) =
+      ap₂ row_of (ap (λ n. part a n (copied w a vs)) (sym e) ∙ part_in w vs a fits) (acks-out w vs a fits j (inr (omega arith))) in
+      after a fits
+      (put-entry (λ k. row_of (part (row_start k) 14 w) (acks_in w k)) (λ k. row_of (part (row_start k) 14 (copied w a vs)) (acks_in (copied w a vs) k)) 8 j (row_of vs (acks_in w j)) lt others mine)
+      (tx-left a fits (omega arith) (omega arith)) (rx-left a fits (omega arith)) (time-left a fits (omega arith)) (reads-left a fits (omega arith))
+      ∙ ap (λ s. with_row s j (row_of vs (acks_in w j))) (sym (stated w long))
 
   -- its acks
-  pub acks-written : (j : ℕ) → j < 8 → length vs ≡ 64
-      → state_of (copied w (acks_start j) vs) ≡ with_row (state_of w) j (row_of (part (row_start j) 14 w) (map seq_word (turned (get_or w (head_at j) 0) vs)))
-  unfolding acks_in
+  pub acks-written : (j : ℕ) → j < 8 → length vs ≡ 64 → state_of (copied w (acks_start j) vs) ≡ with_row (state_of w) j (row_of (part (row_start j) 14 w) (map seq_word vs))
+  unfolding decoded links_in acks_in
   acks-written j lt e =
       let a = acks_start j in
       let fits : a + length vs ≤ length w = omega arith in
-      slot-written a j (row_of (part (row_start j) 14 w) (map seq_word (turned (get_or w (head_at j) 0) vs))) (omega arith) (omega arith) lt
-      (λ k l side. ap₂ row_of (part_out w vs a fits (row_start k) 14 (inl (omega arith)))
-      (acks-out w vs a fits k (inl (omega arith)) (⊎_elim (λ h. inl (omega arith)) (λ h. inr (omega arith)) side)))
-      (ap₂ row_of (part_out w vs a fits (row_start j) 14 (inl (omega arith)))
-      (λ i. map seq_word (turned (word_out w vs a fits (head_at j) (inl (omega arith)) i) ((ap (λ n. part a n (copied w a vs)) (sym e) ∙ part_in w vs a fits) i))))
-
-  -- their head
-  pub head-written : (j v : ℕ) → j < 8 → vs ≡ v ∷ []
-      → state_of (copied w (head_at j) vs) ≡ with_row (state_of w) j (row_of (part (row_start j) 14 w) (map seq_word (turned v (part (acks_start j) 64 w))))
-  unfolding acks_in
-  head-written j v lt e =
-      let a = head_at j in
-      let one : length vs ≡ 1 = ap length e in
-      let fits : a + length vs ≤ length w = omega arith in
-      let put : get_or (copied w a vs) a 0 ≡ v = word_in w vs a fits (omega arith) ∙ ap (λ (l : List ℕ). get_or l 0 0) e in
-      slot-written a j (row_of (part (row_start j) 14 w) (map seq_word (turned v (part (acks_start j) 64 w)))) (omega arith) (omega arith) lt
-      (λ k l side. ap₂ row_of (part_out w vs a fits (row_start k) 14 (⊎_elim (λ h. inl (omega arith)) (λ h. inr (omega arith)) side))
-      (acks-out w vs a fits k (⊎_elim (λ h. inl (omega arith)) (λ h. inr (omega arith)) side) (inr (omega arith))))
-      (ap₂ row_of (part_out w vs a fits (row_start j) 14 (inl (omega arith))) (λ i. map seq_word (turned (put i) (part_out w vs a fits (acks_start j) 64 (inr (omega arith)) i))))
+      let others : (k : ℕ) → k < 8 → (k ≡ j → ⊥) → row_of (part (row_start k) 14 (copied w a vs)) (acks_in (copied w a vs) k) ≡ row_of (part (row_start k) 14 w) (acks_in w k) =
+      λ k l ne. ap₂ row_of (part_out w vs a fits (row_start k) 14 (inl (omega arith))) (acks-out w vs a fits k (⊎_elim (λ h. inl (omega arith)) (λ h. inr (omega arith)) (unequal k j ne))) in
+      let mine : row_of (part (row_start j) 14 (copied w a vs)) (acks_in (copied w a vs) j) ≡ row_of (part (row_start j) 14 w) (map seq_word vs) =
+      ap₂ row_of (part_out w vs a fits (row_start j) 14 (inl (omega arith))) (ap (map seq_word) (ap (λ n. part a n (copied w a vs)) (sym e) ∙ part_in w vs a fits)) in
+      after a fits
+      (put-entry (λ k. row_of (part (row_start k) 14 w) (acks_in w k)) (λ k. row_of (part (row_start k) 14 (copied w a vs)) (acks_in (copied w a vs) k)) 8 j (row_of (part (row_start j) 14 w) (map seq_word vs)) lt others mine)
+      (tx-left a fits (omega arith) (omega arith)) (rx-left a fits (omega arith)) (time-left a fits (omega arith)) (reads-left a fits (omega arith))
+      ∙ ap (λ s. with_row s j (row_of (part (row_start j) 14 w) (map seq_word vs))) (sym (stated w long))
 
   -- a cell of the packet table
   pub packet-written : (k : ℕ) → k < 64 → length vs ≡ 8 → state_of (copied w (packet_start k) vs) ≡ with_tx (state_of w) (with_packets (state_of w).tx (set (state_of w).tx.txed_packets k (packet_of vs)))

@@ -25,8 +25,6 @@ pub const ROW: usize = 16;
 pub const ROW_WORDS: usize = 14;
 // .. and the last of these counts its acks
 pub const ACK_COUNT: usize = 13;
-// .. and the word behind them has the place of the oldest
-pub const HEAD: usize = 14;
 
 pub const ACKS_START: usize = 160;
 
