@@ -1,5 +1,5 @@
 -- Demand 3 as a statement: of what a sends to b; by `swap` also of what b sends to a. Nothing here names a ring, a table's cells or
--- a window. Its proof is in Proved. Assumes nothing.
+-- a window. Its proof is `demand3` of proofs/Theorem.antt. Assumes nothing.
 use Rattle.std.specs.Prelude.{◌≡◌, cond, ℕ, ◌+◌, ◌≤◌, ◌<◌, length, get_or}
 use mathlib.Core.List.{List, [], ◌∷◌, ◌++◌, Memᴰ}
 use Rattle.seq.specs.Numbers.{plus}

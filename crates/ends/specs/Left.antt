@@ -358,20 +358,23 @@ module _ (W : World) (c : calls.Call) where
   abbrev pub ArrivesAck : Type 0
   ArrivesAck = (slot time n : ℕ) → c ≡ calls.Ack slot time n → BroughtAck n W.ba × TimelyAck n W.a W.b
 
+  made_by : calls.Unnoted c → calls.Typed c → holds (called W c).a ≡ next c (holds W.a) → Made W c
+  made_by u t left = record { world = called W c; call = Other c u t; leaves = left }
+
   other-made : calls.Unnoted c → calls.Typed c → Made W c
   other-made u t = record { world = called W c; call = Other c u t; leaves = refl }
 
 pub every_call : (W : World) (c : calls.Call) → calls.Typed c → Arrives W c → ArrivesAck W c → Made W c
 unfolding send_at resend_at receive_at take_at take_ack_at
-every_call W (calls.Add id roundtrip max blocked unconfirmed) t m a = other-made W _ tt t
-every_call W (calls.Remove slot) t m a = other-made W _ tt t
-every_call W (calls.Confirm slot) t m a = other-made W _ tt t
-every_call W (calls.Unconfirm slot) t m a = other-made W _ tt t
-every_call W (calls.Block slot blocked) t m a = other-made W _ tt t
-every_call W (calls.Mark slot seq) t m a = other-made W _ tt t
-every_call W (calls.Ping slot time) t m a = other-made W _ tt t
-every_call W (calls.Pong slot time) t m a = other-made W _ tt t
-every_call W (calls.Flush slot time) t m a = other-made W _ tt t
+every_call W (calls.Add id roundtrip max blocked unconfirmed) t m a = made_by W _ tt t refl
+every_call W (calls.Remove slot) t m a = made_by W _ tt t refl
+every_call W (calls.Confirm slot) t m a = made_by W _ tt t refl
+every_call W (calls.Unconfirm slot) t m a = made_by W _ tt t refl
+every_call W (calls.Block slot blocked) t m a = made_by W _ tt t refl
+every_call W (calls.Mark slot seq) t m a = made_by W _ tt t refl
+every_call W (calls.Ping slot time) t m a = made_by W _ tt t refl
+every_call W (calls.Pong slot time) t m a = made_by W _ tt t refl
+every_call W (calls.Flush slot time) t m a = made_by W _ tt t refl
 every_call W (calls.Send slot time msg bytes) t m a = let p : Msg = record { kind = msg; bytes = bytes } in record { world = send_at W slot time p; call = Send slot time p; leaves = refl }
 every_call W (calls.Resend slot time n) t m a = record { world = resend_at W slot time n; call = Resend slot time n t; leaves = refl }
 every_call W (calls.Ack slot time n) t m a =
@@ -380,9 +383,9 @@ every_call W (calls.Ack slot time n) t m a =
 every_call W (calls.Receive slot msg n bytes) t m a =
     let b = m slot msg n bytes refl in
     record { world = receive_at W slot b.0; call = Receive slot b.0 b.2 b.3; leaves = ap (λ c. next c (holds W.a)) (sym b.1) }
-every_call W calls.Show t m a = other-made W _ tt t
+every_call W calls.Show t m a = made_by W _ tt t refl
 every_call W calls.Take t m a = record { world = take_at W; call = Take; leaves = refl }
-every_call W calls.Due t m a = other-made W _ tt t
-every_call W calls.Close t m a = other-made W _ tt t
+every_call W calls.Due t m a = made_by W _ tt t refl
+every_call W calls.Close t m a = made_by W _ tt t refl
 every_call W (calls.TakeAck slot) t m a = record { world = take_ack_at W slot; call = TakeAck slot; leaves = refl }
-every_call W (calls.EarliestConfirmTimeout timeout unreliable) t m a = other-made W _ tt t
+every_call W (calls.EarliestConfirmTimeout timeout unreliable) t m a = made_by W _ tt t refl

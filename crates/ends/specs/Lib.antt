@@ -1,13 +1,9 @@
 pub mod World
 pub mod Demand
-pub mod Theorem
 pub mod Store
 pub mod Inv
 pub mod Left
 pub mod Queued
 pub mod TxSteps
 pub mod RxSteps
-pub mod Sender
-pub mod Receiver
-pub mod Drains
 pub mod NoneFar

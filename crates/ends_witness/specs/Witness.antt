@@ -51,7 +51,7 @@ use Rattle.engine.specs.Sizes.{PACKETS}
 use Rattle.laws.specs.Calls as calls
 use Rattle.ends.specs.World.{Msg, Packet, World, swap, holds, written, called, given_by, put_by, send_at, resend_at, accepted_by, receive_at, out_by, take_at, take_ack_at, fresh_world, fresh_end, BEHIND, TimelyAck, Call, Other, Send, Resend, Receive, Acked, Take, TakeAck, at_a, at_b, Run, here, ◌then◌, Fresh, fresh}
 use Rattle.ends.specs.Demand.{Emptied, SentOver, status_of, Returned, now, earlier, Open, Stops}
-use Rattle.ends.specs.Theorem.{demand3}
+use Rattle.ends.proofs.Theorem.{demand3}
 use Rattle.ends.specs.Store.{cell_bytes, copied-here, copied-long}
 
 -- ---- the calls that look at a store's length, with the length and the cell count written down

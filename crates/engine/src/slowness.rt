@@ -98,7 +98,7 @@ pub enum SlowAnswer {
     No(Refusal),
 }
 
-// The slow links of a lent run of rows, which is to be eight long. The answer and what it tells are one clause: the proof is by hand.
+// The slow links of a lent run of rows, which is to be eight long. The answer and what it tells are one clause.
 pub fn slow(rows: &[LinkRow]) -> SlowAnswer
     ensures { (result ≡ slow_links_of rows.now) × (slow_told result ≡ told_by (slow_verdict rows.now) (slow_slots rows.now)) }
 {

@@ -31,9 +31,9 @@ use Rattle.engine.specs.Deadlines.{confirm_timeout_told}
 use Rattle.refusal.specs.Answers.{Told, told_by}
 use Rattle.engine.proofs as engine
 use Rattle.laws.specs.Calls.{Call, Add, Remove, Confirm, Unconfirm, Block, Mark, Ping, Pong, Flush, Send, Resend, Ack, Receive, Show, Take, Due, Close, TakeAck, EarliestConfirmTimeout, Holding, with_state, table, told, next, Typed}
-use Rattle.laws.specs.Refused.{refused}
+use Rattle.laws.specs.Refused.{refused-told}
 use Rattle.laws.specs.Good.{Good}
-use Rattle.laws.specs.SoundKept.{kept}
+use Rattle.laws.specs.SoundKept.{kept-by}
 use Rattle.laws.specs.RecordsKept.{records-kept}
 use Rattle.engine.specs.Sound.{SoundRecords}
 use Rattle.laws.specs.Unique.{Place, lent, lent_mut}
@@ -110,11 +110,11 @@ tied (EarliestConfirmTimeout timeout unreliable) h = λ κs r e p. (p.1, refl)
 module _ (c : Call) (h : Holding) (t : Told) (after : Holding) (says : Says c h t after) where
   -- "Each returns its number alone; state and lent bytes stay as they came."
   pub refused-by-promise : t.number ≢ 0 → after ≡ h
-  refused-by-promise some = says.1 ∙ refused c h (λ zero. some (ap (λ (x : Told). x.number) says.0 ∙ zero))
+  refused-by-promise some = says.1 ∙ refused-told c h (λ zero. some (ap (λ (x : Told). x.number) says.0 ∙ zero))
 
   -- "Calls keep a sound state sound."
   pub kept-by-promise : Typed c → Good h.state → Good after.state
-  kept-by-promise typed good = subst (λ (k : Holding). Good k.state) (sym says.1) (kept c h typed good)
+  kept-by-promise typed good = subst (λ (k : Holding). Good k.state) (sym says.1) (kept-by (λ slot time n t. t) c h typed good)
 
   -- .. and so its records
   pub recorded-by-promise : Typed c → Good h.state → SoundRecords (table h) → SoundRecords (table after)

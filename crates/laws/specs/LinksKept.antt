@@ -236,10 +236,11 @@ module _ (start buffer cells : ℕ) (number : start < 2 ^ 32) where
 
     -- .. and sound with it, whatever they held
     pub fresh-recorded : SoundRecords (table_of (fresh_of start buffer cells (length records)).state.rx (fresh_records buffer cells records))
-    unfolding fresh_state fresh_rx bytes_in
+    unfolding fresh_state fresh_rx fresh_records bytes_in
     fresh-recorded =
+        let sound : Verdict → ℕ → Type 0 = λ v n. SoundRecords (table_of (fresh_state start buffer cells).rx (store_by v records (replicate n 0))) in
         subst (λ (s : State). SoundRecords (table_of s.rx (fresh_records buffer cells records))) (sym fresh-is)
-        (subst (λ (l : List ℕ). SoundRecords (table_of (fresh_state start buffer cells).rx l)) (sym fresh-records-are) none-used)
+        (subst (λ (v : Verdict). sound v (length records)) (sym e) (subst (λ (n : ℕ). sound Pass n) (sym fresh-passed.lent) none-used))
       where
         none-used : SoundRecords (table_of (fresh_state start buffer cells).rx (replicate cells 0))
         none-used =

@@ -1,6 +1,6 @@
 -- What holds of every call by its verdict: a refused one leaves all as it came; one that passes tells 0, leaves `done`, says of its arguments what `Passed`
 -- says, and keeps a good state so. Assumes nothing.
-use Rattle.std.specs.Prelude.{◌≡◌, refl, length, false}
+use Rattle.std.specs.Prelude.{◌≡◌, refl, ℕ, ◌^◌, ◌<◌, length, false}
 use Rattle.std.proofs.Common.{sym, ap, subst}
 use Rattle.refusal.specs.declared.Refusal.{Refusal}
 use Rattle.refusal.specs.declared.verdict.Verdict.{Verdict}
@@ -152,26 +152,33 @@ passed (EarliestConfirmTimeout timeout unreliable) h t g e = tt
 
 -- ---- an accepted call keeps a good state so: those of the single calls are in the files *Kept
 
-pub done-good : (c : Call) (h : Holding) → Typed c → Good h.state → Passed c h → Good (done c h).state
-done-good (Add id roundtrip max blocked unconfirmed) h t g p = added-good h.state g id roundtrip max blocked unconfirmed p
-done-good (Remove slot) h t g p = removed-good h.state g slot p
-done-good (Confirm slot) h t g p = confirmed-good h.state g slot p
-done-good (Unconfirm slot) h t g p = unconfirmed-good h.state g slot p
-done-good (Block slot blocked) h t g p = blocked-good h.state g slot blocked p
-done-good (Mark slot seq) h t g p = marked-good h.state g slot (At seq) p
-done-good (Ping slot time) h t g p = pinged-good h.state g slot time p
-done-good (Pong slot time) h t g p = ponged-good h.state g slot time p
-done-good (Flush slot time) h t g p = flushed-good h.state g slot time p
-done-good (Send slot time msg bytes) h t g p = sent-good h.state g (length h.sent) slot time msg (length bytes) p
-done-good (Resend slot time n) h t g p = resent-good h.state g slot time n t p
-done-good (Ack slot time n) h t g p = acked-good h.state g slot time n t p.timed
-done-good (Receive slot msg n bytes) h t g p =
+-- a typed ack has a number of 32 bits: each law below asks that where it is stated, so that a definition that says less of an ack refuses each by itself
+abbrev pub AckIsNumber : Type 0
+AckIsNumber = (slot time n : ℕ) → Typed (Ack slot time n) → n < 2 ^ 32
+
+pub done-good-by : AckIsNumber → (c : Call) (h : Holding) → Typed c → Good h.state → Passed c h → Good (done c h).state
+done-good-by acked (Add id roundtrip max blocked unconfirmed) h t g p = added-good h.state g id roundtrip max blocked unconfirmed p
+done-good-by acked (Remove slot) h t g p = removed-good h.state g slot p
+done-good-by acked (Confirm slot) h t g p = confirmed-good h.state g slot p
+done-good-by acked (Unconfirm slot) h t g p = unconfirmed-good h.state g slot p
+done-good-by acked (Block slot blocked) h t g p = blocked-good h.state g slot blocked p
+done-good-by acked (Mark slot seq) h t g p = marked-good h.state g slot (At seq) p
+done-good-by acked (Ping slot time) h t g p = pinged-good h.state g slot time p
+done-good-by acked (Pong slot time) h t g p = ponged-good h.state g slot time p
+done-good-by acked (Flush slot time) h t g p = flushed-good h.state g slot time p
+done-good-by acked (Send slot time msg bytes) h t g p = sent-good h.state g (length h.sent) slot time msg (length bytes) p
+done-good-by acked (Resend slot time n) h t g p = resent-good h.state g slot time n t p
+done-good-by acked (Ack slot time n) h t g p = acked-good h.state g slot time n (acked slot time n t) p.timed
+done-good-by acked (Receive slot msg n bytes) h t g p =
     cases (again h n)
     (λ old. simp old (repeated-good h.state g slot n p.at))
     (λ new. simp new (received-good h.state g (length h.received) h.records slot msg n (length bytes) p new).state)
-done-good Show h t g p = g
-done-good Take h t g p = (taken-good h.state g h.records _ _ _ p).state
-done-good Due h t g p = g
-done-good Close h t g p = read-good h.state false g
-done-good (TakeAck slot) h t g p = take-ack-good h.state g slot p.at
-done-good (EarliestConfirmTimeout timeout unreliable) h t g p = g
+done-good-by acked Show h t g p = g
+done-good-by acked Take h t g p = (taken-good h.state g h.records _ _ _ p).state
+done-good-by acked Due h t g p = g
+done-good-by acked Close h t g p = read-good h.state false g
+done-good-by acked (TakeAck slot) h t g p = take-ack-good h.state g slot p.at
+done-good-by acked (EarliestConfirmTimeout timeout unreliable) h t g p = g
+
+pub done-good : (c : Call) (h : Holding) → Typed c → Good h.state → Passed c h → Good (done c h).state
+done-good = done-good-by (λ slot time n t. t)

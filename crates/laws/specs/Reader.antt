@@ -1,13 +1,12 @@
 -- Request [4]: "a call that closes it for good; closing twice is accepted and changes nothing. With the reader closed, messages are still
 -- received, acked and taken as before." No call's answer but that of `is_consume_ack_required` goes by the reader, nothing that a call leaves does,
 -- and only the closing call changes it. Assumes nothing.
-use Rattle.std.specs.Prelude.{◌≡◌, refl, ◌≢◌, Bool, true, false, cond, ◌&&◌, List, [], ◌∷◌, ℕ, eqb, length}
+use Rattle.std.specs.Prelude.{◌≡◌, refl, ◌≢◌, Bool, true, false, cond, ◌&&◌, ℕ, eqb, length}
 use Rattle.std.proofs.Common.{sym, ◌∙◌}
 use Rattle.std.proofs.Math.Path.{ap}
 use borrow.Table.Steps.{cases}
 use Rattle.refusal.specs.declared.verdict.Verdict.{Verdict}
 use Rattle.refusal.specs.declared.verdict.Verdict.TheVariants.{Pass, No}
-use Rattle.refusal.specs.Answers.{told_by}
 use Rattle.refusal.specs.Verdicts.{gate}
 use Rattle.link.specs.declared.timeout.AckTimeout.{AckTimeout}
 use Rattle.engine.specs.declared.state.State.{State}
@@ -25,17 +24,14 @@ use Rattle.engine.specs.Sending.{send_verdict, totals_ok, sent_state}
 use Rattle.engine.specs.Resending.{resend_verdict, resent_state}
 use Rattle.engine.specs.Acking.{ack_verdict, acked_row, acked_tx, acked_state}
 use Rattle.engine.specs.Receiving.{lengths_ok, message_verdict, receive_verdict, repeated_state, effect_state, received_state}
-use Rattle.engine.specs.declared.handing_out.HandOut.{HandOut}
-use Rattle.engine.specs.HandingOut.{hand_out_by, part_as, place_as, show_verdict, take_verdict, taken_state, take_ack_verdict, taken_ack_state, showing_of, shown_of, shown_at}
+use Rattle.engine.specs.HandingOut.{show_verdict, take_verdict, taken_state, take_ack_verdict, taken_ack_state}
 use Rattle.engine.specs.Closing.{closed_state, close_of}
 use Rattle.engine.specs.Deadlines.{confirm_timeout_verdict, first_sent, named_values, deadline_of}
 use Rattle.engine.specs.Packets.{packets}
 use Rattle.engine.specs.Sizes.{SENT_BYTES}
 use Rattle.engine.specs.Fields.{with_reader}
 use Rattle.laws.specs.ReaderKept.{read-sound}
-use Rattle.laws.specs.Calls.{Call, Add, Remove, Confirm, Unconfirm, Block, Mark, Ping, Pong, Flush, Send, Resend, Ack, Receive, Show, Take, Due, Close, TakeAck, EarliestConfirmTimeout, Holding, with_state, table, again, verdict, values, told, next, done}
-use Rattle.laws.specs.Passed.{left_passed, left-refused}
-use Rattle.laws.specs.SoundKept.{after}
+use Rattle.laws.specs.Calls.{Call, Add, Remove, Confirm, Unconfirm, Block, Mark, Ping, Pong, Flush, Send, Resend, Ack, Receive, Show, Take, Due, Close, TakeAck, EarliestConfirmTimeout, Holding, with_state, table, again, verdict, values, done}
 
 -- the same with the reader open or closed
 abbrev pub reading : Bool → Holding → Holding
@@ -65,7 +61,7 @@ one_of true s t reads = refl
 one_of false s t reads = refl
 
 -- of one call: its verdict is the same; so are its values, but for Due's; and so is what it leaves, but for Close's where the reader is to be open
-abbrev Alike : Call → Holding → Bool → Type 0
+abbrev pub Alike : Call → Holding → Bool → Type 0
 Alike c h reads =
     (verdict c (reading reads h) ≡ verdict c h)
     × ((c ≢ Due → values c (reading reads h) ≡ values c h) × ((c ≡ Close → reads ≡ false) → done c (reading reads h) ≡ reading reads (done c h)))
@@ -77,7 +73,7 @@ by-sound-with : (h : Holding) (reads : Bool) (rest : Verdict) → gate (sound_wi
 unfolding sound_withb
 by-sound-with h reads rest = ap (λ ok. gate (ok && recordsb (table h)) 1 rest) (reader-sound h.state reads)
 
-alike : (c : Call) (h : Holding) (reads : Bool) → Alike c h reads
+pub alike : (c : Call) (h : Holding) (reads : Bool) → Alike c h reads
 unfolding slot_verdict timed_verdict add_verdict send_verdict totals_ok resend_verdict ack_verdict receive_verdict message_verdict show_verdict take_verdict take_ack_verdict confirm_timeout_verdict slot_ok time_ok row_of unconfirmed_state removed_state flushed_state sent_state resent_state acked_row acked_tx acked_state repeated_state effect_state received_state taken_state taken_ack_state
 alike (Add id roundtrip max blocked unconfirmed) h reads = (by-sound h reads _, (λ u. refl, λ u. refl))
 alike (Remove slot) h reads = (by-sound h reads _, (λ u. refl, λ u. refl))
@@ -104,49 +100,7 @@ alike Close h reads = (by-sound h reads _, (λ u. refl, λ u. ap (λ b. reading 
 alike (TakeAck slot) h reads = (by-sound h reads _, (λ u. refl, λ u. refl))
 alike (EarliestConfirmTimeout timeout unreliable) h reads = (by-sound h reads _, (λ u. named-reading (first_sent (packets h.state.tx)) h.state reads timeout unreliable, λ u. refl))
 
--- ---- the laws
-
-module _ (c : Call) (h : Holding) (reads : Bool) where
-  -- "as before": no answer goes by the reader but whether a Consumed is due
-  pub reader-told : c ≢ Due → told c (reading reads h) ≡ told c h
-  reader-told ne = let a = alike c h reads in ap (λ v. told_by v (values c (reading reads h))) a.0 ∙ ap (told_by (verdict c h)) (a.1.0 ne)
-
-  -- a call on a state with its reader closed leaves what it leaves of the open one, with the reader closed; but for the closing call, the other way round too
-  pub reader-left : (c ≡ Close → reads ≡ false) → next c (reading reads h) ≡ reading reads (next c h)
-  reader-left shut = go (verdict c h) refl
-    where
-      go : (v : Verdict) → verdict c h ≡ v → next c (reading reads h) ≡ reading reads (next c h)
-      go Pass e = left_passed c (reading reads h) ((alike c h reads).0 ∙ e) ∙ (alike c h reads).1.1 shut ∙ ap (reading reads) (sym (left_passed c h e))
-      go (No r) e = left-refused c (reading reads h) r ((alike c h reads).0 ∙ e) ∙ ap (reading reads) (sym (left-refused c h r e))
-
--- what is shown, and where it lies
-module _ (h : Holding) (reads : Bool) where
-  showing-reading : showing_of (with_reader h.state reads) (length h.received) h.records ≡ showing_of h.state (length h.received) h.records
-  unfolding showing_of
-  showing-reading = ap (λ v. hand_out_by v (table h)) (alike Show h reads).0
-
-  pub reader-shown : shown_of (with_reader h.state reads) h.received h.records ≡ shown_of h.state h.received h.records
-  unfolding shown_of
-  reader-shown = ap (λ (a : HandOut). part_as h.state.rx.cells a h.received) showing-reading
-
-  pub reader-shown-at : (at : ℕ × ℕ) → shown_at (with_reader h.state reads) (length h.received) h.records at ≡ shown_at h.state (length h.received) h.records at
-  unfolding shown_at
-  reader-shown-at at = ap (λ (a : HandOut). place_as h.state.rx.cells a at) showing-reading
-
--- "for good": only the closing call changes whether the reader is open ..
-abbrev is_open : Holding → Bool
-is_open h = h.state.read_open
-
-pub reader-kept : (c : Call) (h : Holding) → c ≢ Close → (next c h).state.read_open ≡ h.state.read_open
-reader-kept c h ne = ap is_open (reader-left c h (is_open h) (λ e. absurd (ne e)))
-
--- .. and no call opens one that has closed, in whatever order they come
-pub reader-closed : (cs : List Call) (h : Holding) → h.state.read_open ≡ false → (after cs h).state.read_open ≡ false
-unfolding after
-reader-closed [] h e = e
-reader-closed (c ∷ cs) h e =
-    let shut : h ≡ reading false h = ap (λ b. reading b h) e in
-    reader-closed cs (next c h) (ap (λ k. is_open (next c k)) shut ∙ ap is_open (reader-left c h false (λ u. refl)))
+-- ---- the laws that every call has (those that rest on `alike` stand in proofs/Reader.antt)
 
 -- "closing twice is accepted and changes nothing", and where it is refused, it is refused again
 pub closed-twice : (s : State) → close_of (close_of s).state ≡ close_of s

@@ -18,7 +18,7 @@ use Rattle.engine.specs.Fields.{with_bytes}
 use Rattle.laws.specs.Good.{Good}
 use Rattle.laws.specs.Calls.{Call, Add, Remove, Confirm, Unconfirm, Block, Mark, Ping, Pong, Flush, Send, Resend, Ack, Receive, Show, Take, Due, Close, TakeAck, EarliestConfirmTimeout, Holding, table, again, next, Typed, done, Passed}
 use Rattle.laws.specs.Passed.{next-keeps, passed}
-use Rattle.laws.specs.SoundKept.{kept, after, AllTyped}
+use Rattle.laws.specs.SoundKept.{kept-by, after, AllTyped}
 use Rattle.laws.specs.ReceiveKept.{received-good}
 use Rattle.laws.specs.TakeKept.{taken-good}
 use Rattle.laws.specs.LinksKept as links
@@ -70,4 +70,4 @@ fresh-recorded = links.fresh-recorded
 pub always-recorded : (cs : List Call) (h : Holding) → AllTyped cs → Good h.state → SoundRecords (table h) → SoundRecords (table (after cs h))
 unfolding after
 always-recorded [] h t g r = r
-always-recorded (c ∷ cs) h t g r = always-recorded cs (next c h) t.1 (kept c h t.0 g) (records-kept c h t.0 g r)
+always-recorded (c ∷ cs) h t g r = always-recorded cs (next c h) t.1 (kept-by (λ slot time n p. p) c h t.0 g) (records-kept c h t.0 g r)

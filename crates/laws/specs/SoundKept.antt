@@ -5,11 +5,14 @@ use Rattle.refusal.specs.declared.verdict.Verdict.TheVariants.{Pass}
 use Rattle.engine.specs.Starting.{fresh_verdict, fresh_of}
 use Rattle.laws.specs.Good.{Good}
 use Rattle.laws.specs.Calls.{Call, Holding, next, Typed}
-use Rattle.laws.specs.Passed.{next-keeps, passed, done-good}
+use Rattle.laws.specs.Passed.{next-keeps, passed, AckIsNumber, done-good-by}
 use Rattle.laws.specs.LinksKept as links
 
+pub kept-by : AckIsNumber → (c : Call) (h : Holding) → Typed c → Good h.state → Good (next c h).state
+kept-by acked c h t g = next-keeps c h (λ k. Good k.state) g (λ e. done-good-by acked c h t g (passed c h t g e))
+
 pub kept : (c : Call) (h : Holding) → Typed c → Good h.state → Good (next c h).state
-kept c h t g = next-keeps c h (λ k. Good k.state) g (λ e. done-good c h t g (passed c h t g e))
+kept = kept-by (λ slot time n t. t)
 
 -- a fresh state is sound, and so is every state that calls make of it, in any order and with any arguments
 pub fresh-good : (start buffer cells : ℕ) → start < 2 ^ 32 → (records : List ℕ) → fresh_verdict buffer cells (length records) ≡ Pass
@@ -27,4 +30,4 @@ AllTyped (c ∷ cs) = Typed c × AllTyped cs
 pub always-good : (cs : List Call) (h : Holding) → AllTyped cs → Good h.state → Good (after cs h).state
 unfolding after
 always-good [] h t g = g
-always-good (c ∷ cs) h t g = always-good cs (next c h) t.1 (kept c h t.0 g)
+always-good (c ∷ cs) h t g = always-good cs (next c h) t.1 (kept-by (λ slot time n p. p) c h t.0 g)

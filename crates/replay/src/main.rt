@@ -8,12 +8,48 @@ ghost use Rattle.replaying.specs.Pieces.{lent};
 
 use recording::MAX_LINE;
 use replaying::{CELLS, LINE_TEXT, RECEIVED_BYTES, Session, begin, close, feed};
-use std::io::{ErrorKind, Read};
+use std::io::{Cursor, Error, ErrorKind, Read, Write};
+use std::str;
 
-// The descriptors of standard output and of standard error.
-const STDOUT_FILENO: i32 = 1;
-
+// The descriptor of standard error.
 const STDERR_FILENO: i32 = 2;
+
+fn complain(what: &[u8]) {
+    io::write_all(STDERR_FILENO, what);
+}
+
+// The text of an error without the number that std puts behind the system's words.
+fn words_of(text: &str) -> &str {
+    match text.split_once(" (os error ") {
+        Some((words, _)) => words,
+        None => text,
+    }
+}
+
+// Says what failed, and why. The room is enough for the longest text of an error, whose words the system has in 256 bytes.
+fn complain_of(what: &[u8], error: Error) {
+    complain(what);
+    complain(b": ");
+    let mut room = Cursor::new([0u8; 320]);
+    let _ = write!(room, "{error}");
+    let text = room.get_ref();
+    let length = (room.position() as usize).min(text.len());
+    if let Ok(text) = str::from_utf8(&text[..length]) {
+        complain(words_of(text).as_bytes());
+    }
+    complain(b"\n");
+}
+
+// Writes a text, or says why it could not be written.
+fn show(output: &mut impl Write, text: &[u8]) -> bool {
+    match output.write_all(text) {
+        Ok(()) => true,
+        Err(error) => {
+            complain_of(b"replay: standard output cannot be written", error);
+            false
+        }
+    }
+}
 
 // A session to go on with, and whether all of its text could be written.
 #[derive(Clone, Copy)]
@@ -25,6 +61,7 @@ struct Going {
 // Answers the lines that end in a piece of the input, up to the first text that cannot be written. What a buffer has no room for is
 // fed again.
 fn answer_piece(
+    output: &mut impl Write,
     session: Session,
     store: &mut [u8],
     records: &mut [u64],
@@ -41,7 +78,7 @@ fn answer_piece(
         let fed = feed(going, store, records, line, &piece[at..], out);
         going = fed.session;
         at += fed.used;
-        if !io::write_all(STDOUT_FILENO, &out[..fed.wrote]) {
+        if !show(output, &out[..fed.wrote]) {
             return Going {
                 session: going,
                 is_written: false,
@@ -58,24 +95,32 @@ fn answer_piece(
 #[derive(Clone, Copy)]
 enum Ended {
     Closed,
+    // and why was said
     Unread,
     Unwritten,
 }
 
 // The end of the input: its last line is answered.
-fn finish(session: Session, store: &mut [u8], records: &mut [u64], line: &[u8; MAX_LINE]) -> Ended {
+fn finish(
+    output: &mut impl Write,
+    session: Session,
+    store: &mut [u8],
+    records: &mut [u64],
+    line: &[u8; MAX_LINE],
+) -> Ended {
     let mut text = [0u8; LINE_TEXT];
     let closed = close(session, store, records, line, &mut text);
-    if io::write_all(STDOUT_FILENO, &text[..closed.wrote]) {
+    if show(output, &text[..closed.wrote]) {
         return Ended::Closed;
     }
     Ended::Unwritten
 }
 
-// Replays an input. A read that a signal interrupted has brought an empty piece. A proved loop has to end, so this one counts its turns down,
-// from a number that no run uses up.
+// Replays an input. A read that a signal interrupted has brought an empty piece. A proved loop has to end, so this one has a number of turns
+// that no run uses up.
 fn replay_input(
     input: &mut impl Read,
+    output: &mut impl Write,
     store: &mut [u8],
     records: &mut [u64],
     line: &mut [u8; MAX_LINE],
@@ -84,16 +129,17 @@ fn replay_input(
     let mut buffer = io::large_buffer();
     for _ in 0..u64::MAX {
         let n = match input.read(&mut buffer) {
-            Ok(0) => return finish(session, store, records, line),
+            Ok(0) => return finish(output, session, store, records, line),
             Ok(n) => n,
             Err(error) => {
                 if error.kind() != ErrorKind::Interrupted {
+                    complain_of(b"replay: standard input cannot be read", error);
                     return Ended::Unread;
                 }
                 0
             }
         };
-        let going = answer_piece(session, store, records, line, &buffer[..n]);
+        let going = answer_piece(output, session, store, records, line, &buffer[..n]);
         if !going.is_written {
             return Ended::Unwritten;
         }
@@ -102,17 +148,15 @@ fn replay_input(
     Ended::Unread
 }
 
-fn complain(what: &[u8]) {
-    io::write_all(STDERR_FILENO, what);
-}
-
 fn main(rt: HostRuntime) {
     let mut store = [0u8; RECEIVED_BYTES];
     let mut records = [0u64; CELLS];
     let mut line = [0u8; MAX_LINE];
-    match replay_input(&mut rt.stdin(), &mut store, &mut records, &mut line) {
-        Ended::Closed => {}
-        Ended::Unread => complain(b"replay: standard input cannot be read\n"),
-        Ended::Unwritten => complain(b"replay: standard output cannot be written\n"),
-    }
+    replay_input(
+        &mut rt.stdin(),
+        &mut rt.stdout(),
+        &mut store,
+        &mut records,
+        &mut line,
+    );
 }

@@ -1,8 +1,8 @@
 -- What the words of a state say. Every list of words says some state: a number of 32 bits is its word's lower half, a slot its word's lowest byte, a flag
 -- is set by any word but 0. A tag that is none makes a packet that no sound state has, and so does a message word that is none; words of any other length say a
 -- state without cells, which is not sound. Assumes nothing.
-use Rattle.std.specs.Prelude.{◌≡◌, refl, Bool, true, false, cond, not, List, [], map, ℕ, ◌%◌, eqb, length, get_or}
-use Rattle.std.proofs.Common.{ap, eq-eqb}
+use Rattle.std.specs.Prelude.{◌≡◌, Bool, true, false, cond, not, List, [], map, ℕ, ◌%◌, eqb, length, get_or}
+use Rattle.std.proofs.Common.{eq-eqb}
 use Rattle.seq.specs.declared.Seq.{Seq}
 use Rattle.seq.specs.Numbers.{seq_of}
 use Rattle.msg.specs.declared.reliable.ReliableMsg.TheVariants.{Data}

@@ -1,7 +1,7 @@
 -- Words by their places: a part of a list of words, what writing over a part leaves of the others, and lists with an entry for each number.
 -- Assumes nothing.
 use Rattle.std.specs.Prelude.{◌≡◌, refl, ◌⊎◌, List, [], ◌∷◌, ◌++◌, map, ℕ, zero, suc, ◌+◌, ◌-◌, ◌≤◌, ◌<◌, length, get_or, set, take, drop}
-use Rattle.std.proofs.Common.{sym, ap, ◌∙◌, inl, inr, append_assoc, append-nil, add-one, arith, length-take, length-drop, length-append, take-append-drop, length-take-le, take_all, take_at, drop_at, drop-drop, get_or-take, get_or-drop}
+use Rattle.std.proofs.Common.{sym, ap, ◌∙◌, inl, inr, append_assoc, append-nil, add-one, arith, length-drop, length-append, take-append-drop, length-take-le, take_all, drop_at, drop-drop, get_or-take, get_or-drop}
 use Rattle.std.proofs.lemmas.List.{take-append-le, drop-append-le, set_split}
 use Rattle.std.proofs.Math.Seq.{drop-append-add, take-append_seam}
 use Rattle.std.proofs.lemmas.List.Edits.{sets, sets-eq}

@@ -1,6 +1,6 @@
 -- What the functions leave that write a part of a state's words: the part was lent on as a run, and came back as the words of what is put there.
 -- Assumes nothing.
-use Rattle.std.specs.Prelude.{◌≡◌, refl, ℕ, zero, suc, ◌+◌, ◌-◌, ◌^◌, ◌≤◌, ◌<◌, get_or, take, Bool}
+use Rattle.std.specs.Prelude.{◌≡◌, refl, ℕ, zero, suc, ◌+◌, ◌-◌, ◌^◌, ◌<◌, take, Bool}
 use Rattle.std.proofs.Common.{sym, ◌∙◌, arith, length-append}
 use Rattle.std.proofs.Math.Path.{ap}
 use mathlib.Core.List.{List, [], ◌∷◌, ◌++◌, map}
@@ -12,14 +12,13 @@ use Rattle.link.specs.Fields.{with_acks, with_trip, with_sending}
 use Rattle.link.specs.Acks.{shifted}
 use Rattle.engine.specs.declared.state.Receiving.{Receiving}
 use Rattle.engine.specs.declared.state.SentReliable.{SentReliable}
-use Rattle.engine.specs.declared.state.State.{State}
 use Rattle.engine.specs.Fields.{with_row, with_tx, with_rx, with_time, with_reader, with_packets, with_queue}
 use Rattle.engine.specs.Sound.{row_at}
 use Rattle.refusal.specs.Answers.{flag}
 use Rattle.words.specs.declared.sending.SendingNumbers.{SendingNumbers}
 use Rattle.words.specs.Parts.{part, part_length, one_word, lent-part, entries}
 use Rattle.words.specs.Layout.{WORDS, TX, RX, TIME, READER, row_start, packet_start, QUEUE, acks_start}
-use Rattle.words.specs.Meaning.{seq_word, is_set, row_of, acks_in, queue_in, state_of}
+use Rattle.words.specs.Meaning.{seq_word, row_of, acks_in, queue_in, state_of}
 use Rattle.words.specs.Encoded.{set-flag, half-small, rx_words, SmallRx, rx-back, with_counts, numbers_words, SmallNumbers, tx-back, row_words, SmallLimit, limit-back, row_back, acked_words, packet_words, SmallSlot, packet-back}
 use Rattle.words.specs.OneWord.{row_word, row-changed}
 use Rattle.words.specs.Read.{acks-read, queue-read, row_read}

@@ -1,12 +1,9 @@
 -- Words that a call in place is given: those of a sound state. Assumes nothing.
-use Rattle.std.specs.Prelude.{◌≡◌, refl, ◌≢◌, true, List, [], map, ℕ, ◌%◌, ◌^◌, ◌<◌, length, get_or}
+use Rattle.std.specs.Prelude.{◌≡◌, ◌≢◌, true, List, ℕ, ◌^◌, ◌<◌, length, get_or}
 use Rattle.std.proofs.Common.{sym, ap, ◌∙◌, subst, mod-lt, arith}
 use Rattle.std.proofs.lemmas.List.{length-map}
-use Rattle.seq.specs.declared.Seq.{Seq}
 use Rattle.link.specs.declared.row.LinkRow.{LinkRow}
 use Rattle.link.specs.Row.{no_row}
-use Rattle.link.specs.Sizes.{ACKS}
-use Rattle.engine.specs.declared.state.State.{State}
 use Rattle.engine.specs.Sound.{Sound, Shaped, row_at}
 use Rattle.engine.specs.Decide.{soundb, sound}
 use Rattle.words.specs.Parts.{part, part_length, part_at, entries-length, entry_at}

@@ -1,26 +1,21 @@
 -- What writing over one part of a state's words does to the state: that part says something else, and every other what it said. Assumes nothing.
-use Rattle.std.specs.Prelude.{◌≡◌, refl, ◌⊎◌, Bool, ℕ, ◌+◌, ◌*◌, ◌≤◌, ◌<◌, ltb}
-use Rattle.std.proofs.Common.{sym, subst, ◌∙◌, ⊎_elim, eq-or-lt_of_le, ltb-true, ltb-false}
+use Rattle.std.specs.Prelude.{◌≡◌, ◌⊎◌, Bool, ℕ, ◌+◌, ◌≤◌, ◌<◌, ltb}
+use Rattle.std.proofs.Common.{sym, ◌∙◌, ⊎_elim, eq-or-lt_of_le, ltb-true, ltb-false}
 use Rattle.std.proofs.Math.Path.{ap, ap₂}
 use Rattle.std.proofs.Math.Logic.{inl, inr}
 use mathlib.Core.List.{List, [], ◌∷◌, map}
 use native.Mathlib.Omega.{arith}
 use borrow.Table.Steps.{cases}
-use Rattle.std.proofs.Math.ListN.{length, get_or, set, get_or-map}
-use Rattle.std.proofs.lemmas.List.{length-map}
-use Rattle.seq.specs.declared.Seq.{Seq}
-use Rattle.seq.specs.Numbers.{seq_of}
+use Rattle.std.proofs.Math.ListN.{length, get_or, set}
 use Rattle.link.specs.declared.row.LinkRow.{LinkRow}
-use Rattle.link.specs.Row.{no_row}
 use Rattle.engine.specs.Stores.{copied}
 use Rattle.engine.specs.Fields.{with_row, with_tx, with_rx, with_time, with_reader, with_packets, with_queue}
-use Rattle.engine.specs.Packets.{no_packet}
 use Rattle.engine.specs.declared.state.State.{State}
 use Rattle.engine.specs.declared.state.Sending.{Sending}
 use Rattle.engine.specs.declared.state.Receiving.{Receiving}
-use Rattle.words.specs.Parts.{part, part_length, part_at, part_in, part_out, copied-length, entries, entries-length, entry_at, same_entries, put-entry}
+use Rattle.words.specs.Parts.{part, part_at, part_in, part_out, copied-length, same_entries, put-entry}
 use Rattle.words.specs.Layout.{WORDS, TX, RX, TIME, READER, row_start, acks_start, packet_start, QUEUE}
-use Rattle.words.specs.Meaning.{half, seq_word, is_set, row_of, packet_of, acks_in, links_in, packets_in, queue_in, tx_of, rx_of, decoded, state_of, stated}
+use Rattle.words.specs.Meaning.{seq_word, is_set, row_of, packet_of, acks_in, links_in, packets_in, queue_in, tx_of, rx_of, decoded, state_of, stated}
 
 abbrev state_from : List LinkRow → Sending → Receiving → ℕ → Bool → State
 state_from links tx rx time reads = record { links = links; tx = tx; rx = rx; time = time; read_open = reads }

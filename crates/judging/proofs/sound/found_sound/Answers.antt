@@ -51,8 +51,8 @@ returns-then-not-sums_ok c = let s = state_of c.args.words.now in
 pub returns : goal.returns
 returns c = let s = state_of c.args.words.now in
     let all = tally_of s.tx (roster_of s.links) s.time in
-    let ok : all.ok ≡ true = sym (clipped-ok all) ∙ ap (λ (t : Tally). t.ok) (sym c.tallied-t.ensures) ∙ not-false c.tallied-t.result.ok c.if-not-t.false in
-    let t : c.tallied-t.result ≡ all = c.tallied-t.ensures ∙ clipped-well all ok in
+    let well : all.ok ≡ true = sym (clipped-ok all) ∙ ap (λ (t : Tally). t.ok) (sym c.tallied-t.ensures) ∙ not-false c.tallied-t.result.ok c.if-not-t.false in
+    let t : c.tallied-t.result ≡ all = c.tallied-t.ensures ∙ clipped-well all well in
     let few : s.tx.txed_count ≤ 64 = subst (λ (n : SendingNumbers). n.txed_count ≤ 64) c.tx_of-tx.ensures c.if-tx-gt-PACKETS.false in
     let now : get_or c.args.words.now 24 0 ≡ s.time = sym (time-read c.args.words.now c.requires) in
     c.links_ok.ensures
@@ -60,6 +60,6 @@ returns c = let s = state_of c.args.words.now in
     ∙ sym (sound-links s few record {
       receiving = ap receivingb (sym c.rx_of-rx.ensures) ∙ sym c.receiving_ok.ensures ∙ c.if-not-receiving_ok.false;
       first = sym c.first_ok.ensures ∙ c.if-not-first_ok.false;
-      tally = ok;
+      tally = well;
       sums = ap (sums_ok s.tx) (sym t) ∙ sym c.sums_ok.ensures ∙ c.if-not-sums_ok.false;
     })

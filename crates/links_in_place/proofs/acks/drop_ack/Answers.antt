@@ -7,7 +7,6 @@ use Rattle.engine.specs.Sound.{row_at}
 use Rattle.words.specs.Meaning.{state_of}
 use Rattle.links_in_place.specs.Acks.{links-long, acks-dropped}
 use Rattle.links_in_place.specs.RowsBare.{over}
-use borrow.Author.Rules.{rules}
 use Rattle.links_in_place.proofs.acks.drop_ack.Goals as goal
 
 pub returns : goal.returns

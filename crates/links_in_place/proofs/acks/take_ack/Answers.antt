@@ -1,13 +1,11 @@
 -- By the slot and by whether an ack waits.
 use native.Mathlib.Omega.{arith}
 use mathlib.Core.Path.{refl, sym, ap, ◌∙◌}
-use borrow.Author.Tests.{not-true, not-false}
 use Rattle.link.specs.declared.row.LinkRow.{LinkRow}
 use Rattle.engine.specs.declared.handing_out.TakeAck.TheVariants.{Number}
 use Rattle.words.specs.Meaning.{state_of}
 use Rattle.links_in_place.specs.Acks.{ack-no-slot, ack-none, ack-taken}
 use Rattle.links_in_place.specs.Gated.{slot_small}
-use borrow.Author.Rules.{rules}
 use Rattle.links_in_place.proofs.acks.take_ack.Goals as goal
 
 pub returns-then-not-slot_ok : goal.returns-then-not-slot_ok

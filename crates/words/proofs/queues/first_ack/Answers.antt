@@ -1,7 +1,6 @@
 -- The first word of the run.
 use mathlib.Core.Path.{sym, ◌∙◌}
 use Rattle.words.specs.Read.{ack-read}
-use borrow.Author.Rules.{rules}
 use Rattle.words.proofs.queues.first_ack.Goals as goal
 
 pub returns : goal.returns

@@ -1,6 +1,5 @@
 -- The run comes back without its first.
 use Rattle.words.specs.Put.{acks-shift}
-use borrow.Author.Rules.{rules}
 use Rattle.words.proofs.queues.shift_acks.Goals as goal
 
 pub returns : goal.returns

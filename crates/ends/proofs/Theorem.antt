@@ -50,9 +50,9 @@ use Rattle.ends.specs.Demand.{handed, Safe, Complete, AllOut, Returned, now, ear
 use Rattle.ends.specs.Inv.{way, Inv}
 use Rattle.ends.specs.RxSteps.{handed-append, rx-ahead}
 use Rattle.ends.specs.TxSteps.{longer}
-use Rattle.ends.specs.Sender.{sender, ack-small, newest-of, plus-apart}
-use Rattle.ends.specs.Receiver.{receiver}
-use Rattle.ends.specs.Drains.{Done, done-step, done-now, status-at, all_done}
+use Rattle.ends.proofs.Sender.{sender, ack-small, newest-of, plus-apart}
+use Rattle.ends.proofs.Receiver.{receiver}
+use Rattle.ends.proofs.Drains.{Done, done-step, done-now, status-at, all_done}
 
 -- both directions, and both states with their records
 pub record Joined (W : World) : Type 0 where

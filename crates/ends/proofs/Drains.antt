@@ -34,7 +34,7 @@ use Rattle.ends.specs.World.{End, World, holds, called, TimelyAck, given_by, sen
 use Rattle.ends.specs.Demand.{status_of, SentOver}
 use Rattle.ends.specs.Inv.{way, Inv}
 use Rattle.ends.specs.TxSteps.{longer}
-use Rattle.ends.specs.Sender.{ack-small}
+use Rattle.ends.proofs.Sender.{ack-small}
 use Rattle.ends.specs.Left.{TxLeft, other-left, number-place, resent-left, received-tx, taken-tx, took-ack-tx}
 
 -- ---- over a list of packets: message j, of `given` ones, is Received, or no more in the table
