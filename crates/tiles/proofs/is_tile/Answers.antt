@@ -18,7 +18,7 @@ returns-then-bytes-len c = sym (no_tile _ _ _ (λ q. c.if-bytes-len.true (ap len
 
 pub loop-i-init : goal.loop-i-init
 unfolding tile_start
-loop-i-init c = (c.length-len.ensures, omega arith, c.if-bytes-len.false, refl)
+loop-i-init c = (c.length-len.ensures, omega (arith, (length-range c.args.n).0), c.if-bytes-len.false, refl)
 
 pub bounds-bytes-i : goal.bounds-bytes-i
 bounds-bytes-i c = omega arith

@@ -24,5 +24,5 @@ returns-then-n-le15 c =
 pub returns : goal.returns
 unfolding asked_of
 returns c =
-    let h : 8 < get_or c.args.call.now 0 0 = omega (arith, c.if-n-le12.false) in
+    let h : 8 < get_or c.args.call.now 0 0 = omega (arith, c.if-n-le15.false) in
     simp (lt-leb (get_or c.args.call.now 0 0) 8 h, lt-leb _ _ c.if-n-le12.false, lt-leb _ _ c.if-n-le15.false) (c.reader_call.ensures c.args.sent.now c.args.received.now c.args.records.now)
