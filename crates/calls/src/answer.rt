@@ -1,10 +1,7 @@
 // The lines that answer a call.
 use crate::out;
 use crate::out::Buffer;
-use engine::{
-    AddAnswer, ConfirmTimeout, DATA_BYTES, Due, HandOut, Outcome, PACKETS, ResendAnswer, SLOTS,
-    SendAnswer, SlowLinks, TakeAck,
-};
+use engine::{ConfirmTimeout, DATA_BYTES, HandOut, PACKETS, SLOTS, SlowLinks};
 use msg::ReliableMsg;
 use refusal::Refusal;
 use seq::Seq;
@@ -33,38 +30,38 @@ fn one(out: &mut Buffer, at: usize, n: u64) -> usize {
     out::end(out, b)
 }
 
-pub fn outcome(out: &mut Buffer, at: usize, outcome: Outcome) -> usize {
+pub fn outcome(out: &mut Buffer, at: usize, outcome: Result<(), Refusal>) -> usize {
     match outcome {
-        Outcome::Done => done(out, at),
-        Outcome::No(e) => no(out, at, e),
+        Ok(()) => done(out, at),
+        Err(e) => no(out, at, e),
     }
 }
 
-pub fn added(out: &mut Buffer, at: usize, answer: AddAnswer) -> usize {
+pub fn added(out: &mut Buffer, at: usize, answer: Result<u8, Refusal>) -> usize {
     match answer {
-        AddAnswer::Slot(slot) => one(out, at, slot as u64),
-        AddAnswer::No(e) => no(out, at, e),
+        Ok(slot) => one(out, at, slot as u64),
+        Err(e) => no(out, at, e),
     }
 }
 
-pub fn sent(out: &mut Buffer, at: usize, answer: SendAnswer) -> usize {
+pub fn sent(out: &mut Buffer, at: usize, answer: Result<Seq, Refusal>) -> usize {
     match answer {
-        SendAnswer::Number(seq) => one(out, at, seq.0 as u64),
-        SendAnswer::No(e) => no(out, at, e),
+        Ok(seq) => one(out, at, seq.0 as u64),
+        Err(e) => no(out, at, e),
     }
 }
 
-pub fn taken_ack(out: &mut Buffer, at: usize, answer: TakeAck) -> usize {
+pub fn taken_ack(out: &mut Buffer, at: usize, answer: Result<Seq, Refusal>) -> usize {
     match answer {
-        TakeAck::Number(seq) => one(out, at, seq.0 as u64),
-        TakeAck::No(e) => no(out, at, e),
+        Ok(seq) => one(out, at, seq.0 as u64),
+        Err(e) => no(out, at, e),
     }
 }
 
-pub fn due(out: &mut Buffer, at: usize, answer: Due) -> usize {
+pub fn due(out: &mut Buffer, at: usize, answer: Result<bool, Refusal>) -> usize {
     match answer {
-        Due::Is(is) => one(out, at, is as u64),
-        Due::No(e) => no(out, at, e),
+        Ok(is) => one(out, at, is as u64),
+        Err(e) => no(out, at, e),
     }
 }
 
@@ -78,9 +75,9 @@ fn named(out: &mut Buffer, at: usize, slot: u8, flushed: bool, deadline: u64) ->
 
 pub fn deadline(out: &mut Buffer, at: usize, answer: ConfirmTimeout) -> usize {
     match answer {
-        ConfirmTimeout::Packet(slot, flushed, deadline) => named(out, at, slot, flushed, deadline),
-        ConfirmTimeout::Nothing => done(out, at),
-        ConfirmTimeout::No(e) => no(out, at, e),
+        Ok(Some((slot, flushed, deadline))) => named(out, at, slot, flushed, deadline),
+        Ok(None) => done(out, at),
+        Err(e) => no(out, at, e),
     }
 }
 
@@ -94,19 +91,19 @@ fn taken_message(out: &mut Buffer, at: usize, msg: ReliableMsg, seq: Seq, len: u
 
 pub fn taken(out: &mut Buffer, at: usize, answer: HandOut) -> usize {
     match answer {
-        HandOut::Message(msg, seq, len) => taken_message(out, at, msg, seq, len),
-        HandOut::No(e) => no(out, at, e),
+        Ok((msg, seq, len)) => taken_message(out, at, msg, seq, len),
+        Err(e) => no(out, at, e),
     }
 }
 
 pub fn shown(out: &mut Buffer, at: usize, answer: HandOut, part: &[u8]) -> usize {
     match answer {
-        HandOut::Message(_, _, _) => {
+        Ok((_, _, _)) => {
             let a = out::put(out, at, b"0");
             let b = out::bytes(out, a, part);
             out::end(out, b)
         }
-        HandOut::No(e) => no(out, at, e),
+        Err(e) => no(out, at, e),
     }
 }
 
@@ -128,15 +125,21 @@ pub fn message(out: &mut Buffer, at: usize, msg: ReliableMsg, len: u32) -> usize
     out::next(out, b, len as u64)
 }
 
-pub fn resent(out: &mut Buffer, at: usize, answer: ResendAnswer, store: &[u8], n: u32) -> usize {
+pub fn resent(
+    out: &mut Buffer,
+    at: usize,
+    answer: Result<(ReliableMsg, u32), Refusal>,
+    store: &[u8],
+    n: u32,
+) -> usize {
     match answer {
-        ResendAnswer::Message(msg, len) => {
+        Ok((msg, len)) => {
             let a = out::put(out, at, b"0");
             let b = message(out, a, msg, len);
             let c = cell(out, b, store, n % PACKET_ROUND, len);
             out::end(out, c)
         }
-        ResendAnswer::No(e) => no(out, at, e),
+        Err(e) => no(out, at, e),
     }
 }
 
@@ -150,13 +153,13 @@ fn listed(out: &mut Buffer, at: usize, links: SlowLinks) -> usize {
     end
 }
 
-pub fn slow(out: &mut Buffer, at: usize, outcome: Outcome, links: SlowLinks) -> usize {
+pub fn slow(out: &mut Buffer, at: usize, outcome: Result<(), Refusal>, links: SlowLinks) -> usize {
     match outcome {
-        Outcome::Done => {
+        Ok(()) => {
             let a = out::put(out, at, b"0");
             let b = listed(out, a, links);
             out::end(out, b)
         }
-        Outcome::No(e) => no(out, at, e),
+        Err(e) => no(out, at, e),
     }
 }

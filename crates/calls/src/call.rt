@@ -1,18 +1,15 @@
 // The calls of the table, as a line's words give them.
-use crate::kinds::Reliable;
-use crate::message::Message;
 use crate::rows::MOST_ROWS;
-use crate::words::{Byte, Bytes, Flag, Limit, Number, Words, word};
+use crate::words::{Words, word};
 use crate::{kinds, message, words};
 use engine::{DATA_BYTES, LEAST_CELLS, MOST_CELLS, SENT_BYTES, SLOTS};
-use link::{AckTimeout, MaxPing};
+use link::AckTimeout;
 use msg::{LinkMsg, ReliableMsg};
-use text::Decimal;
 
 // A call on a state that uses no store.
 #[derive(Clone, Copy)]
 pub enum Plain {
-    Add(u64, u64, MaxPing, bool, bool),
+    Add(u64, u64, Option<u64>, bool, bool),
     Remove(u8),
     Confirm(u8),
     Unconfirm(u8),
@@ -53,12 +50,6 @@ pub enum Call {
     OnState(Plain),
     OnStores(Stored),
     Unknown,
-}
-
-#[derive(Clone, Copy)]
-enum Settings {
-    Are(AckTimeout),
-    Bad,
 }
 
 // The bytes that `write` may have room for.
@@ -111,15 +102,15 @@ fn slotted(name: &[u8], slot: u8) -> Call {
 
 fn read(bytes: &[u8], payload: &mut [u8]) -> Call {
     match words::bytes_of(bytes, payload) {
-        Bytes::Count(n) => Call::Read(n),
-        Bytes::Bad => Call::Unknown,
+        Some(n) => Call::Read(n),
+        None => Call::Unknown,
     }
 }
 
 fn slow(rows: &[u8]) -> Call {
     match text::read_decimal(rows, MOST_ROWS as u64) {
-        Decimal::Number(n) => Call::OnState(Plain::Slow(n as usize)),
-        Decimal::Bad => Call::Unknown,
+        Some(n) => Call::OnState(Plain::Slow(n as usize)),
+        None => Call::Unknown,
     }
 }
 
@@ -132,16 +123,16 @@ fn short(name: &[u8], a: &[u8], payload: &mut [u8]) -> Call {
         return slow(a);
     }
     match words::byte_of(a) {
-        Byte::Is(slot) => slotted(name, slot),
-        Byte::Bad => Call::Unknown,
+        Some(slot) => slotted(name, slot),
+        None => Call::Unknown,
     }
 }
 
 fn fresh(a: &[u8], b: &[u8], cells: u32) -> Call {
-    let Number::Is(start) = words::number_of(a) else {
+    let Some(start) = words::number_of(a) else {
         return Call::Unknown;
     };
-    let Number::Is(buffer) = words::number_of(b) else {
+    let Some(buffer) = words::number_of(b) else {
         return Call::Unknown;
     };
     Call::Fresh(start, buffer, cells)
@@ -149,29 +140,29 @@ fn fresh(a: &[u8], b: &[u8], cells: u32) -> Call {
 
 fn fresh_of_cells(a: &[u8], b: &[u8], c: &[u8]) -> Call {
     match words::number_of(c) {
-        Number::Is(cells) => fresh(a, b, cells),
-        Number::Bad => Call::Unknown,
+        Some(cells) => fresh(a, b, cells),
+        None => Call::Unknown,
     }
 }
 
 fn lend_sent(length: &[u8]) -> Call {
     match text::read_decimal(length, MOST_SENT_LENT as u64) {
-        Decimal::Number(n) => Call::OnState(Plain::LendSent(n as usize)),
-        Decimal::Bad => Call::Unknown,
+        Some(n) => Call::OnState(Plain::LendSent(n as usize)),
+        None => Call::Unknown,
     }
 }
 
 fn lend_received(length: &[u8]) -> Call {
     match text::read_decimal(length, MOST_RECEIVED_LENT as u64) {
-        Decimal::Number(n) => Call::OnState(Plain::LendReceived(n as usize)),
-        Decimal::Bad => Call::Unknown,
+        Some(n) => Call::OnState(Plain::LendReceived(n as usize)),
+        None => Call::Unknown,
     }
 }
 
 fn lend_records(length: &[u8]) -> Call {
     match text::read_decimal(length, MOST_RECORDS_LENT as u64) {
-        Decimal::Number(n) => Call::OnState(Plain::LendRecords(n as usize)),
-        Decimal::Bad => Call::Unknown,
+        Some(n) => Call::OnState(Plain::LendRecords(n as usize)),
+        None => Call::Unknown,
     }
 }
 
@@ -190,20 +181,20 @@ fn lend(store: &[u8], length: &[u8]) -> Call {
 
 fn block(slot: u8, b: &[u8]) -> Call {
     match words::flag_of(b) {
-        Flag::Is(blocked) => Call::OnState(Plain::Block(slot, blocked)),
-        Flag::Bad => Call::Unknown,
+        Some(blocked) => Call::OnState(Plain::Block(slot, blocked)),
+        None => Call::Unknown,
     }
 }
 
 fn mark(slot: u8, b: &[u8]) -> Call {
     match words::number_of(b) {
-        Number::Is(n) => Call::OnState(Plain::Mark(slot, n)),
-        Number::Bad => Call::Unknown,
+        Some(n) => Call::OnState(Plain::Mark(slot, n)),
+        None => Call::Unknown,
     }
 }
 
 fn timed(name: &[u8], slot: u8, b: &[u8]) -> Call {
-    let Decimal::Number(time) = words::long_of(b) else {
+    let Some(time) = words::long_of(b) else {
         return Call::Unknown;
     };
     if check::same(name, b"ping") {
@@ -237,20 +228,20 @@ fn pair(name: &[u8], a: &[u8], b: &[u8]) -> Call {
         return lend(a, b);
     }
     match words::byte_of(a) {
-        Byte::Is(slot) => slotted_pair(name, slot, b),
-        Byte::Bad => Call::Unknown,
+        Some(slot) => slotted_pair(name, slot, b),
+        None => Call::Unknown,
     }
 }
 
 // A call of four words that has a slot, a time and a number.
 fn timed_number(name: &[u8], a: &[u8], b: &[u8], c: &[u8]) -> Call {
-    let Byte::Is(slot) = words::byte_of(a) else {
+    let Some(slot) = words::byte_of(a) else {
         return Call::Unknown;
     };
-    let Decimal::Number(time) = words::long_of(b) else {
+    let Some(time) = words::long_of(b) else {
         return Call::Unknown;
     };
-    let Number::Is(n) = words::number_of(c) else {
+    let Some(n) = words::number_of(c) else {
         return Call::Unknown;
     };
     if check::same(name, b"ack") {
@@ -270,50 +261,50 @@ fn triple(name: &[u8], a: &[u8], b: &[u8], c: &[u8]) -> Call {
     timed_number(name, a, b, c)
 }
 
-fn add_flags(id: u64, trip: u64, max: MaxPing, d: &[u8], e: &[u8]) -> Call {
-    let Flag::Is(blocked) = words::flag_of(d) else {
+fn add_flags(id: u64, trip: u64, max: Option<u64>, d: &[u8], e: &[u8]) -> Call {
+    let Some(blocked) = words::flag_of(d) else {
         return Call::Unknown;
     };
-    let Flag::Is(unconfirmed) = words::flag_of(e) else {
+    let Some(unconfirmed) = words::flag_of(e) else {
         return Call::Unknown;
     };
     Call::OnState(Plain::Add(id, trip, max, blocked, unconfirmed))
 }
 
 fn add(a: &[u8], b: &[u8], c: &[u8], d: &[u8], e: &[u8]) -> Call {
-    let Decimal::Number(id) = words::long_of(a) else {
+    let Some(id) = words::long_of(a) else {
         return Call::Unknown;
     };
-    let Decimal::Number(trip) = words::long_of(b) else {
+    let Some(trip) = words::long_of(b) else {
         return Call::Unknown;
     };
-    let Limit::Is(max) = words::limit_of(c) else {
+    let Some(max) = words::limit_of(c) else {
         return Call::Unknown;
     };
     add_flags(id, trip, max, d, e)
 }
 
 fn send(a: &[u8], b: &[u8], kind: &[u8], count: &[u8], len: usize) -> Call {
-    let Byte::Is(slot) = words::byte_of(a) else {
+    let Some(slot) = words::byte_of(a) else {
         return Call::Unknown;
     };
-    let Decimal::Number(time) = words::long_of(b) else {
+    let Some(time) = words::long_of(b) else {
         return Call::Unknown;
     };
-    let Reliable::Is(msg) = kinds::reliable_of(kind, count) else {
+    let Some(msg) = kinds::reliable_of(kind, count) else {
         return Call::Unknown;
     };
     Call::OnStores(Stored::Send(slot, time, msg, len))
 }
 
 fn receive(a: &[u8], kind: &[u8], c: &[u8], count: &[u8], len: usize) -> Call {
-    let Byte::Is(slot) = words::byte_of(a) else {
+    let Some(slot) = words::byte_of(a) else {
         return Call::Unknown;
     };
-    let Number::Is(n) = words::number_of(c) else {
+    let Some(n) = words::number_of(c) else {
         return Call::Unknown;
     };
-    let Reliable::Is(msg) = kinds::reliable_of(kind, count) else {
+    let Some(msg) = kinds::reliable_of(kind, count) else {
         return Call::Unknown;
     };
     Call::OnStores(Stored::Receive(slot, msg, n, len))
@@ -347,29 +338,29 @@ fn long(name: &[u8], line: &[u8], w: Words, payload: &mut [u8]) -> Call {
         );
     }
     match words::bytes_of(e, payload) {
-        Bytes::Count(n) => carrying(name, line, w, n),
-        Bytes::Bad => Call::Unknown,
+        Some(n) => carrying(name, line, w, n),
+        None => Call::Unknown,
     }
 }
 
 // The factors and bounds of `deadline`, where each word is a number.
-fn settings_of(line: &[u8], w: Words) -> Settings {
-    let Decimal::Number(roundtrip_factor) = words::long_of(word(line, w, 1)) else {
-        return Settings::Bad;
+fn settings_of(line: &[u8], w: Words) -> Option<AckTimeout> {
+    let Some(roundtrip_factor) = words::long_of(word(line, w, 1)) else {
+        return None;
     };
-    let Decimal::Number(resent_factor) = words::long_of(word(line, w, 2)) else {
-        return Settings::Bad;
+    let Some(resent_factor) = words::long_of(word(line, w, 2)) else {
+        return None;
     };
-    let Decimal::Number(unreliable_factor) = words::long_of(word(line, w, 3)) else {
-        return Settings::Bad;
+    let Some(unreliable_factor) = words::long_of(word(line, w, 3)) else {
+        return None;
     };
-    let Decimal::Number(min) = words::long_of(word(line, w, 4)) else {
-        return Settings::Bad;
+    let Some(min) = words::long_of(word(line, w, 4)) else {
+        return None;
     };
-    let Decimal::Number(max) = words::long_of(word(line, w, 5)) else {
-        return Settings::Bad;
+    let Some(max) = words::long_of(word(line, w, 5)) else {
+        return None;
     };
-    Settings::Are(AckTimeout {
+    Some(AckTimeout {
         roundtrip_factor,
         resent_factor,
         unreliable_factor,
@@ -383,22 +374,22 @@ fn deadline(name: &[u8], line: &[u8], w: Words) -> Call {
     if !check::same(name, b"deadline") {
         return Call::Unknown;
     }
-    let Settings::Are(timeout) = settings_of(line, w) else {
+    let Some(timeout) = settings_of(line, w) else {
         return Call::Unknown;
     };
     match words::flag_of(word(line, w, 6)) {
-        Flag::Is(unreliable) => Call::OnState(Plain::Deadline(timeout, unreliable)),
-        Flag::Bad => Call::Unknown,
+        Some(unreliable) => Call::OnState(Plain::Deadline(timeout, unreliable)),
+        None => Call::Unknown,
     }
 }
 
 fn write(line: &[u8], w: Words) -> Call {
-    let Decimal::Number(room) = text::read_decimal(word(line, w, 1), MOST_ROOM) else {
+    let Some(room) = text::read_decimal(word(line, w, 1), MOST_ROOM) else {
         return Call::Unknown;
     };
     match message::parse(line, w) {
-        Message::Is(msg) => Call::Write(room as usize, msg),
-        Message::Bad => Call::Unknown,
+        Some(msg) => Call::Write(room as usize, msg),
+        None => Call::Unknown,
     }
 }
 

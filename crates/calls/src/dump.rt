@@ -3,11 +3,10 @@ use crate::answer::PACKET_ROUND;
 use crate::out::Buffer;
 use crate::{answer, out};
 use engine::{
-    Flushed, Held, InFlight, PACKETS, Receiving, SLOTS, Sending, SentReliable, SentReliableStatus,
-    State,
+    Held, InFlight, PACKETS, Receiving, SLOTS, Sending, SentReliable, SentReliableStatus, State,
 };
+use link::LinkRow;
 use link::sizes::ACKS;
-use link::{Limit, LinkRow, MaxPing, Ping};
 use msg::ReliableMsg;
 use seq::Seq;
 
@@ -61,24 +60,24 @@ fn first_line(out: &mut Buffer, at: usize, s: State) -> usize {
     out::end(out, f)
 }
 
-fn max_ping(out: &mut Buffer, at: usize, max: MaxPing) -> usize {
+fn max_ping(out: &mut Buffer, at: usize, max: Option<u64>) -> usize {
     match max {
-        MaxPing::Unlimited => none(out, at),
-        MaxPing::UpTo(limit) => out::next(out, at, limit),
+        None => none(out, at),
+        Some(limit) => out::next(out, at, limit),
     }
 }
 
-fn mark(out: &mut Buffer, at: usize, limit: Limit) -> usize {
+fn mark(out: &mut Buffer, at: usize, limit: Option<Seq>) -> usize {
     match limit {
-        Limit::Clear => none(out, at),
-        Limit::At(n) => seq(out, at, n),
+        None => none(out, at),
+        Some(n) => seq(out, at, n),
     }
 }
 
-fn ping(out: &mut Buffer, at: usize, ping: Ping) -> usize {
+fn ping(out: &mut Buffer, at: usize, ping: Option<u64>) -> usize {
     match ping {
-        Ping::Idle => none(out, at),
-        Ping::Since(time) => out::next(out, at, time),
+        None => none(out, at),
+        Some(time) => out::next(out, at, time),
     }
 }
 
@@ -125,10 +124,10 @@ fn links(out: &mut Buffer, at: usize, links: [LinkRow; SLOTS]) -> usize {
     end
 }
 
-fn flushed(out: &mut Buffer, at: usize, flushed: Flushed) -> usize {
+fn flushed(out: &mut Buffer, at: usize, flushed: Option<u64>) -> usize {
     match flushed {
-        Flushed::Unflushed => none(out, at),
-        Flushed::FlushedAt(time) => out::next(out, at, time),
+        None => none(out, at),
+        Some(time) => out::next(out, at, time),
     }
 }
 
@@ -223,8 +222,8 @@ fn held(out: &mut Buffer, at: usize, n: Seq, msg: ReliableMsg, len: u32) -> usiz
 
 fn waiting(out: &mut Buffer, at: usize, n: Seq, held_here: Held, is_ready: bool) -> usize {
     match held_here {
-        Held::Nothing => at,
-        Held::Message(msg, len) => {
+        None => at,
+        Some((msg, len)) => {
             if is_ready {
                 ready(out, at, n, msg, len)
             } else {
@@ -254,7 +253,7 @@ fn held_at(n: Seq, cells: u32, records: &[u64]) -> Held {
     if i < records.len() {
         return engine::held_of(records[i]);
     }
-    Held::Nothing
+    None
 }
 
 // The cells in use, from the oldest number on: first the ready messages, then the held ones.
@@ -304,8 +303,8 @@ fn sent_cells(out: &mut Buffer, at: usize, tx: Sending, store: &[u8]) -> usize {
 
 fn kept_cell(out: &mut Buffer, at: usize, cell: u32, held_here: Held, store: &[u8]) -> usize {
     match held_here {
-        Held::Nothing => at,
-        Held::Message(_, len) => cell_bytes(out, at, b"kept", store, cell, len),
+        None => at,
+        Some((_, len)) => cell_bytes(out, at, b"kept", store, cell, len),
     }
 }
 

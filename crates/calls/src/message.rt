@@ -1,46 +1,36 @@
 // A message's words, as a `write` line names it and the answer to `read` prints it: its kind byte, and then what that kind
 // carries.
 use crate::out::Buffer;
-use crate::words::{Byte, Flag, Number, Words, word};
+use crate::words::{Words, word};
 use crate::{out, words};
 use msg::{LinkMsg, RefusedReason};
 use seq::Seq;
 
-#[derive(Clone, Copy)]
-pub enum Message {
-    Is(LinkMsg),
-    Bad,
-}
-
 // Where the kind stands among the words of `write`: after the name and the room.
 const KIND: usize = 2;
 
-fn alone(w: Words, msg: LinkMsg) -> Message {
-    if w.count == KIND + 1 {
-        Message::Is(msg)
-    } else {
-        Message::Bad
-    }
+fn alone(w: Words, msg: LinkMsg) -> Option<LinkMsg> {
+    if w.count == KIND + 1 { Some(msg) } else { None }
 }
 
-fn because(w: Words, reason: RefusedReason) -> Message {
+fn because(w: Words, reason: RefusedReason) -> Option<LinkMsg> {
     if w.count == KIND + 2 {
-        Message::Is(LinkMsg::Refused { reason })
+        Some(LinkMsg::Refused { reason })
     } else {
-        Message::Bad
+        None
     }
 }
 
-fn refused(line: &[u8], w: Words) -> Message {
-    let Byte::Is(b) = words::byte_of(word(line, w, KIND + 1)) else {
-        return Message::Bad;
+fn refused(line: &[u8], w: Words) -> Option<LinkMsg> {
+    let Some(b) = words::byte_of(word(line, w, KIND + 1)) else {
+        return None;
     };
     match b {
         1 => because(w, RefusedReason::Closed),
         2 => because(w, RefusedReason::NotListening),
         3 => because(w, RefusedReason::ConnectionRefused),
         4 => because(w, RefusedReason::LinkRefused),
-        _ => Message::Bad,
+        _ => None,
     }
 }
 
@@ -54,53 +44,53 @@ fn with_number(kind: u8, seq: Seq) -> LinkMsg {
     }
 }
 
-fn numbered(line: &[u8], w: Words, kind: u8) -> Message {
+fn numbered(line: &[u8], w: Words, kind: u8) -> Option<LinkMsg> {
     if w.count != KIND + 2 {
-        return Message::Bad;
+        return None;
     }
     match words::number_of(word(line, w, KIND + 1)) {
-        Number::Is(n) => Message::Is(with_number(kind, Seq(n))),
-        Number::Bad => Message::Bad,
+        Some(n) => Some(with_number(kind, Seq(n))),
+        None => None,
     }
 }
 
-fn consumed(line: &[u8], w: Words) -> Message {
+fn consumed(line: &[u8], w: Words) -> Option<LinkMsg> {
     if w.count != KIND + 3 {
-        return Message::Bad;
+        return None;
     }
-    let Number::Is(n) = words::number_of(word(line, w, KIND + 1)) else {
-        return Message::Bad;
+    let Some(n) = words::number_of(word(line, w, KIND + 1)) else {
+        return None;
     };
-    let Number::Is(count) = words::number_of(word(line, w, KIND + 2)) else {
-        return Message::Bad;
+    let Some(count) = words::number_of(word(line, w, KIND + 2)) else {
+        return None;
     };
-    Message::Is(LinkMsg::Consumed {
+    Some(LinkMsg::Consumed {
         seq: Seq(n),
         consumed: count,
     })
 }
 
-fn test_data(line: &[u8], w: Words) -> Message {
+fn test_data(line: &[u8], w: Words) -> Option<LinkMsg> {
     if w.count != KIND + 2 {
-        return Message::Bad;
+        return None;
     }
     match words::number_of(word(line, w, KIND + 1)) {
-        Number::Is(n) => Message::Is(LinkMsg::TestData { size: n as usize }),
-        Number::Bad => Message::Bad,
+        Some(n) => Some(LinkMsg::TestData { size: n as usize }),
+        None => None,
     }
 }
 
-fn set_block(line: &[u8], w: Words) -> Message {
+fn set_block(line: &[u8], w: Words) -> Option<LinkMsg> {
     if w.count != KIND + 2 {
-        return Message::Bad;
+        return None;
     }
     match words::flag_of(word(line, w, KIND + 1)) {
-        Flag::Is(blocked) => Message::Is(LinkMsg::SetBlock { blocked }),
-        Flag::Bad => Message::Bad,
+        Some(blocked) => Some(LinkMsg::SetBlock { blocked }),
+        None => None,
     }
 }
 
-fn of_kind(line: &[u8], w: Words, kind: u8) -> Message {
+fn of_kind(line: &[u8], w: Words, kind: u8) -> Option<LinkMsg> {
     match kind {
         LinkMsg::MSG_WELCOME => alone(w, LinkMsg::Welcome),
         LinkMsg::MSG_CONNECT => alone(w, LinkMsg::Connect),
@@ -116,15 +106,15 @@ fn of_kind(line: &[u8], w: Words, kind: u8) -> Message {
         LinkMsg::MSG_SET_BLOCK => set_block(line, w),
         LinkMsg::MSG_GOODBYE => alone(w, LinkMsg::Goodbye),
         LinkMsg::MSG_TERMINATE => alone(w, LinkMsg::Terminate),
-        0 | 17..=255 => Message::Bad,
+        0 | 17..=255 => None,
     }
 }
 
 // The message that a `write` line names.
-pub fn parse(line: &[u8], w: Words) -> Message {
+pub fn parse(line: &[u8], w: Words) -> Option<LinkMsg> {
     match words::byte_of(word(line, w, KIND)) {
-        Byte::Is(kind) => of_kind(line, w, kind),
-        Byte::Bad => Message::Bad,
+        Some(kind) => of_kind(line, w, kind),
+        None => None,
     }
 }
 

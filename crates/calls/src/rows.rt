@@ -3,15 +3,16 @@ ghost use Rattle.std.specs.Prelude.{◌≡◌, ◌≤◌, take};
 ghost use Rattle.engine.specs.Slowness.{slow_links_of};
 ghost use Rattle.calls.specs.Rows.{told_of};
 
-use engine::{Outcome, SLOTS, SlowAnswer, SlowLinks};
+use engine::{SLOTS, SlowLinks};
 use link::LinkRow;
+use refusal::Refusal;
 
 pub const MOST_ROWS: usize = SLOTS + 1;
 
 // The engine's answer, with the array beside the enum.
 #[derive(Clone, Copy)]
 pub struct Told {
-    pub outcome: Outcome,
+    pub outcome: Result<(), Refusal>,
     pub links: SlowLinks,
 }
 
@@ -22,12 +23,12 @@ fn ask(rows: [LinkRow; MOST_ROWS], n: usize, none: SlowLinks) -> Told
 {
     let answer = engine::slow(&rows[..n]);
     match answer {
-        SlowAnswer::Listed(links) => Told {
-            outcome: Outcome::Done,
+        Ok(links) => Told {
+            outcome: Ok(()),
             links,
         },
-        SlowAnswer::No(e) => Told {
-            outcome: Outcome::No(e),
+        Err(e) => Told {
+            outcome: Err(e),
             links: none,
         },
     }

@@ -5,9 +5,10 @@ use crate::out::Buffer;
 use crate::session::Session;
 use crate::words::first;
 use crate::{answer, dump, lending, message, out, rows};
-use engine::{Changed, DATA_BYTES, Outcome};
-use link::{AckTimeout, MaxPing};
-use msg::{LinkMsg, Reading, ReliableMsg, Written};
+use engine::{Changed, DATA_BYTES};
+use link::AckTimeout;
+use msg::{LinkMsg, ReliableMsg};
+use refusal::Refusal;
 use seq::Seq;
 
 // The sent store and the records, each with the one more that may be lent. The received store has room for the cells of the state.
@@ -60,12 +61,12 @@ fn fresh(
     let state = result.state;
     let at = answer::outcome(out, s.at, outcome);
     match outcome {
-        Outcome::Done => {
+        Ok(()) => {
             *sent = [0; MOST_SENT_LENT];
             lending::clear_first(received, cells as usize * DATA_BYTES);
             s.over(state, cells, at)
         }
-        Outcome::No(_) => s.to(at),
+        Err(_) => s.to(at),
     }
 }
 
@@ -73,7 +74,7 @@ fn add(
     s: Session,
     id: u64,
     trip: u64,
-    max: MaxPing,
+    max: Option<u64>,
     blocked: bool,
     unconfirmed: bool,
     out: &mut Buffer,
@@ -247,13 +248,13 @@ fn dump(s: Session, sent: &[u8], received: &[u8], records: &[u64], out: &mut Buf
 
 fn read(s: Session, bytes: &[u8], out: &mut Buffer) -> Session {
     match msg::read(bytes) {
-        Reading::Message(msg) => {
+        Ok(msg) => {
             let a = out::put(out, s.at, b"0");
             let b = message::put(out, a, msg);
             let at = out::end(out, b);
             s.to(at)
         }
-        Reading::No(e) => {
+        Err(e) => {
             let at = answer::no(out, s.at, e);
             s.to(at)
         }
@@ -261,14 +262,14 @@ fn read(s: Session, bytes: &[u8], out: &mut Buffer) -> Session {
 }
 
 // What was written, by its length.
-fn written(out: &mut Buffer, at: usize, buffer: &[u8], answer: Written) -> usize {
+fn written(out: &mut Buffer, at: usize, buffer: &[u8], answer: Result<usize, Refusal>) -> usize {
     match answer {
-        Written::Bytes(n) => {
+        Ok(n) => {
             let a = out::put(out, at, b"0");
             let b = out::bytes(out, a, first(buffer, n));
             out::end(out, b)
         }
-        Written::No(e) => answer::no(out, at, e),
+        Err(e) => answer::no(out, at, e),
     }
 }
 

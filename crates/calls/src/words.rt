@@ -1,6 +1,5 @@
 // A line's words, parted by one space each, and the numbers and bytes that a word can be.
-use link::MaxPing;
-use text::{Decimal, HexRun, read_decimal};
+use text::read_decimal;
 
 // The most words that a call has.
 const MOST: usize = 7;
@@ -62,59 +61,28 @@ pub fn word(line: &[u8], words: Words, i: usize) -> &[u8] {
     &line[start..end]
 }
 
-#[derive(Clone, Copy)]
-pub enum Byte {
-    Is(u8),
-    Bad,
-}
-
-#[derive(Clone, Copy)]
-pub enum Number {
-    Is(u32),
-    Bad,
-}
-
-#[derive(Clone, Copy)]
-pub enum Flag {
-    Is(bool),
-    Bad,
-}
-
-#[derive(Clone, Copy)]
-pub enum Limit {
-    Is(MaxPing),
-    Bad,
-}
-
-// How many bytes a word was.
-#[derive(Clone, Copy)]
-pub enum Bytes {
-    Count(usize),
-    Bad,
-}
-
-pub fn byte_of(word: &[u8]) -> Byte {
+pub fn byte_of(word: &[u8]) -> Option<u8> {
     match read_decimal(word, 0xff) {
-        Decimal::Number(n) => Byte::Is(n as u8),
-        Decimal::Bad => Byte::Bad,
+        Some(n) => Some(n as u8),
+        None => None,
     }
 }
 
-pub fn number_of(word: &[u8]) -> Number {
+pub fn number_of(word: &[u8]) -> Option<u32> {
     match read_decimal(word, 0xffff_ffff) {
-        Decimal::Number(n) => Number::Is(n as u32),
-        Decimal::Bad => Number::Bad,
+        Some(n) => Some(n as u32),
+        None => None,
     }
 }
 
-pub fn long_of(word: &[u8]) -> Decimal {
+pub fn long_of(word: &[u8]) -> Option<u64> {
     read_decimal(word, 0xffff_ffff_ffff_ffff)
 }
 
-pub fn flag_of(word: &[u8]) -> Flag {
+pub fn flag_of(word: &[u8]) -> Option<bool> {
     match read_decimal(word, 1) {
-        Decimal::Number(n) => Flag::Is(n == 1),
-        Decimal::Bad => Flag::Bad,
+        Some(n) => Some(n == 1),
+        None => None,
     }
 }
 
@@ -122,27 +90,27 @@ pub fn is_none(word: &[u8]) -> bool {
     check::same(word, b"-")
 }
 
-pub fn limit_of(word: &[u8]) -> Limit {
+pub fn limit_of(word: &[u8]) -> Option<Option<u64>> {
     if is_none(word) {
-        return Limit::Is(MaxPing::Unlimited);
+        return Some(None);
     }
     match long_of(word) {
-        Decimal::Number(n) => Limit::Is(MaxPing::UpTo(n)),
-        Decimal::Bad => Limit::Bad,
+        Some(n) => Some(Some(n)),
+        None => None,
     }
 }
 
 // The bytes of a word go to the start of `into`.
-pub fn bytes_of(word: &[u8], into: &mut [u8]) -> Bytes {
+pub fn bytes_of(word: &[u8], into: &mut [u8]) -> Option<usize> {
     if is_none(word) {
-        return Bytes::Count(0);
+        return Some(0);
     }
     if word.len() == 0 {
-        return Bytes::Bad;
+        return None;
     }
     match text::read_hex(word, into) {
-        HexRun::Count(n) => Bytes::Count(n),
-        HexRun::Bad => Bytes::Bad,
+        Some(n) => Some(n),
+        None => None,
     }
 }
 

@@ -232,8 +232,8 @@ fn show_refusal(env: &impl Env, refusal: Refusal, side: Side, line: usize) -> bo
 
 fn show(env: &impl Env, compared: Compared, list: &[u64; DIFFERENCES]) -> bool {
     match compared {
-        Compared::Lists(n, first, second) => show_list(list, n, first, second),
-        Compared::No(refusal, side, line) => show_refusal(env, refusal, side, line),
+        Ok((n, first, second)) => show_list(list, n, first, second),
+        Err((refusal, side, line)) => show_refusal(env, refusal, side, line),
     }
 }
 

@@ -1,10 +1,9 @@
 -- Rows in the cells of an array, three each: reading, marking and inserting one. Assumes nothing.
-use Rattle.std.specs.Prelude.{◌≡◌, refl, List, [], ◌∷◌, ◌++◌, ℕ, zero, suc, ◌+◌, ◌*◌, ◌≤◌, ◌<◌, eqb, length, get_or, take, drop, set}
+use Rattle.std.specs.Prelude.{◌≡◌, refl, List, [], ◌∷◌, ◌++◌, ℕ, zero, suc, ◌+◌, ◌*◌, ◌≤◌, ◌<◌, eqb, length, get_or, take, drop, set, None}
 use Rattle.std.proofs.Math.Path.{sym, ap}
 use Rattle.std.proofs.Common.{◌∙◌, append_assoc, not-suc-le-zero, arith, drop_of_length-le, drop-cons, take_at, drop_at, get_or-take, take-take, length-take-le}
 use Rattle.std.proofs.lemmas.List.{set_split}
 use Rattle.std.proofs.lemmas.List.Edits.{sets-eq}
-use Rattle.comparing.specs.declared.table.Held.TheVariants.{Not}
 use Rattle.comparing.specs.Rows.{row, no_row, rows_of, held_if, held_first, marked_at, insert_at, Rising, position_in, position-after, position-before}
 
 -- the cell of a row's rank, from a row on
@@ -75,12 +74,12 @@ rows-past n i cells h g = drop_of_length-le (rows_of n cells) {i = i} (omega (ar
 
 -- what row i has of a rank
 module _ (n i rank : ℕ) (cells : List ℕ) (h : n * 3 ≤ length cells) where
-  pub held-past : n ≤ i → Not ≡ held_first rank (drop i (rows_of n cells))
+  pub held-past : n ≤ i → None ≡ held_first rank (drop i (rows_of n cells))
   unfolding held_first
   held-past g = sym (ap (held_first rank) (rows-past n i cells h g))
 
   pub held-there : i < n
-      → held_first rank (drop i (rows_of n cells)) ≡ held_if (eqb (get_or cells (i * 3) 0) rank) (row (get_or cells (i * 3) 0) (get_or cells (i * 3 + 1) 0) (get_or cells (i * 3 + 2) 0)) Not
+      → held_first rank (drop i (rows_of n cells)) ≡ held_if (eqb (get_or cells (i * 3) 0) rank) (row (get_or cells (i * 3) 0) (get_or cells (i * 3 + 1) 0) (get_or cells (i * 3 + 2) 0)) None
   unfolding held_first
   held-there g = ap (held_first rank) (rows-from n i cells h g)
 

@@ -1,12 +1,12 @@
 -- What two scanned recordings lead to. Assumes nothing.
-use Rattle.std.specs.Prelude.{◌≡◌, refl, List, [], ◌++◌, ℕ, ◌+◌, ◌^◌, ◌≤◌, drop}
+use Rattle.std.specs.Prelude.{◌≡◌, refl, List, [], ◌++◌, ℕ, ◌+◌, ◌^◌, ◌≤◌, drop, Ok, Result}
+use Rattle.refusal.specs.declared.Refusal.{Refusal}
+use Rattle.comparing.specs.declared.comparison.Side.{Side}
 use Rattle.std.proofs.Math.Path.{sym, ap}
 use Rattle.std.proofs.Common.{◌∙◌, arith}
 use Rattle.std.proofs.Math.ListN.{length}
 use Rattle.std.proofs.lemmas.List.Edits.{sets-eq}
 use Rattle.comparing.specs.declared.scanning.Scanned.{Scanned}
-use Rattle.comparing.specs.declared.comparison.Judged.{Judged}
-use Rattle.comparing.specs.declared.comparison.Judged.TheVariants.{Pass}
 use Rattle.comparing.specs.Messages.{body_of, start_of}
 use Rattle.comparing.specs.Rows.{Rising, rows_of}
 use Rattle.comparing.specs.Cells.{rows-length}
@@ -25,7 +25,7 @@ abbrev pub Scanning : List ℕ → Scanned → List ℕ → Type 0
 Scanning input found cells = Scans input (start_of input) (body_of input) found cells
 
 -- the refusals by what was scanned
-abbrev pub judged_of : Scanned → Scanned → Judged
+abbrev pub judged_of : Scanned → Scanned → Result Unit (Refusal × Side × ℕ)
 judged_of a b = in_order a.bad b.bad (starts_part a.start.0 b.start.0) a.counts.far b.counts.far a.counts.many b.counts.many
 
 -- ---- laws
@@ -71,7 +71,7 @@ module _ (first second : List ℕ) (a : Scanned) (x : List ℕ) (b : Scanned) (y
       rw (scans-a.starts, scans-a.bads, scans-b.starts, scans-b.bads, far-found first a x scans-a, far-found second b y scans-b)
       (order_same (body_of first).bad (body_of second).bad (starts_part (start_of first) (start_of second)) _ _ _ _ _ _ (many-found first a x scans-a) (many-found second b y scans-b))
 
-  pub passed : length x ≡ 3072 → length y ≡ 3072 → judged_of a b ≡ Pass → Passed first second a x b y
+  pub passed : length x ≡ 3072 → length y ≡ 3072 → judged_of a b ≡ Ok tt → Passed first second a x b y
   passed room-x room-y pass =
       let said = passed-says _ _ _ _ _ _ _ pass in
       let same : start_of first ≡ start_of second = sym scans-a.starts ∙ starts-same a.start.0 b.start.0 said.0 ∙ scans-b.starts in
@@ -109,7 +109,7 @@ list-stands first second old new start n e few pushed =
     (said.0 ∙ ap length same, said.1 ∙ ap (λ l. words_of l ++ drop (length l) old) same)
 
 -- the answer and the list by the verdict
-pub compared-by : (first second list : List ℕ) (j : Judged) → verdict_of first second ≡ j
+pub compared-by : (first second list : List ℕ) (j : Result Unit (Refusal × Side × ℕ)) → verdict_of first second ≡ j
     → (compared_as j first second ≡ compared_of first second) × (list_in j first second list ≡ compared_list first second list)
 unfolding compared_of compared_list
 compared-by first second list j e = (sym (ap (λ v. compared_as v first second) e), sym (ap (λ v. list_in v first second list) e))

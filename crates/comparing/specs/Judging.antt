@@ -1,6 +1,6 @@
 -- Document 02 [6]: "At most 1,024 numbers a side"; "Refusals: 20 for a bad line; 22 for a number far from the start number; 23 Many, when a
 -- side has more; in that order over both recordings." Each with the recording and the line that gives it. Assumes nothing.
-use Rattle.std.specs.Prelude.{◌≡◌, Bool, false, cond, ◌||◌, List, [], ◌∷◌, ℕ, eqb, ltb, length}
+use Rattle.std.specs.Prelude.{◌≡◌, Bool, false, cond, ◌||◌, List, [], ◌∷◌, ℕ, eqb, ltb, length, Ok, Err, Result}
 use Rattle.std.proofs.Common.{arith, eqb-true}
 use borrow.Table.Steps.{cases}
 use Rattle.refusal.specs.declared.Refusal.{Refusal}
@@ -9,8 +9,6 @@ use Rattle.comparing.specs.Sizes.{NUMBERS}
 use Rattle.comparing.specs.declared.messages.Message.{Message}
 use Rattle.comparing.specs.declared.comparison.Side.{Side}
 use Rattle.comparing.specs.declared.comparison.Side.TheVariants as sides
-use Rattle.comparing.specs.declared.comparison.Judged.{Judged}
-use Rattle.comparing.specs.declared.comparison.Judged.TheVariants.{Pass, No}
 use Rattle.comparing.specs.Messages.{body_of, start_of}
 use Rattle.comparing.specs.Ranks.{far_at}
 
@@ -42,15 +40,15 @@ many_line seen [] = 0
 many_line seen (m ∷ rest) = cond (ltb NUMBERS (length (with_number m.number.0 seen))) m.line (many_line (with_number m.number.0 seen) rest)
 
 -- a refusal where a line is told, else what the later ones say
-unfoldable pub told_at : ℕ → Refusal → Side → Judged → Judged
-told_at line e side rest = cond (eqb line 0) rest (No e side line)
+unfoldable pub told_at : ℕ → Refusal → Side → Result Unit (Refusal × Side × ℕ) → Result Unit (Refusal × Side × ℕ)
+told_at line e side rest = cond (eqb line 0) rest (Err (e, side, line))
 
 -- "two that differ give 20": of the second, at its first line
 unfoldable pub starts_part : ℕ → ℕ → ℕ
 starts_part a b = cond (eqb a b) 0 1
 
 -- the lines to be told, in the order of the refusals
-abbrev pub in_order : ℕ → ℕ → ℕ → ℕ → ℕ → ℕ → ℕ → Judged
+abbrev pub in_order : ℕ → ℕ → ℕ → ℕ → ℕ → ℕ → ℕ → Result Unit (Refusal × Side × ℕ)
 in_order bad-first bad-second starts far-first far-second many-first many-second =
     told_at bad-first (refuse 20 tt) sides.First
     (told_at bad-second (refuse 20 tt) sides.Second
@@ -59,9 +57,9 @@ in_order bad-first bad-second starts far-first far-second many-first many-second
     (told_at far-second (refuse 22 tt) sides.Second
     (told_at many-first (refuse 23 tt) sides.First
     (told_at many-second (refuse 23 tt) sides.Second
-    Pass))))))
+    (Ok tt)))))))
 
-unfoldable pub verdict_of : List ℕ → List ℕ → Judged
+unfoldable pub verdict_of : List ℕ → List ℕ → Result Unit (Refusal × Side × ℕ)
 unfolding told_at starts_part body_of start_of far_line many_line
 verdict_of a b =
     in_order (body_of a).bad (body_of b).bad (starts_part (start_of a) (start_of b))
@@ -70,7 +68,7 @@ verdict_of a b =
 
 -- ---- laws
 
-told-pass : (line : ℕ) (e : Refusal) (side : Side) (rest : Judged) → told_at line e side rest ≡ Pass → (line ≡ 0) × (rest ≡ Pass)
+told-pass : (line : ℕ) (e : Refusal) (side : Side) (rest : Result Unit (Refusal × Side × ℕ)) → told_at line e side rest ≡ Ok tt → (line ≡ 0) × (rest ≡ Ok tt)
 unfolding told_at
 told-pass line e side rest h =
     cases (eqb line 0)
@@ -78,7 +76,7 @@ told-pass line e side rest h =
     (λ f. let z : ◌≡◌ {A = ℕ} 0 1 = cc (simp f at h) in absurd (omega arith))
 
 -- who passed has one start number, no number far from it, and at most 1,024 numbers a side
-pub passed-says : (p q starts f g m n : ℕ) → in_order p q starts f g m n ≡ Pass → (starts ≡ 0) × (f ≡ 0) × (g ≡ 0) × (m ≡ 0) × (n ≡ 0)
+pub passed-says : (p q starts f g m n : ℕ) → in_order p q starts f g m n ≡ Ok tt → (starts ≡ 0) × (f ≡ 0) × (g ≡ 0) × (m ≡ 0) × (n ≡ 0)
 passed-says p q starts f g m n h =
     let a = told-pass p _ _ _ h in
     let b = told-pass q _ _ _ a.1 in
@@ -90,7 +88,7 @@ passed-says p q starts f g m n h =
     (c.0, d.0, e.0, i.0, j.0)
 
 -- what the later refusals say counts only where no line is told
-told_same : (line : ℕ) (e : Refusal) (side : Side) (rest other : Judged) → (line ≡ 0 → rest ≡ other) → told_at line e side rest ≡ told_at line e side other
+told_same : (line : ℕ) (e : Refusal) (side : Side) (rest other : Result Unit (Refusal × Side × ℕ)) → (line ≡ 0 → rest ≡ other) → told_at line e side rest ≡ told_at line e side other
 unfolding told_at
 told_same line e side rest other h = cases (eqb line 0) (λ t. simp t (h (eqb-true line 0 t))) (λ f. simp f)
 

@@ -1,5 +1,5 @@
 -- The list that is made by going through two tables side by side. Assumes nothing.
-use Rattle.std.specs.Prelude.{◌≡◌, cond, List, [], ◌∷◌, ◌++◌, ℕ, zero, suc, ◌+◌, ◌-◌, ◌*◌, ◌^◌, ◌≤◌, ◌<◌, eqb, leb, ltb, length, get_or, drop, set}
+use Rattle.std.specs.Prelude.{◌≡◌, cond, List, [], ◌∷◌, ◌++◌, ℕ, zero, suc, ◌+◌, ◌-◌, ◌*◌, ◌^◌, ◌≤◌, ◌<◌, eqb, leb, ltb, length, get_or, drop, set, Some, None, Option}
 use Rattle.std.proofs.Math.Path.{refl}
 use Rattle.std.proofs.Common.{sym, ◌∙◌, ap, append-nil, le_refl, not-suc-le-zero, arith, length-append, length-drop, drop_of_length-le, drop-drop, eqb-true, eq-eqb, ne_eqb, lt-ltb, le-ltb, ltb-true, ltb-false, leb-true}
 use Rattle.std.proofs.lemmas.List.Edits.{sets}
@@ -7,13 +7,10 @@ use Rattle.std.proofs.lemmas.Bool.{eqb-false}
 use borrow.Table.Steps.{cases}
 use Rattle.text.specs.HexRun.{spells, spelt-length}
 use Rattle.recording.specs.Lines.{lines_of}
-use Rattle.comparing.specs.declared.messages.Waiting.TheVariants.{Frame}
 use Rattle.comparing.specs.declared.messages.Found.{Found}
 use Rattle.comparing.specs.declared.messages.Found.TheVariants as found
 use Rattle.comparing.specs.declared.runs.Content.{Content}
 use Rattle.comparing.specs.declared.runs.Content.TheVariants as contents
-use Rattle.comparing.specs.declared.table.Held.{Held}
-use Rattle.comparing.specs.declared.table.Held.TheVariants.{Not, At}
 use Rattle.comparing.specs.declared.listing.Difference.{Difference}
 use Rattle.comparing.specs.declared.listing.Difference.TheVariants.{ConflictFirst, ConflictSecond}
 use Rattle.comparing.specs.Messages.{line_found}
@@ -37,9 +34,9 @@ pub record Pushed (words : List ℕ) (old : List ℕ) (n r : ℕ) (new : List �
   pub count : r ≡ n + length words
   pub list : new ≡ sets old n words
 
-abbrev pub has_of : Held → ℕ
-has_of Not = 0
-has_of (At place flag) = 1
+abbrev pub has_of : Option (ℕ × ℕ) → ℕ
+has_of None = 0
+has_of (Some (place, flag)) = 1
 
 -- the place in a content that a list has room for
 abbrev pub place_of : Content → ℕ
@@ -71,9 +68,9 @@ pub record Listing (first second : List ℕ) (start : ℕ) (a b : List Row) (old
 
 -- ---- laws of words
 
-pub has_one : (held : Held) → has_of held ≤ 1
-has_one Not = omega arith
-has_one (At place flag) = le_refl 1
+pub has_one : (held : Option (ℕ × ℕ)) → has_of held ≤ 1
+has_one None = omega arith
+has_one (Some (place, flag)) = le_refl 1
 
 pub words_append : (x y : List Listed) → words_of (x ++ y) ≡ words_of x ++ words_of y
 unfolding words_of
@@ -112,7 +109,7 @@ pub pushed_none : (old : List ℕ) (n : ℕ) → Pushed [] old n n old
 pushed_none old n = record { count = omega arith; list = refl }
 
 -- three runs of words are the differences on a number
-pub number_pushed : (first second : List ℕ) (n : ℕ) (a b : Held)
+pub number_pushed : (first second : List ℕ) (n : ℕ) (a b : Option (ℕ × ℕ))
     → words_for n (conflict_as (flag_held a) ConflictFirst) ++ (words_for n (conflict_as (flag_held b) ConflictSecond) ++ words_for n (part_as (standing_held first a) (standing_held second b)))
     ≡ words_for n (held_differences first second a b)
 unfolding held_differences
@@ -123,10 +120,10 @@ number_pushed first second n a b =
     sym (for-append n ca (cb ++ part) ∙ ap (λ l. words_for n ca ++ l) (for-append n cb part))
 
 -- at most one conflict and one difference more for each side that has the number
-pub conflict-few : (n : ℕ) (held : Held) (d : Difference) → length (words_for n (conflict_as (flag_held held) d)) ≤ has_of held
+pub conflict-few : (n : ℕ) (held : Option (ℕ × ℕ)) (d : Difference) → length (words_for n (conflict_as (flag_held held) d)) ≤ has_of held
 unfolding words_for
-conflict-few n Not d = le_refl 0
-conflict-few n (At place flag) d = cases (eqb flag 0) (λ t. simp t (omega arith)) (λ f. simp f (omega arith))
+conflict-few n None d = le_refl 0
+conflict-few n (Some (place, flag)) d = cases (eqb flag 0) (λ t. simp t (omega arith)) (λ f. simp f (omega arith))
 
 content-few : (n : ℕ) (content : Content) → length (words_for n (content_as content)) ≤ 1
 unfolding words_for
@@ -134,14 +131,14 @@ content-few n contents.Equal = omega arith
 content-few n (contents.Differ place x y) = le_refl 1
 content-few n (contents.Begins k) = le_refl 1
 
-part-few : (first second : List ℕ) (n : ℕ) (a b : Held) → length (words_for n (part_as (standing_held first a) (standing_held second b))) ≤ has_of a + has_of b
+part-few : (first second : List ℕ) (n : ℕ) (a b : Option (ℕ × ℕ)) → length (words_for n (part_as (standing_held first a) (standing_held second b))) ≤ has_of a + has_of b
 unfolding words_for
-part-few first second n Not Not = le_refl 0
-part-few first second n (At i f) Not = le_refl 1
-part-few first second n Not (At j g) = le_refl 1
-part-few first second n (At i f) (At j g) = omega (arith, content-few n (content_of (run_at first i) (run_at second j)))
+part-few first second n None None = le_refl 0
+part-few first second n (Some (i, f)) None = le_refl 1
+part-few first second n None (Some (j, g)) = le_refl 1
+part-few first second n (Some (i, f)) (Some (j, g)) = omega (arith, content-few n (content_of (run_at first i) (run_at second j)))
 
-number-few : (first second : List ℕ) (n : ℕ) (a b : Held) → length (words_for n (held_differences first second a b)) ≤ (has_of a + has_of b) * 2
+number-few : (first second : List ℕ) (n : ℕ) (a b : Option (ℕ × ℕ)) → length (words_for n (held_differences first second a b)) ≤ (has_of a + has_of b) * 2
 number-few first second n a b =
     let x = conflict-few n a ConflictFirst in
     let y = conflict-few n b ConflictSecond in
@@ -242,7 +239,7 @@ below-words first second start r =
     let ds = differences_on first second n in
     words_append (list_below first second start r) (listed_for n ds) ∙ ap (λ l. words_of (list_below first second start r) ++ l) (words-for n ds)
 
-none-held : (first second : List ℕ) (a b : Held) → a ≡ Not → b ≡ Not → held_differences first second a b ≡ []
+none-held : (first second : List ℕ) (a b : Option (ℕ × ℕ)) → a ≡ None → b ≡ None → held_differences first second a b ≡ []
 unfolding held_differences
 none-held first second a b p q = simp (p, q)
 
@@ -362,7 +359,7 @@ lines-few : (lines : List (List ℕ)) → length (run_in lines) ≤ 2080
 lines-few [] = omega arith
 lines-few (frame ∷ []) = omega (arith, bytes-few frame)
 lines-few (frame ∷ payload ∷ rest) =
-    simp length-append (omega (arith, bytes-few frame, payload-few (line_found Frame 0 0 frame) payload))
+    simp length-append (omega (arith, bytes-few frame, payload-few (line_found None 0 0 frame) payload))
 
 -- a run is two lines, of at most 1,040 bytes each
 pub run_short : (input : List ℕ) (at : ℕ) → length (run_at input at) ≤ 2080
@@ -413,7 +410,7 @@ module _ (m : ℕ) (x : List ℕ) (n : ℕ) (y : List ℕ) (rooms : (m * 3 ≤ l
     pub turn-rank : rank < 2 ^ 32
     turn-rank = omega (arith, ranked, listing-rank first second start (rows_of m x) (rows_of n y) old i j k list says so_far left_over)
 
-    module _ (a b : Held) (held-a : a ≡ held_first rank (drop i (rows_of m x))) (held-b : b ≡ held_first rank (drop j (rows_of n y))) where
+    module _ (a b : Option (ℕ × ℕ)) (held-a : a ≡ held_first rank (drop i (rows_of m x))) (held-b : b ≡ held_first rank (drop j (rows_of n y))) where
       same-a : a ≡ held_first (next_rank (drop i (rows_of m x)) (drop j (rows_of n y))) (drop i (rows_of m x))
       same-a = held-a ∙ ap (λ r. held_first r (drop i (rows_of m x))) ranked
 

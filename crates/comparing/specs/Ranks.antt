@@ -1,11 +1,9 @@
 -- Document 02 [6]: "Distance is taken from a start number". Assumes nothing.
-use Rattle.std.specs.Prelude.{◌≡◌, ℕ, ◌+◌, ◌-◌, ◌^◌, ◌<◌, ltb, ℤ, pos, negsuc}
+use Rattle.std.specs.Prelude.{◌≡◌, ℕ, ◌+◌, ◌-◌, ◌^◌, ◌<◌, ltb, ℤ, pos, negsuc, Some, None, Option}
 use Rattle.std.proofs.Common.{arith}
 use Rattle.std.specs.Int.Signed.{mag}
 use borrow.Author.Tests.{ltb-true, ltb-false}
 use borrow.Table.Steps.{cases}
-use Rattle.seq.specs.declared.Apart.{Apart}
-use Rattle.seq.specs.declared.Apart.TheVariants.{By, Far}
 use Rattle.seq.specs.Numbers.{plus, minus, signed}
 use Rattle.seq.specs.Laws.{minus-lt, plus-lt, signed_low, signed_high}
 use Rattle.seq.specs.Distance.{distance_of, by-signed}
@@ -22,9 +20,9 @@ unfolding plus
 number_of start rank = plus (plus start (2 ^ 31)) rank
 
 -- "22 for a number far from the start number": the line of a message with such a number, else 0
-abbrev pub far_as : Apart → ℕ → ℕ
-far_as (By d) line = 0
-far_as Far line = line
+abbrev pub far_as : Option ℤ → ℕ → ℕ
+far_as (Some d) line = 0
+far_as None line = line
 
 unfoldable pub far_at : ℕ → Message → ℕ
 unfolding distance_of
@@ -68,5 +66,5 @@ module _ (start number : ℕ) where
       (λ f. let i = ltb-false d (2 ^ 31) f in simp (signed_high d i) (omega arith))
 
   -- so a number that is not far has the rank by its distance
-  pub rank-by : (d : ℤ) → start < 2 ^ 32 → distance_of number start ≡ By d → rank_by d ≡ rank_of start number
+  pub rank-by : (d : ℤ) → start < 2 ^ 32 → distance_of number start ≡ Some d → rank_by d ≡ rank_of start number
   rank-by d h e = rw (by-signed number start d e) at (rank-signed h)

@@ -1,14 +1,12 @@
 -- The rows of a table in rising order of their ranks: where a rank stands among them, and a row more. Assumes nothing.
 use Rattle.std.proofs.Math.Path.{◌≡◌, refl, ap}
-use Rattle.std.specs.Prelude.{Bool, true, false, cond, eqb, ltb, length, get_or, drop}
+use Rattle.std.specs.Prelude.{Bool, true, false, cond, eqb, ltb, length, get_or, drop, Some, None, Option}
 use mathlib.Core.List.{List, [], ◌∷◌}
 use Prim.Native.Nat.{ℕ, zero, suc, ◌^◌, ◌≤◌, ◌<◌}
 use Rattle.std.proofs.Common.{not-suc-le-zero, le_refl, le_trans, drop_of_length-le}
 use native.Mathlib.Omega.{arith}
 use borrow.Author.Tests.{eqb-true, eqb-false, eq-eqb, ne_eqb, ltb-true, ltb-false, lt-ltb, le-ltb}
 use borrow.Table.Steps.{cases}
-use Rattle.comparing.specs.declared.table.Held.{Held}
-use Rattle.comparing.specs.declared.table.Held.TheVariants.{Not, At}
 
 -- a number's rank, the place of its first message, and 1 where a repeat has other content, else 0
 pub record Row : Type 0 where
@@ -46,17 +44,17 @@ insert_at (suc i) new [] = new ∷ []
 insert_at (suc i) new (x ∷ rest) = x ∷ insert_at i new rest
 
 -- what the first row has, if it is of this rank
-abbrev pub held_if : Bool → Row → Held → Held
-held_if true x other = At x.place x.flag
+abbrev pub held_if : Bool → Row → Option (ℕ × ℕ) → Option (ℕ × ℕ)
+held_if true x other = Some (x.place, x.flag)
 held_if false x other = other
 
-unfoldable pub held_first : ℕ → List Row → Held
-held_first rank [] = Not
-held_first rank (x ∷ rest) = held_if (eqb x.rank rank) x Not
+unfoldable pub held_first : ℕ → List Row → Option (ℕ × ℕ)
+held_first rank [] = None
+held_first rank (x ∷ rest) = held_if (eqb x.rank rank) x None
 
 -- what any row has
-unfoldable pub held_in : ℕ → List Row → Held
-held_in rank [] = Not
+unfoldable pub held_in : ℕ → List Row → Option (ℕ × ℕ)
+held_in rank [] = None
 held_in rank (x ∷ rest) = held_if (eqb x.rank rank) x (held_in rank rest)
 
 -- a row whose flag is set
@@ -78,7 +76,7 @@ rising-from least other [] g h = le_trans g h
 rising-from least other (x ∷ rest) g h = (le_trans g h.0, h.1)
 
 -- below the least rank nothing is held
-pub held_below : (rank least : ℕ) (rows : List Row) → Rising least rows → rank < least → held_in rank rows ≡ Not
+pub held_below : (rank least : ℕ) (rows : List Row) → Rising least rows → rank < least → held_in rank rows ≡ None
 unfolding Rising held_in
 held_below rank least [] h g = refl
 held_below rank least (x ∷ rest) h g =
@@ -143,7 +141,7 @@ module _ (new : Row) where
   insert-length (suc i) (x ∷ rest) = ap suc (insert-length i rest)
 
   pub insert-rising : (least : ℕ) (rows : List Row) → Rising least rows → least ≤ new.rank → new.rank < 2 ^ 32
-      → held_in new.rank rows ≡ Not → Rising least (insert_at (position_in new.rank rows) new rows)
+      → held_in new.rank rows ≡ None → Rising least (insert_at (position_in new.rank rows) new rows)
   unfolding Rising insert_at position_in held_in
   insert-rising least [] h g l none = (g, l)
   insert-rising least (x ∷ rest) h g l none =
@@ -155,7 +153,7 @@ module _ (new : Row) where
       (λ t. simp t (h.0, insert-rising (suc x.rank) rest h.1 (ltb-true x.rank new.rank t) l (simp n at none)))
       (λ f. let over = ltb-false x.rank new.rank f in simp f (g, (omega arith, h.1))))
 
-  pub insert-same : (i : ℕ) (rows : List Row) → held_in new.rank rows ≡ Not → held_in new.rank (insert_at i new rows) ≡ At new.place new.flag
+  pub insert-same : (i : ℕ) (rows : List Row) → held_in new.rank rows ≡ None → held_in new.rank (insert_at i new rows) ≡ Some (new.place, new.flag)
   unfolding insert_at held_in
   insert-same zero rows none = simp (eq-eqb new.rank new.rank refl)
   insert-same (suc i) [] none = simp (eq-eqb new.rank new.rank refl)
@@ -184,8 +182,8 @@ marked-rising least zero (x ∷ rest) h = h
 marked-rising least (suc i) (x ∷ rest) h = (h.0, marked-rising (suc x.rank) i rest h.1)
 
 module _ (rank place flag : ℕ) where
-  pub marked-same : (rows : List Row) → held_first rank (drop (position_in rank rows) rows) ≡ At place flag
-      → held_in rank (marked_at (position_in rank rows) rows) ≡ At place 1
+  pub marked-same : (rows : List Row) → held_first rank (drop (position_in rank rows) rows) ≡ Some (place, flag)
+      → held_in rank (marked_at (position_in rank rows) rows) ≡ Some (place, 1)
   unfolding held_first held_in position_in marked_at
   marked-same [] e = let z : ◌≡◌ {A = ℕ} 0 1 = cc in absurd (omega arith)
   marked-same (x ∷ rest) e =
@@ -195,10 +193,13 @@ module _ (rank place flag : ℕ) where
       simp (t, ne_eqb x.rank rank (λ q. omega arith)) (marked-same rest (simp t at e)))
       (λ f.
       cases (eqb x.rank rank)
-      (λ t. let p : x.place ≡ place = cc (simp (f, t) at e) in simp (f, t) (ap (λ n. At n 1) p))
+      (λ t.
+      let some : ◌≡◌ {A = Option (ℕ × ℕ)} (Some (x.place, x.flag)) (Some (place, flag)) = simp (f, t) at e in
+      let both : ◌≡◌ {A = ℕ × ℕ} (x.place, x.flag) (place, flag) = cc in
+      simp (f, t) (ap (λ (n : ℕ × ℕ). Some (n.0, 1)) both))
       (λ n. let z : ◌≡◌ {A = ℕ} 0 1 = cc (simp (f, n) at e) in absurd (omega arith)))
 
-  pub marked_other : (q : ℕ) (rows : List Row) → (rank ≡ q → ⊥) → held_first rank (drop (position_in rank rows) rows) ≡ At place flag
+  pub marked_other : (q : ℕ) (rows : List Row) → (rank ≡ q → ⊥) → held_first rank (drop (position_in rank rows) rows) ≡ Some (place, flag)
       → held_in q (marked_at (position_in rank rows) rows) ≡ held_in q rows
   unfolding held_first held_in position_in marked_at
   marked_other q [] ne e = let z : ◌≡◌ {A = ℕ} 0 1 = cc in absurd (omega arith)
@@ -213,12 +214,12 @@ module _ (rank place flag : ℕ) where
       (λ n. let z : ◌≡◌ {A = ℕ} 0 1 = cc (simp (f, n) at e) in absurd (omega arith)))
 
 -- a row that is found is one of the rows
-pub found_within : (rank place flag i : ℕ) (rows : List Row) → At place flag ≡ held_first rank (drop i rows) → i < length rows
+pub found_within : (rank place flag i : ℕ) (rows : List Row) → Some (place, flag) ≡ held_first rank (drop i rows) → i < length rows
 unfolding held_first
 found_within rank place flag i rows e =
     cases (ltb i (length rows))
     (λ t. ltb-true i (length rows) t)
     (λ f.
-    let none : held_first rank (drop i rows) ≡ Not = ap (held_first rank) (drop_of_length-le rows {i = i} (ltb-false i (length rows) f)) in
+    let none : held_first rank (drop i rows) ≡ None = ap (held_first rank) (drop_of_length-le rows {i = i} (ltb-false i (length rows) f)) in
     let z : ◌≡◌ {A = ℕ} 0 1 = cc in
     absurd (omega arith))

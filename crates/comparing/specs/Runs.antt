@@ -1,6 +1,6 @@
 -- Document 02 [6]: "Frame and payload are compared as one run"; "the first differing byte's place and both byte values; where one is a
 -- beginning of the other, the shorter length". Assumes nothing.
-use Rattle.std.specs.Prelude.{◌≡◌, refl, Bool, true, false, cond, ◌&&◌, List, [], ◌∷◌, ◌++◌, ℕ, ◌+◌, ◌-◌, ◌≤◌, ◌<◌, eqb, leb, length, get_or, drop}
+use Rattle.std.specs.Prelude.{◌≡◌, refl, Bool, true, false, cond, ◌&&◌, List, [], ◌∷◌, ◌++◌, ℕ, ◌+◌, ◌-◌, ◌≤◌, ◌<◌, eqb, leb, length, get_or, drop, None}
 use Rattle.std.proofs.Common.{sym, ◌∙◌, append-nil, length-take-le}
 use Rattle.std.proofs.Math.Path.{ap}
 use Rattle.std.proofs.Math.ListN.{take, drop_of_length-le}
@@ -10,7 +10,6 @@ use borrow.Author.Tests.{eq-eqb, ne_eqb, le-leb, lt-leb}
 use borrow.Table.Steps.{cases}
 use Rattle.text.specs.HexRun.{spells, spelt}
 use Rattle.recording.specs.Lines.{lines_from, lines_of, until_feed, byte-first, line-none, line_first}
-use Rattle.comparing.specs.declared.messages.Waiting.TheVariants.{Frame}
 use Rattle.comparing.specs.declared.messages.Found.{Found}
 use Rattle.comparing.specs.declared.messages.Found.TheVariants as found
 use Rattle.comparing.specs.declared.runs.Content.{Content}
@@ -47,7 +46,7 @@ payload_after found.Passes line = []
 abbrev pub run_in : List (List ℕ) → List ℕ
 run_in [] = []
 run_in (frame ∷ []) = line_bytes frame
-run_in (frame ∷ payload ∷ rest) = line_bytes frame ++ payload_after (line_found Frame 0 0 frame) payload
+run_in (frame ∷ payload ∷ rest) = line_bytes frame ++ payload_after (line_found None 0 0 frame) payload
 
 -- the run of the message whose frame's line begins at a place
 unfoldable pub run_at : List ℕ → ℕ → List ℕ
@@ -122,7 +121,7 @@ module _ (input : List ℕ) (at : ℕ) where
         ap run_in (line_first input at end ends h ∙ ap (λ l. take (end - at) (drop at input) ∷ l) (line-none input (end + 1) g))
 
     pub run-two : (last : ℕ) → last ≡ end + 1 + length (until_feed (drop (end + 1) input)) → end + 1 < length input
-        → run_at input at ≡ line_bytes (take (end - at) (drop at input)) ++ payload_after (line_found Frame 0 0 (take (end - at) (drop at input))) (take (last - (end + 1)) (drop (end + 1) input))
+        → run_at input at ≡ line_bytes (take (end - at) (drop at input)) ++ payload_after (line_found None 0 0 (take (end - at) (drop at input))) (take (last - (end + 1)) (drop (end + 1) input))
     unfolding run_at
     run-two last lasts g =
         ap run_in (line_first input at end ends h ∙ ap (λ l. take (end - at) (drop at input) ∷ l) (line_first input (end + 1) last lasts g))

@@ -1,16 +1,14 @@
 -- The messages of a recording have numbers of 32 bits and lines that are counted from 1, and its start number has 32 bits. Assumes
 -- nothing.
-use Rattle.std.specs.Prelude.{Bool, true, false, cond, ◌&&◌, List, [], ◌∷◌, ℕ, ◌+◌, ◌^◌, ◌<◌, eqb, leb, length}
+use Rattle.std.specs.Prelude.{Bool, true, false, cond, ◌&&◌, List, [], ◌∷◌, ℕ, ◌+◌, ◌^◌, ◌<◌, eqb, leb, length, Some, None, Option, Ok, Err, Result}
+use Rattle.refusal.specs.declared.Refusal.{Refusal}
+use Rattle.seq.specs.declared.Seq.{Seq}
 use Rattle.std.proofs.Common.{arith}
 use borrow.Table.Steps.{cases}
 use Rattle.msg.specs.declared.link_msg.LinkMsg.{LinkMsg}
 use Rattle.msg.specs.declared.link_msg.LinkMsg.TheVariants as links
-use Rattle.msg.specs.declared.reading.Reading.{Reading}
-use Rattle.msg.specs.declared.reading.Reading.TheVariants as readings
 use Rattle.msg.specs.declared.reliable.ReliableMsg.{ReliableMsg}
 use Rattle.msg.specs.declared.reliable.ReliableMsg.TheVariants as reliable
-use Rattle.msg.specs.declared.reliable.FromLink.{FromLink}
-use Rattle.msg.specs.declared.reliable.FromLink.TheVariants.{Reliable, Other}
 use Rattle.msg.specs.Reading.{bad, read_of}
 use Rattle.msg.specs.RoundTrip.{Ranged}
 use Rattle.msg.specs.Encoding.{Bytes, Answers, answers, number_small}
@@ -20,24 +18,20 @@ use Rattle.recording.specs.Lines.{lines_of}
 use Rattle.recording.specs.Frames.{frame_of}
 use Rattle.recording.specs.Payloads.{is_payload}
 use Rattle.comparing.specs.declared.messages.Message.{Message}
-use Rattle.comparing.specs.declared.messages.Waiting.{Waiting}
-use Rattle.comparing.specs.declared.messages.Waiting.TheVariants.{Frame, Payload}
 use Rattle.comparing.specs.declared.messages.Found.{Found}
 use Rattle.comparing.specs.declared.messages.Found.TheVariants as found
-use Rattle.comparing.specs.declared.messages.Start.{Start}
-use Rattle.comparing.specs.declared.messages.Start.TheVariants as starts
 use Rattle.comparing.specs.Messages.{start_line, start_in, start_of, found_reliable, found_carried, found_reading, found_payload, line_found, Body, body_as, body_from, body_after, body_in, body_of, spelt-small}
 use Rattle.comparing.specs.Says.{Sane}
 
 -- ---- what a frame reads as: the number that it carries, if any, is of 32 bits
 
-abbrev SmallCarried : FromLink → Type 0
-SmallCarried (Reliable msg seq) = seq.0 < 2 ^ 32
-SmallCarried Other = Unit {0}
+abbrev SmallCarried : Option (ReliableMsg × Seq) → Type 0
+SmallCarried (Some (msg, seq)) = seq.0 < 2 ^ 32
+SmallCarried None = Unit {0}
 
-abbrev SmallRead : Reading → Type 0
-SmallRead (readings.Message msg) = SmallCarried (from_link msg)
-SmallRead (readings.No e) = Unit {0}
+abbrev SmallRead : Result LinkMsg Refusal → Type 0
+SmallRead (Ok msg) = SmallCarried (from_link msg)
+SmallRead (Err e) = Unit {0}
 
 carried-small : (msg : LinkMsg) → Ranged msg → SmallCarried (from_link msg)
 carried-small links.Welcome small = tt
@@ -57,11 +51,11 @@ carried-small (links.SetBlock blocked) small = tt
 carried-small links.Goodbye small = tt
 carried-small links.Terminate small = tt
 
-answer-small : (bytes : List ℕ) (r : Reading) → Answers bytes r → Bytes bytes → SmallRead r
-answer-small bytes (readings.Message msg) says small = carried-small msg (says small).0
-answer-small bytes (readings.No e) says small = tt
+answer-small : (bytes : List ℕ) (r : Result LinkMsg Refusal) → Answers bytes r → Bytes bytes → SmallRead r
+answer-small bytes (Ok msg) says small = carried-small msg (says small).0
+answer-small bytes (Err e) says small = tt
 
-either : (b : Bool) (x : Reading) → SmallRead x → SmallRead (cond b x bad)
+either : (b : Bool) (x : Result LinkMsg Refusal) → SmallRead x → SmallRead (cond b x bad)
 either true x small = small
 either false x small = tt
 
@@ -80,9 +74,9 @@ SaneFound (found.Awaits m) = SaneMessage m
 SaneFound (found.Holds m) = SaneMessage m
 SaneFound found.Passes = Unit {0}
 
-abbrev SaneWaiting : Waiting → Type 0
-SaneWaiting Frame = Unit {0}
-SaneWaiting (Payload m) = SaneMessage m
+abbrev SaneWaiting : Option Message → Type 0
+SaneWaiting None = Unit {0}
+SaneWaiting (Some m) = SaneMessage m
 
 reliable-sane : (msg : ReliableMsg) (m : Message) → SaneMessage m → SaneFound (found_reliable msg m)
 reliable-sane reliable.Data m sane = sane
@@ -92,41 +86,41 @@ reliable-sane reliable.ReceiveClose m sane = sane
 reliable-sane reliable.ReceiveFinish m sane = sane
 
 module _ (at line : ℕ) (counted : 0 < line) where
-  carried-sane : (carried : FromLink) → SmallCarried carried → SaneFound (found_carried carried at line)
-  carried-sane (Reliable msg seq) small = reliable-sane msg (record { number = seq; at = at; line = line }) (small, counted)
-  carried-sane Other small = tt
+  carried-sane : (carried : Option (ReliableMsg × Seq)) → SmallCarried carried → SaneFound (found_carried carried at line)
+  carried-sane (Some (msg, seq)) small = reliable-sane msg (record { number = seq; at = at; line = line }) (small, counted)
+  carried-sane None small = tt
 
-  reading-sane : (reading : Reading) → SmallRead reading → SaneFound (found_reading reading at line)
-  reading-sane (readings.Message msg) small = carried-sane (from_link msg) small
-  reading-sane (readings.No e) small = tt
+  reading-sane : (reading : Result LinkMsg Refusal) → SmallRead reading → SaneFound (found_reading reading at line)
+  reading-sane (Ok msg) small = carried-sane (from_link msg) small
+  reading-sane (Err e) small = tt
 
 payload-sane : (b : Bool) (m : Message) → SaneMessage m → SaneFound (found_payload b m)
 payload-sane true m sane = sane
 payload-sane false m sane = tt
 
-line-sane : (w : Waiting) (at line : ℕ) (text : List ℕ) → 0 < line → SaneWaiting w → SaneFound (line_found w at line text)
+line-sane : (w : Option Message) (at line : ℕ) (text : List ℕ) → 0 < line → SaneWaiting w → SaneFound (line_found w at line text)
 unfolding line_found
-line-sane Frame at line text counted sane = reading-sane at line counted (frame_of text) (frame_small text)
-line-sane (Payload m) at line text counted sane = payload-sane (is_payload text) m sane
+line-sane None at line text counted sane = reading-sane at line counted (frame_of text) (frame_small text)
+line-sane (Some m) at line text counted sane = payload-sane (is_payload text) m sane
 
-found-sane : (f : Found) (line : ℕ) (rest : Waiting → Body) → SaneFound f → ((w : Waiting) → SaneWaiting w → Sane (rest w).messages) → Sane (body_as f line rest).messages
+found-sane : (f : Found) (line : ℕ) (rest : Option Message → Body) → SaneFound f → ((w : Option Message) → SaneWaiting w → Sane (rest w).messages) → Sane (body_as f line rest).messages
 unfolding Sane
 found-sane found.Bad line rest sane later = tt
-found-sane (found.Awaits m) line rest sane later = later (Payload m) sane
-found-sane (found.Holds m) line rest sane later = (sane, later Frame tt)
-found-sane found.Passes line rest sane later = later Frame tt
+found-sane (found.Awaits m) line rest sane later = later (Some m) sane
+found-sane (found.Holds m) line rest sane later = (sane, later None tt)
+found-sane found.Passes line rest sane later = later None tt
 
-from-sane : (w : Waiting) (at line : ℕ) (lines : List (List ℕ)) → 0 < line → SaneWaiting w → Sane (body_from w at line lines).messages
+from-sane : (w : Option Message) (at line : ℕ) (lines : List (List ℕ)) → 0 < line → SaneWaiting w → Sane (body_from w at line lines).messages
 unfolding body_from Sane
 from-sane w at line [] counted sane = tt
 from-sane w at line (text ∷ rest) counted sane =
     found-sane (line_found w at line text) line (λ v. body_from v (at + length text + 1) (line + 1) rest) (line-sane w at line text counted sane)
     (λ v waits. from-sane v (at + length text + 1) (line + 1) rest (omega arith) waits)
 
-after-sane : (s : Start) (text : List ℕ) (rest : List (List ℕ)) → Sane (body_after s text rest).messages
+after-sane : (s : Option Seq) (text : List ℕ) (rest : List (List ℕ)) → Sane (body_after s text rest).messages
 unfolding Sane
-after-sane (starts.Number start) text rest = from-sane Frame (length text + 1) 2 rest (omega arith) tt
-after-sane starts.Bad text rest = tt
+after-sane (Some start) text rest = from-sane None (length text + 1) 2 rest (omega arith) tt
+after-sane None text rest = tt
 
 in-sane : (lines : List (List ℕ)) → Sane (body_in lines).messages
 unfolding Sane

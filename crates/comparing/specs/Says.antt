@@ -1,8 +1,6 @@
 -- What the rows of a table say of a recording's messages. Assumes nothing.
-use Rattle.std.specs.Prelude.{◌≡◌, Bool, false, not, List, [], ◌∷◌, ◌++◌, ℕ, ◌^◌, ◌<◌, eqb}
+use Rattle.std.specs.Prelude.{◌≡◌, Bool, false, not, List, [], ◌∷◌, ◌++◌, ℕ, ◌^◌, ◌<◌, eqb, Some, None, Option}
 use Rattle.comparing.specs.declared.messages.Message.{Message}
-use Rattle.comparing.specs.declared.table.Held.{Held}
-use Rattle.comparing.specs.declared.table.Held.TheVariants.{Not, At}
 use Rattle.comparing.specs.declared.listing.Difference.{Difference}
 use Rattle.comparing.specs.declared.listing.Difference.TheVariants.{ConflictFirst, ConflictSecond}
 use Rattle.comparing.specs.Runs.{run_at}
@@ -15,16 +13,16 @@ unfoldable pub Sane : List Message → Type 0
 Sane [] = Unit
 Sane (m ∷ rest) = ((m.number.0 < 2 ^ 32) × (0 < m.line)) × Sane rest
 
-abbrev pub standing_held : List ℕ → Held → Standing
-standing_held input Not = Absent
-standing_held input (At place flag) = Run (run_at input place)
+abbrev pub standing_held : List ℕ → Option (ℕ × ℕ) → Standing
+standing_held input None = Absent
+standing_held input (Some (place, flag)) = Run (run_at input place)
 
-abbrev pub flag_held : Held → Bool
-flag_held Not = false
-flag_held (At place flag) = not (eqb flag 0)
+abbrev pub flag_held : Option (ℕ × ℕ) → Bool
+flag_held None = false
+flag_held (Some (place, flag)) = not (eqb flag 0)
 
 -- the differences on a number by what two tables have of it
-unfoldable pub held_differences : List ℕ → List ℕ → Held → Held → List Difference
+unfoldable pub held_differences : List ℕ → List ℕ → Option (ℕ × ℕ) → Option (ℕ × ℕ) → List Difference
 unfolding run_at
 held_differences first second a b =
     conflict_as (flag_held a) ConflictFirst

@@ -1,13 +1,9 @@
 -- The table of a recording, message by message. Assumes nothing.
-use Rattle.std.specs.Prelude.{◌≡◌, true, false, cond, List, [], ◌∷◌, ℕ, ◌≤◌, ◌<◌, eqb, ltb, length, drop}
+use Rattle.std.specs.Prelude.{◌≡◌, true, false, cond, List, [], ◌∷◌, ℕ, ◌≤◌, ◌<◌, eqb, ltb, length, drop, Some, None, Option, ℤ}
 use Rattle.std.proofs.Common.{◌∙◌, ap, lt-ltb, le-ltb}
-use Rattle.seq.specs.declared.Apart.{Apart}
-use Rattle.seq.specs.declared.Apart.TheVariants.{By, Far}
 use Rattle.seq.specs.Distance.{distance_of}
 use Rattle.comparing.specs.Sizes.{NUMBERS}
 use Rattle.comparing.specs.declared.messages.Message.{Message}
-use Rattle.comparing.specs.declared.table.Held.{Held}
-use Rattle.comparing.specs.declared.table.Held.TheVariants.{Not, At}
 use Rattle.comparing.specs.declared.table.Counts.{Counts}
 use Rattle.comparing.specs.Runs.{content_from, content_of, is_equal, run_at}
 use Rattle.comparing.specs.Ranks.{rank_by}
@@ -42,9 +38,9 @@ added i rank m t =
     (record { rows = insert_at i (row rank m.at 0) t.rows; far = t.far; many = t.many })
     (record { rows = t.rows; far = t.far; many = earliest t.many m.line })
 
-abbrev pub entered_as : Held → List ℕ → ℕ → ℕ → Message → Table → Table
-entered_as Not input i rank m t = added i rank m t
-entered_as (At first flag) input i rank m t = record { rows = repeated input first m.at i t.rows; far = t.far; many = t.many }
+abbrev pub entered_as : Option (ℕ × ℕ) → List ℕ → ℕ → ℕ → Message → Table → Table
+entered_as None input i rank m t = added i rank m t
+entered_as (Some (first, flag)) input i rank m t = record { rows = repeated input first m.at i t.rows; far = t.far; many = t.many }
 
 abbrev pub with_far : ℕ → Table → Table
 with_far line t = record { rows = t.rows; far = earliest t.far line; many = t.many }
@@ -54,9 +50,9 @@ abbrev pub entered_at : List ℕ → ℕ → Message → Table → Table
 entered_at input rank m t = entered_as (held_first rank (drop (position_in rank t.rows) t.rows)) input (position_in rank t.rows) rank m t
 
 -- [6], "22 for a number far from the start number"; [5], "so that no caller orders such numbers": a far message is told and is not entered
-abbrev pub entered_by : Apart → List ℕ → Table → Message → Table
-entered_by Far input t m = with_far m.line t
-entered_by (By d) input t m = entered_at input (rank_by d) m t
+abbrev pub entered_by : Option ℤ → List ℕ → Table → Message → Table
+entered_by None input t m = with_far m.line t
+entered_by (Some d) input t m = entered_at input (rank_by d) m t
 
 unfoldable pub entered : List ℕ → ℕ → Table → Message → Table
 unfolding repeated added earliest held_first position_in distance_of
@@ -88,7 +84,7 @@ module _ (i rank : ℕ) (m : Message) (t : Table) where
   added_full h = simp (le-ltb (length t.rows) 1024 h)
 
 -- a message by the row that was found for its rank, and by what is held there
-pub entered-held : (input : List ℕ) (rank i : ℕ) (m : Message) (t : Table) (held : Held) → i ≡ position_in rank t.rows → held ≡ held_first rank (drop i t.rows)
+pub entered-held : (input : List ℕ) (rank i : ℕ) (m : Message) (t : Table) (held : Option (ℕ × ℕ)) → i ≡ position_in rank t.rows → held ≡ held_first rank (drop i t.rows)
     → entered_as held input i rank m t ≡ entered_at input rank m t
 entered-held input rank i m t held placed e =
     ap (λ h. entered_as h input i rank m t) e ∙ ap (λ j. entered_as (held_first rank (drop j t.rows)) input j rank m t) placed

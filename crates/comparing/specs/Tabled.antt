@@ -1,6 +1,6 @@
 -- A table that is filled message by message says what the messages say: which numbers there are, what stands for each, and which are in
 -- conflict. Assumes nothing.
-use Rattle.std.specs.Prelude.{◌≡◌, Bool, true, false, cond, not, ◌||◌, ltb, length, drop}
+use Rattle.std.specs.Prelude.{◌≡◌, Bool, true, false, cond, not, ◌||◌, ltb, length, drop, Some, None, Option, ℤ}
 use Rattle.std.proofs.Math.Path.{refl, sym, ap}
 use Rattle.std.proofs.Common.{◌∙◌, arith}
 use mathlib.Core.List.{List, [], ◌∷◌}
@@ -8,12 +8,8 @@ use Prim.Native.Nat.{ℕ, suc, ◌^◌, ◌≤◌, ◌<◌}
 use Rattle.std.proofs.Math.Dec.{eqb}
 use borrow.Author.Tests.{eqb-true, eqb-false, eq-eqb, ne_eqb, ltb-true, ltb-false, lt-ltb, le-ltb}
 use borrow.Table.Steps.{cases}
-use Rattle.seq.specs.declared.Apart.{Apart}
-use Rattle.seq.specs.declared.Apart.TheVariants.{By, Far}
 use Rattle.seq.specs.Distance.{distance_of, by-small}
 use Rattle.comparing.specs.declared.messages.Message.{Message}
-use Rattle.comparing.specs.declared.table.Held.{Held}
-use Rattle.comparing.specs.declared.table.Held.TheVariants.{Not, At}
 use Rattle.comparing.specs.Messages.{body_of, start_of}
 use Rattle.comparing.specs.Runs.{content_from, content_of, is_equal, run_at, content-same}
 use Rattle.comparing.specs.Ranks.{rank_by, number_of, far_as, far_at, rank-by-lt, number_lt, rank_of, rank-of-number, number-of-rank, rank-by}
@@ -27,9 +23,9 @@ use Rattle.comparing.specs.Sanity.{body-sane, start_small}
 -- ---- what a message makes of a table: it is far, or its number is held already, or it is new, or it is new to a full table
 
 -- a far message has no rank: the 0 that stands for it is asked for nowhere
-abbrev rank_as : Apart → ℕ
-rank_as (By d) = rank_by d
-rank_as Far = 0
+abbrev rank_as : Option ℤ → ℕ
+rank_as (Some d) = rank_by d
+rank_as None = 0
 
 abbrev rank_for : ℕ → Message → ℕ
 rank_for start m = rank_as (distance_of m.number.0 start)
@@ -38,18 +34,18 @@ rank_for start m = rank_as (distance_of m.number.0 start)
 abbrev row_for : ℕ → Table → Message → ℕ
 row_for start t m = position_in (rank_for start m) t.rows
 
-abbrev held_for : ℕ → Table → Message → Held
+abbrev held_for : ℕ → Table → Message → Option (ℕ × ℕ)
 held_for start t m = held_first (rank_for start m) (drop (row_for start t m) t.rows)
 
 abbrev entered_with : ℕ → Table → Message → List Row → ℕ → Table
 entered_with start t m rows many = record { rows = rows; far = earliest t.far (far_at start m); many = many }
 
 data Enters (input : List ℕ) (start : ℕ) (t : Table) (m : Message) : Type 0 where
-  again : (place flag : ℕ) → held_for start t m ≡ At place flag
+  again : (place flag : ℕ) → held_for start t m ≡ Some (place, flag)
       → entered input start t m ≡ entered_with start t m (repeated input place m.at (row_for start t m) t.rows) t.many → Enters input start t m
-  new : held_for start t m ≡ Not → length t.rows < 1024
+  new : held_for start t m ≡ None → length t.rows < 1024
       → entered input start t m ≡ entered_with start t m (insert_at (row_for start t m) (row (rank_for start m) m.at 0) t.rows) t.many → Enters input start t m
-  full : held_for start t m ≡ Not → 1024 ≤ length t.rows
+  full : held_for start t m ≡ None → 1024 ≤ length t.rows
       → entered input start t m ≡ entered_with start t m t.rows (earliest t.many m.line) → Enters input start t m
   far : far_at start m ≡ m.line → entered input start t m ≡ entered_with start t m t.rows t.many → Enters input start t m
 
@@ -58,25 +54,25 @@ unfolding earliest
 earliest-none a = cases (eqb a 0) (λ t. simp t (sym (eqb-true a 0 t))) (λ f. simp f)
 
 module _ (start : ℕ) (m : Message) where
-  small-as : (a : Apart) → distance_of m.number.0 start ≡ a → rank_as a < 2 ^ 32
-  small-as (By d) e = rank-by-lt d (omega (arith, by-small m.number.0 start d e))
-  small-as Far e = omega arith
+  small-as : (a : Option ℤ) → distance_of m.number.0 start ≡ a → rank_as a < 2 ^ 32
+  small-as (Some d) e = rank-by-lt d (omega (arith, by-small m.number.0 start d e))
+  small-as None e = omega arith
 
   rank-small : rank_for start m < 2 ^ 32
   rank-small = small-as (distance_of m.number.0 start) refl
 
   -- a message that is not far has its number's rank
-  near-as : (a : Apart) → distance_of m.number.0 start ≡ a → start < 2 ^ 32 → 0 < m.line → far_as a m.line ≡ 0 → rank_as a ≡ rank_of start m.number.0
-  near-as (By d) e low counted near = rank-by start m.number.0 d low e
-  near-as Far e low counted near = absurd (omega arith)
+  near-as : (a : Option ℤ) → distance_of m.number.0 start ≡ a → start < 2 ^ 32 → 0 < m.line → far_as a m.line ≡ 0 → rank_as a ≡ rank_of start m.number.0
+  near-as (Some d) e low counted near = rank-by start m.number.0 d low e
+  near-as None e low counted near = absurd (omega arith)
 
   rank-near : start < 2 ^ 32 → 0 < m.line → far_at start m ≡ 0 → rank_for start m ≡ rank_of start m.number.0
   unfolding far_at
   rank-near low counted near = near-as (distance_of m.number.0 start) refl low counted near
 
 module _ (input : List ℕ) (start : ℕ) (t : Table) (m : Message) where
-  enters-as : (held : Held) → held_for start t m ≡ held → entered input start t m ≡ entered_at input (rank_for start m) m (with_far (far_at start m) t) → Enters input start t m
-  enters-as Not e is =
+  enters-as : (held : Option (ℕ × ℕ)) → held_for start t m ≡ held → entered input start t m ≡ entered_at input (rank_for start m) m (with_far (far_at start m) t) → Enters input start t m
+  enters-as None e is =
       cases (ltb (length t.rows) 1024)
       (λ b.
       let room = ltb-true (length t.rows) 1024 b in
@@ -84,13 +80,13 @@ module _ (input : List ℕ) (start : ℕ) (t : Table) (m : Message) where
       (λ b.
       let past = ltb-false (length t.rows) 1024 b in
       full e past (is ∙ rw e (added_full (row_for start t m) (rank_for start m) m (with_far (far_at start m) t) past)))
-  enters-as (At place flag) e is = again place flag e (is ∙ rw e)
+  enters-as (Some (place, flag)) e is = again place flag e (is ∙ rw e)
 
-  enters-by : (a : Apart) → distance_of m.number.0 start ≡ a → Enters input start t m
+  enters-by : (a : Option ℤ) → distance_of m.number.0 start ≡ a → Enters input start t m
   unfolding entered far_at
-  enters-by (By d) e =
+  enters-by (Some d) e =
       enters-as (held_for start t m) refl (rw e (ap (λ line. entered_at input (rank_by d) m (record { rows = t.rows; far = line; many = t.many })) (sym (earliest-none t.far))))
-  enters-by Far e = far (rw e) (rw e)
+  enters-by None e = far (rw e) (rw e)
 
   enters : Enters input start t m
   enters = enters-by (distance_of m.number.0 start) refl
@@ -201,15 +197,15 @@ many-none input start t ms none =
 
 -- ---- what a table has of a number after a message of it, and after any
 
-abbrev held_then : List ℕ → Held → ℕ → Held
-held_then input Not at = At at 0
-held_then input (At place flag) at = At place (cond (is_equal (content_of (run_at input place) (run_at input at))) flag 1)
+abbrev held_then : List ℕ → Option (ℕ × ℕ) → ℕ → Option (ℕ × ℕ)
+held_then input None at = Some (at, 0)
+held_then input (Some (place, flag)) at = Some (place, (cond (is_equal (content_of (run_at input place) (run_at input at))) flag 1))
 
-abbrev held_after : List ℕ → ℕ → Held → Message → Held
+abbrev held_after : List ℕ → ℕ → Option (ℕ × ℕ) → Message → Option (ℕ × ℕ)
 held_after input n held m = cond (eqb m.number.0 n) (held_then input held m.at) held
 
-module _ (input : List ℕ) (rank place flag at : ℕ) (rows : List Row) (e : held_first rank (drop (position_in rank rows) rows) ≡ At place flag) where
-  repeated-same : held_in rank rows ≡ At place flag → held_in rank (repeated input place at (position_in rank rows) rows) ≡ held_then input (At place flag) at
+module _ (input : List ℕ) (rank place flag at : ℕ) (rows : List Row) (e : held_first rank (drop (position_in rank rows) rows) ≡ Some (place, flag)) where
+  repeated-same : held_in rank rows ≡ Some (place, flag) → held_in rank (repeated input place at (position_in rank rows) rows) ≡ held_then input (Some (place, flag)) at
   unfolding repeated
   repeated-same held =
       cases (is_equal (content_of (run_at input place) (run_at input at)))
@@ -275,15 +271,15 @@ module _ (input : List ℕ) (start : ℕ) (t : Table) (m : Message) (h : Rising 
 
 -- ---- how many numbers there are
 
-abbrev is_held : Held → Bool
-is_held Not = false
-is_held (At place flag) = true
+abbrev is_held : Option (ℕ × ℕ) → Bool
+is_held None = false
+is_held (Some (place, flag)) = true
 
-then-held : (input : List ℕ) (held : Held) (at : ℕ) → is_held (held_then input held at) ≡ true
-then-held input Not at = refl
-then-held input (At place flag) at = refl
+then-held : (input : List ℕ) (held : Option (ℕ × ℕ)) (at : ℕ) → is_held (held_then input held at) ≡ true
+then-held input None at = refl
+then-held input (Some (place, flag)) at = refl
 
-after-held : (input : List ℕ) (n : ℕ) (held : Held) (m : Message) → is_held (held_after input n held m) ≡ (eqb m.number.0 n || is_held held)
+after-held : (input : List ℕ) (n : ℕ) (held : Option (ℕ × ℕ)) (m : Message) → is_held (held_after input n held m) ≡ (eqb m.number.0 n || is_held held)
 after-held input n held m = cases (eqb m.number.0 n) (λ t. simp t (then-held input held m.at)) (λ f. simp f)
 
 after-among : (k n : ℕ) (seen : List ℕ) → is_among n (with_number k seen) ≡ (eqb k n || is_among n seen)
@@ -307,7 +303,7 @@ kept-none start = record { count = refl; among = λ n within. refl }
 
 module _ (input : List ℕ) (start : ℕ) (low : start < 2 ^ 32) where
   module _ (seen : List ℕ) (t : Table) (m : Message) (kept : Kept start seen t.rows) (h : Rising 0 t.rows) (sane : (m.number.0 < 2 ^ 32) × (0 < m.line)) (near : far_at start m ≡ 0) where
-    among-as : (held : Held) → held_for start t m ≡ held → is_among m.number.0 seen ≡ is_held held
+    among-as : (held : Option (ℕ × ℕ)) → held_for start t m ≡ held → is_among m.number.0 seen ≡ is_held held
     among-as held e =
         kept.among m.number.0 sane.0 ∙ ap is_held (ap (λ q. held_in q t.rows) (sym (rank-near start m low sane.1 near)) ∙ held-there input start t m h ∙ e)
 
@@ -317,9 +313,9 @@ module _ (input : List ℕ) (start : ℕ) (low : start < 2 ^ 32) where
       count =
           elim (enters input start t m) [
             | again place flag e is ↦
-                rw is (simp (among-as (At place flag) e) (kept.count ∙ sym (repeated-length input place m.at (row_for start t m) t.rows)))
+                rw is (simp (among-as (Some (place, flag)) e) (kept.count ∙ sym (repeated-length input place m.at (row_for start t m) t.rows)))
             | new e room is ↦
-                rw is (simp (among-as Not e) (ap suc kept.count ∙ sym (insert-length (row (rank_for start m) m.at 0) (row_for start t m) t.rows)))
+                rw is (simp (among-as None e) (ap suc kept.count ∙ sym (insert-length (row (rank_for start m) m.at 0) (row_for start t m) t.rows)))
             | full e past is ↦ not_full input start t m h sane.1 near none is
             | far line is ↦ absurd (omega arith)
           ];
@@ -337,7 +333,7 @@ module _ (input : List ℕ) (start : ℕ) (low : start < 2 ^ 32) where
         elim (enters input start t m) [
           | again place flag e is ↦ absurd (told (rw is none))
           | new e room is ↦ absurd (told (rw is none))
-          | full e past is ↦ (rw is (earliest-next t.many m.line none), simp (among-as Not e) (omega (arith, kept.count)))
+          | full e past is ↦ (rw is (earliest-next t.many m.line none), simp (among-as None e) (omega (arith, kept.count)))
           | far line is ↦ absurd (omega arith)
         ]
 
@@ -378,14 +374,14 @@ module _ (input : List ℕ) (start : ℕ) (low : start < 2 ^ 32) where
 
 -- ---- what a table has of a number after all messages
 
-unfoldable held_all : List ℕ → ℕ → Held → List Message → Held
+unfoldable held_all : List ℕ → ℕ → Option (ℕ × ℕ) → List Message → Option (ℕ × ℕ)
 unfolding run_at content_from
 held_all input n held [] = held
 held_all input n held (m ∷ rest) = held_all input n (held_after input n held m) rest
 
 module _ (input : List ℕ) (n : ℕ) where
   -- the first stands
-  held-stands : (place flag : ℕ) (ms : List Message) → standing_held input (held_all input n (At place flag) ms) ≡ Run (run_at input place)
+  held-stands : (place flag : ℕ) (ms : List Message) → standing_held input (held_all input n (Some (place, flag)) ms) ≡ Run (run_at input place)
   unfolding held_all
   held-stands place flag [] = refl
   held-stands place flag (m ∷ rest) =
@@ -394,7 +390,7 @@ module _ (input : List ℕ) (n : ℕ) where
       (λ f. simp f (held-stands place flag rest))
 
   -- its flag is set from the first repeat with other content on
-  held-flag : (place flag : ℕ) (ms : List Message) → flag_held (held_all input n (At place flag) ms) ≡ (not (eqb flag 0) || other_than (run_at input place) input ms n)
+  held-flag : (place flag : ℕ) (ms : List Message) → flag_held (held_all input n (Some (place, flag)) ms) ≡ (not (eqb flag 0) || other_than (run_at input place) input ms n)
   unfolding held_all other_than
   held-flag place flag [] = cases (eqb flag 0) (λ t. simp t) (λ f. simp f)
   held-flag place flag (m ∷ rest) =
@@ -405,7 +401,7 @@ module _ (input : List ℕ) (n : ℕ) where
       (λ s. simp (t, s) (held-flag place 1 rest ∙ cases (eqb flag 0) (λ z. simp z) (λ z. simp z))))
       (λ f. simp f (held-flag place flag rest))
 
-  all-stands : (ms : List Message) → standing input ms n ≡ standing_held input (held_all input n Not ms)
+  all-stands : (ms : List Message) → standing input ms n ≡ standing_held input (held_all input n None ms)
   unfolding held_all standing
   all-stands [] = refl
   all-stands (m ∷ rest) =
@@ -419,7 +415,7 @@ module _ (input : List ℕ) (n : ℕ) where
   other-passed Absent m rest f = refl
   other-passed (Run run) m rest f = simp f
 
-  all-flag : (ms : List Message) → conflicted input ms n ≡ flag_held (held_all input n Not ms)
+  all-flag : (ms : List Message) → conflicted input ms n ≡ flag_held (held_all input n None ms)
   unfolding held_all standing conflicted other_than
   all-flag [] = refl
   all-flag (m ∷ rest) =
@@ -445,14 +441,14 @@ module _ (input : List ℕ) (start : ℕ) (low : start < 2 ^ 32) where
   unfolding held_in
   tabled-says ms sane no-far none rank within =
       let n = number_of start rank in
-      let held : held_all input n Not ms ≡ held_in rank (tabled input start no_numbers ms).rows =
+      let held : held_all input n None ms ≡ held_in rank (tabled input start no_numbers ms).rows =
       sym (held-all n (number_lt start rank) no_numbers ms rising_none sane no-far none)
       ∙ ap (λ q. held_in q (tabled input start no_numbers ms).rows) (rank-of-number start rank low within) in
       (all-stands input n ms ∙ ap (standing_held input) held, all-flag input n ms ∙ ap flag_held held)
 
 -- ---- the tables of two recordings
 
-differences-say : (first second : List ℕ) (n : ℕ) (a b : Held)
+differences-say : (first second : List ℕ) (n : ℕ) (a b : Option (ℕ × ℕ))
     → (standing first (body_of first).messages n ≡ standing_held first a) × (conflicted first (body_of first).messages n ≡ flag_held a)
     → (standing second (body_of second).messages n ≡ standing_held second b) × (conflicted second (body_of second).messages n ≡ flag_held b)
     → differences_on first second n ≡ held_differences first second a b

@@ -18,19 +18,9 @@ pub enum Side {
 }
 
 // What a comparison answers.
-#[derive(Clone, Copy)]
-pub enum Compared {
-    // how many differences are in the list, and how many numbers the first and the second recording have
-    Lists(usize, usize, usize),
-    // a refusal, the recording that gives it, and its line, from 1
-    No(Refusal, Side, usize),
-}
+pub type Compared = Result<(usize, usize, usize), (Refusal, Side, usize)>;
 
-#[derive(Clone, Copy)]
-pub enum Judged {
-    Pass,
-    No(Refusal, Side, usize),
-}
+pub type Judged = Result<(), (Refusal, Side, usize)>;
 
 // A refusal where a line is told, else what the later ones say.
 fn told(line: usize, refusal: Refusal, side: Side, rest: Judged) -> Judged
@@ -39,7 +29,7 @@ fn told(line: usize, refusal: Refusal, side: Side, rest: Judged) -> Judged
     if line == 0 {
         rest
     } else {
-        Judged::No(refusal, side, line)
+        Err((refusal, side, line))
     }
 }
 
@@ -57,7 +47,7 @@ fn judge(a: Scanned, b: Scanned) -> Judged
     let x = a.counts;
     let y = b.counts;
     let starts = start_differs(a.start, b.start);
-    let many = told(y.many, Refusal::Many, Side::Second, Judged::Pass);
+    let many = told(y.many, Refusal::Many, Side::Second, Ok(()));
     let many = told(x.many, Refusal::Many, Side::First, many);
     let far = told(y.far, Refusal::Far, Side::Second, many);
     let far = told(x.far, Refusal::Far, Side::First, far);
@@ -84,13 +74,13 @@ fn compare_scanned(
 {
     let judged = judge(a, b);
     match judged {
-        Judged::No(refusal, side, line) => Compared::No(refusal, side, line),
-        Judged::Pass => {
+        Err((refusal, side, line)) => Err((refusal, side, line)),
+        Ok(()) => {
             let start = a.start;
             let i = a.counts.count;
             let j = b.counts.count;
             let n = list_all(first, second, start, x, i, y, j, list);
-            Compared::Lists(n, i, j)
+            Ok((n, i, j))
         }
     }
 }

@@ -126,8 +126,8 @@ fn list_conflict(list: &mut [u64], n: usize, number: Seq, held: Held, d: Differe
     ensures { Pushed (words_for number.0 (conflict_as (flag_held held) d)) list.old n result list.new }
 {
     match held {
-        Held::Not => n,
-        Held::At(_, flag) => {
+        None => n,
+        Some((_, flag)) => {
             if flag == 0 {
                 return n;
             }
@@ -163,13 +163,13 @@ fn list_held(
     ensures { Pushed (words_for number.0 (part_as (standing_held first.now a) (standing_held second.now b))) list.old n result list.new }
 {
     match a {
-        Held::Not => match b {
-            Held::Not => n,
-            Held::At(_, _) => push(list, n, number, Difference::Second),
+        None => match b {
+            None => n,
+            Some((_, _)) => push(list, n, number, Difference::Second),
         },
-        Held::At(i, _) => match b {
-            Held::Not => push(list, n, number, Difference::First),
-            Held::At(j, _) => {
+        Some((i, _)) => match b {
+            None => push(list, n, number, Difference::First),
+            Some((j, _)) => {
                 let content = compare_runs(first, i, second, j);
                 list_content(list, n, number, content)
             }
@@ -200,8 +200,8 @@ fn has(held: Held) -> usize
     ensures { result ≡ has_of held }
 {
     match held {
-        Held::Not => 0,
-        Held::At(_, _) => 1,
+        None => 0,
+        Some((_, _)) => 1,
     }
 }
 

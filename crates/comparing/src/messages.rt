@@ -3,11 +3,11 @@ ghost use Rattle.std.specs.Prelude.{◌≡◌};
 ghost use Rattle.recording.specs.Payloads.{is_payload};
 ghost use Rattle.comparing.specs.Messages.{start_line, found_reliable, found_carried, found_reading, found_payload, line_found, waiting_after, ends_at};
 
-use msg::reliable::FromLink;
-use msg::{Reading, ReliableMsg};
+use msg::{LinkMsg, ReliableMsg};
 use recording::{read_frame, read_payload};
+use refusal::Refusal;
 use seq::Seq;
-use text::{HexRun, read_hex};
+use text::read_hex;
 
 // A message with a number: where its frame's line begins, and which line that is, from 1.
 #[derive(Clone, Copy)]
@@ -15,14 +15,6 @@ pub struct Message {
     pub number: Seq,
     pub at: usize,
     pub line: usize,
-}
-
-// What the next line is.
-#[derive(Clone, Copy)]
-pub enum Waiting {
-    Frame,
-    // the payload of a Data, whose frame was read
-    Payload(Message),
 }
 
 // What a line is found to be.
@@ -37,29 +29,22 @@ pub enum Found {
     Passes,
 }
 
-// What a recording's first line reads as.
-#[derive(Clone, Copy)]
-pub enum Start {
-    Number(Seq),
-    Bad,
-}
-
 // The start number, eight digits.
-pub(crate) fn read_start(line: &[u8]) -> Start
+pub(crate) fn read_start(line: &[u8]) -> Option<Seq>
     ensures { result ≡ start_line line.now }
 {
     if line.len() != 8 {
-        return Start::Bad;
+        return None;
     }
     let mut bytes = [0u8; 4];
-    let HexRun::Count(_) = read_hex(line, &mut bytes) else {
-        return Start::Bad;
+    let Some(_) = read_hex(line, &mut bytes) else {
+        return None;
     };
     let a = bytes[0] as u32;
     let b = bytes[1] as u32;
     let c = bytes[2] as u32;
     let d = bytes[3] as u32;
-    Start::Number(Seq(((a * 256 + b) * 256 + c) * 256 + d))
+    Some(Seq(((a * 256 + b) * 256 + c) * 256 + d))
 }
 
 fn find_reliable(msg: ReliableMsg, m: Message) -> Found
@@ -74,21 +59,21 @@ fn find_reliable(msg: ReliableMsg, m: Message) -> Found
     }
 }
 
-fn find_carried(carried: FromLink, at: usize, line: usize) -> Found
+fn find_carried(carried: Option<(ReliableMsg, Seq)>, at: usize, line: usize) -> Found
     ensures { result ≡ found_carried carried at line }
 {
     match carried {
-        FromLink::Reliable(msg, number) => find_reliable(msg, Message { number, at, line }),
-        FromLink::Other => Found::Passes,
+        Some((msg, number)) => find_reliable(msg, Message { number, at, line }),
+        None => Found::Passes,
     }
 }
 
-fn find_reading(reading: Reading, at: usize, line: usize) -> Found
+fn find_reading(reading: Result<LinkMsg, Refusal>, at: usize, line: usize) -> Found
     ensures { result ≡ found_reading reading at line }
 {
     match reading {
-        Reading::No(_) => Found::Bad,
-        Reading::Message(msg) => find_carried(ReliableMsg::from_link_msg(msg), at, line),
+        Err(_) => Found::Bad,
+        Ok(msg) => find_carried(ReliableMsg::from_link_msg(msg), at, line),
     }
 }
 
@@ -96,40 +81,40 @@ fn find_payload(text: &[u8], m: Message) -> Found
     ensures { result ≡ found_payload (is_payload text.now) m }
 {
     let mut bytes = [0u8; 1024];
-    let HexRun::Count(_) = read_payload(text, &mut bytes) else {
+    let Some(_) = read_payload(text, &mut bytes) else {
         return Found::Bad;
     };
     Found::Holds(m)
 }
 
 // What the line that begins at a place is, given without its line feed.
-pub(crate) fn read_line(waiting: Waiting, text: &[u8], at: usize, line: usize) -> Found
+pub(crate) fn read_line(waiting: Option<Message>, text: &[u8], at: usize, line: usize) -> Found
     ensures { result ≡ line_found waiting at line text.now }
 {
     match waiting {
-        Waiting::Frame => find_reading(read_frame(text), at, line),
-        Waiting::Payload(m) => find_payload(text, m),
+        None => find_reading(read_frame(text), at, line),
+        Some(m) => find_payload(text, m),
     }
 }
 
 // What the line after it is.
-pub(crate) fn wait_after(found: Found) -> Waiting
+pub(crate) fn wait_after(found: Found) -> Option<Message>
     ensures { result ≡ waiting_after found }
 {
     match found {
-        Found::Bad => Waiting::Frame,
-        Found::Awaits(m) => Waiting::Payload(m),
-        Found::Holds(_) => Waiting::Frame,
-        Found::Passes => Waiting::Frame,
+        Found::Bad => None,
+        Found::Awaits(m) => Some(m),
+        Found::Holds(_) => None,
+        Found::Passes => None,
     }
 }
 
 // The line that the end of a recording makes bad: an absent payload is its frame's. 0 for none.
-pub(crate) fn bad_at_end(waiting: Waiting) -> usize
+pub(crate) fn bad_at_end(waiting: Option<Message>) -> usize
     ensures { result ≡ ends_at waiting }
 {
     match waiting {
-        Waiting::Frame => 0,
-        Waiting::Payload(m) => m.line,
+        None => 0,
+        Some(m) => m.line,
     }
 }

@@ -3,10 +3,10 @@ ghost use Rattle.std.specs.Prelude.{◌≡◌, ◌++◌, ◌+◌, ◌≤◌, len
 ghost use Rattle.comparing.specs.Sizes.{RUN};
 ghost use Rattle.comparing.specs.Runs.{content_of, line_bytes, payload_after, run_at};
 
-use crate::messages::{Found, Waiting, read_line};
+use crate::messages::{Found, read_line};
 use crate::sizes::RUN;
 use recording::{MAX_LINE, line_end};
-use text::{HexRun, read_hex};
+use text::read_hex;
 
 // Where two runs part.
 #[derive(Clone, Copy)]
@@ -48,7 +48,7 @@ fn append_line(line: &[u8], run: &mut [u8], n: usize) -> usize
     if MAX_LINE < line.len() {
         return n;
     }
-    let HexRun::Count(k) = read_hex(line, &mut run[n..]) else {
+    let Some(k) = read_hex(line, &mut run[n..]) else {
         return n;
     };
     n + k
@@ -87,7 +87,7 @@ fn read_run(input: &[u8], at: usize, run: &mut [u8]) -> usize
     if input.len() <= next {
         return n;
     }
-    let found = read_line(Waiting::Frame, frame, 0, 0);
+    let found = read_line(None, frame, 0, 0);
     let last = line_end(input, next);
     append_payload(found, &input[next..last], run, n)
 }

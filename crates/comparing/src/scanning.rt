@@ -1,13 +1,12 @@
 // Reading a recording into a table of its numbers.
 ghost use Rattle.std.specs.Prelude.{◌≡◌, ◌≤◌, length};
 ghost use Rattle.comparing.specs.Sizes.{CELLS, NUMBERS};
-ghost use Rattle.comparing.specs.declared.messages.Waiting.TheVariants.{Frame};
 ghost use Rattle.comparing.specs.Messages.{body_of, start_of};
 ghost use Rattle.comparing.specs.Rows.{Rising, rows_of};
 ghost use Rattle.comparing.specs.Table.{table_of};
 ghost use Rattle.comparing.specs.Scanning.{is_bad, entered_found, next_line, body_left, Scans};
 
-use crate::messages::{Found, Start, Waiting, bad_at_end, read_line, read_start, wait_after};
+use crate::messages::{Found, bad_at_end, read_line, read_start, wait_after};
 use crate::table::{Counts, enter};
 use recording::line_end;
 use seq::Seq;
@@ -64,11 +63,11 @@ fn next_line(input: &[u8], end: usize) -> usize
 fn scan_body(input: &[u8], start: Seq, from: usize, cells: &mut [usize]) -> Scanned
     requires cells_len { length cells.old ≡ CELLS }
     requires le_from { 2 ≤ from }
-    ensures { Scans input.now start.0 (body_left input.now Frame from 2) result cells.new }
+    ensures { Scans input.now start.0 (body_left input.now None from 2) result cells.new }
 {
     let mut at = from;
     let mut line: usize = 2;
-    let mut waiting = Waiting::Frame;
+    let mut waiting = None;
     let mut counts = Counts {
         count: 0,
         far: 0,
@@ -102,7 +101,7 @@ pub(crate) fn scan(input: &[u8], cells: &mut [usize]) -> Scanned
     ensures { Scans input.now (start_of input.now) (body_of input.now) result cells.new }
 {
     let end = line_end(input, 0);
-    let Start::Number(start) = read_start(&input[..end]) else {
+    let Some(start) = read_start(&input[..end]) else {
         return Scanned {
             start: Seq(0),
             bad: 1,

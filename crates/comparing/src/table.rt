@@ -11,14 +11,10 @@ ghost use Rattle.comparing.specs.Table.{earliest, repeated, table_of, added, ent
 use crate::messages::Message;
 use crate::runs::{Content, compare_runs};
 use crate::sizes::NUMBERS;
-use seq::{Apart, Seq};
+use seq::Seq;
 
 // What a table has of a number: the place of its first message, and whether a repeat has other content.
-#[derive(Clone, Copy)]
-pub enum Held {
-    Not,
-    At(usize, usize),
-}
+pub type Held = Option<(usize, usize)>;
 
 // How many numbers a table has, and the lines of the first far message and of the first number past 1,024, 0 for none.
 #[derive(Clone, Copy)]
@@ -69,12 +65,12 @@ pub(crate) fn held_at(cells: &[usize], count: usize, i: usize, rank: usize) -> H
     ensures { result ≡ held_first rank (drop i (rows_of count cells.now)) }
 {
     if count <= i {
-        return Held::Not;
+        return None;
     }
     if cells[i * 3] != rank {
-        return Held::Not;
+        return None;
     }
-    Held::At(cells[i * 3 + 1], cells[i * 3 + 2])
+    Some((cells[i * 3 + 1], cells[i * 3 + 2]))
 }
 
 // Moves the rows from row i on by one row.
@@ -166,8 +162,8 @@ fn enter_at(input: &[u8], rank: usize, m: Message, cells: &mut [usize], counts: 
     let i = position(cells, count, rank);
     let held = held_at(cells, count, i, rank);
     match held {
-        Held::Not => add(cells, counts, i, rank, m),
-        Held::At(first, _) => {
+        None => add(cells, counts, i, rank, m),
+        Some((first, _)) => {
             repeat(input, cells, count, i, first, m.at);
             counts
         }
@@ -190,8 +186,8 @@ pub(crate) fn enter(
 {
     let number = m.number;
     match number.distance(start) {
-        Apart::By(d) => enter_at(input, rank(d), m, cells, before),
-        Apart::Far => Counts {
+        Some(d) => enter_at(input, rank(d), m, cells, before),
+        None => Counts {
             count: before.count,
             far: earliest(before.far, m.line),
             many: before.many,

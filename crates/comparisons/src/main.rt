@@ -78,8 +78,8 @@ fn show_refusal(refusal: Refusal, side: Side, line: usize) {
 
 fn show(compared: Compared, list: &[u64; DIFFERENCES]) {
     match compared {
-        Compared::Lists(n, first, second) => show_list(list, n, first, second),
-        Compared::No(refusal, side, line) => show_refusal(refusal, side, line),
+        Ok((n, first, second)) => show_list(list, n, first, second),
+        Err((refusal, side, line)) => show_refusal(refusal, side, line),
     }
 }
 

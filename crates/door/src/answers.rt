@@ -10,7 +10,8 @@ ghost use Rattle.engine.specs.Links.{add_told};
 ghost use Rattle.engine.specs.Resending.{resend_told};
 ghost use Rattle.engine.specs.Sending.{send_told};
 
-use engine::{AddAnswer, ConfirmTimeout, Due, HandOut, Outcome, ResendAnswer, SendAnswer, TakeAck};
+use engine::{ConfirmTimeout, HandOut};
+use msg::ReliableMsg;
 use refusal::Refusal;
 use seq::Seq;
 
@@ -39,23 +40,23 @@ fn flag(set: bool) -> u64
     if set { 1 } else { 0 }
 }
 
-pub(crate) fn tell(outcome: Outcome) -> u64
+pub(crate) fn tell(outcome: Result<(), Refusal>) -> u64
     ensures { result ≡ (outcome_told outcome).number }
 {
     match outcome {
-        Outcome::Done => 0,
-        Outcome::No(e) => refused(e),
+        Ok(()) => 0,
+        Err(e) => refused(e),
     }
 }
 
 // The slot.
-pub(crate) fn tell_added(answer: AddAnswer, values: &mut [u64; 3]) -> u64
+pub(crate) fn tell_added(answer: Result<u8, Refusal>, values: &mut [u64; 3]) -> u64
     ensures value { result ≡ (add_told answer).number }
     ensures values_after { values.new ≡ sets values.old 0 (add_told answer).values }
 {
     match answer {
-        AddAnswer::No(e) => refused(e),
-        AddAnswer::Slot(slot) => {
+        Err(refusal) => refused(refusal),
+        Ok(slot) => {
             values[0] = slot as u64;
             0
         }
@@ -63,13 +64,13 @@ pub(crate) fn tell_added(answer: AddAnswer, values: &mut [u64; 3]) -> u64
 }
 
 // The number.
-pub(crate) fn tell_sent(answer: SendAnswer, values: &mut [u64; 3]) -> u64
+pub(crate) fn tell_sent(answer: Result<Seq, Refusal>, values: &mut [u64; 3]) -> u64
     ensures value { result ≡ (send_told answer).number }
     ensures values_after { values.new ≡ sets values.old 0 (send_told answer).values }
 {
     match answer {
-        SendAnswer::No(e) => refused(e),
-        SendAnswer::Number(seq) => {
+        Err(e) => refused(e),
+        Ok(seq) => {
             values[0] = word(seq);
             0
         }
@@ -77,13 +78,13 @@ pub(crate) fn tell_sent(answer: SendAnswer, values: &mut [u64; 3]) -> u64
 }
 
 // The number.
-pub(crate) fn tell_ack(answer: TakeAck, values: &mut [u64; 3]) -> u64
+pub(crate) fn tell_ack(answer: Result<Seq, Refusal>, values: &mut [u64; 3]) -> u64
     ensures value { result ≡ (take_ack_told answer).number }
     ensures values_after { values.new ≡ sets values.old 0 (take_ack_told answer).values }
 {
     match answer {
-        TakeAck::No(e) => refused(e),
-        TakeAck::Number(seq) => {
+        Err(e) => refused(e),
+        Ok(seq) => {
             values[0] = word(seq);
             0
         }
@@ -91,13 +92,13 @@ pub(crate) fn tell_ack(answer: TakeAck, values: &mut [u64; 3]) -> u64
 }
 
 // Kind, count and length.
-pub(crate) fn tell_resent(answer: ResendAnswer, values: &mut [u64; 3]) -> u64
+pub(crate) fn tell_resent(answer: Result<(ReliableMsg, u32), Refusal>, values: &mut [u64; 3]) -> u64
     ensures value { result ≡ (resend_told answer).number }
     ensures values_after { values.new ≡ sets values.old 0 (resend_told answer).values }
 {
     match answer {
-        ResendAnswer::No(e) => refused(e),
-        ResendAnswer::Message(msg, len) => {
+        Err(e) => refused(e),
+        Ok((msg, len)) => {
             values[0] = msg.kind() as u64;
             values[1] = msg.count() as u64;
             values[2] = len as u64;
@@ -112,8 +113,8 @@ pub(crate) fn tell_message(answer: HandOut, values: &mut [u64; 3]) -> u64
     ensures values_after { values.new ≡ sets values.old 0 (hand_out_told answer).values }
 {
     match answer {
-        HandOut::No(e) => refused(e),
-        HandOut::Message(msg, seq, len) => {
+        Err(e) => refused(e),
+        Ok((msg, seq, len)) => {
             values[0] = msg.kind() as u64;
             values[1] = word(seq);
             values[2] = len as u64;
@@ -123,13 +124,13 @@ pub(crate) fn tell_message(answer: HandOut, values: &mut [u64; 3]) -> u64
 }
 
 // 1 or 0.
-pub(crate) fn tell_due(answer: Due, values: &mut [u64; 3]) -> u64
+pub(crate) fn tell_due(answer: Result<bool, Refusal>, values: &mut [u64; 3]) -> u64
     ensures value { result ≡ (due_told answer).number }
     ensures values_after { values.new ≡ sets values.old 0 (due_told answer).values }
 {
     match answer {
-        Due::No(e) => refused(e),
-        Due::Is(due) => {
+        Err(e) => refused(e),
+        Ok(due) => {
             values[0] = flag(due);
             0
         }
@@ -142,13 +143,15 @@ pub(crate) fn tell_timeout(answer: ConfirmTimeout, values: &mut [u64; 3]) -> u64
     ensures values_after { values.new ≡ sets values.old 0 (confirm_timeout_told answer).values }
 {
     match answer {
-        ConfirmTimeout::No(e) => refused(e),
-        ConfirmTimeout::Nothing => 0,
-        ConfirmTimeout::Packet(slot, flushed, at) => {
-            values[0] = slot as u64;
-            values[1] = flag(flushed);
-            values[2] = at;
-            0
-        }
+        Err(e) => refused(e),
+        Ok(named) => match named {
+            None => 0,
+            Some((slot, flushed, at)) => {
+                values[0] = slot as u64;
+                values[1] = flag(flushed);
+                values[2] = at;
+                0
+            }
+        },
     }
 }

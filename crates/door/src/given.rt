@@ -4,57 +4,49 @@ ghost use Rattle.words.specs.Meaning.{state_of};
 ghost use Rattle.door.specs.Given.{max_ping_given, plain_given, given};
 
 use engine::Receiving;
-use link::MaxPing;
 use msg::{LinkMsg, ReliableMsg};
 use seq::Seq;
 use words::layout::WORDS;
 use words::receiving::rx_of;
 
 // The longest round trip that a link may have, where it has one.
-pub(crate) fn max_ping_given(limited: bool, max_ping: u64) -> MaxPing
+pub(crate) fn max_ping_given(limited: bool, max_ping: u64) -> Option<u64>
     ensures { result ≡ max_ping_given limited max_ping }
 {
     if limited {
-        return MaxPing::UpTo(max_ping);
+        return Some(max_ping);
     }
-    MaxPing::Unlimited
-}
-
-// A message, or none.
-#[derive(Clone, Copy)]
-pub enum Given {
-    Message(ReliableMsg),
-    Nothing,
+    None
 }
 
 // The message that has no count.
-fn plain_given(kind: u8) -> Given
+fn plain_given(kind: u8) -> Option<ReliableMsg>
     ensures { result ≡ plain_given kind }
 {
     if kind == LinkMsg::MSG_DATA {
-        return Given::Message(ReliableMsg::Data);
+        return Some(ReliableMsg::Data);
     }
     if kind == LinkMsg::MSG_SEND_FINISH {
-        return Given::Message(ReliableMsg::SendFinish);
+        return Some(ReliableMsg::SendFinish);
     }
     if kind == LinkMsg::MSG_RECEIVE_CLOSE {
-        return Given::Message(ReliableMsg::ReceiveClose);
+        return Some(ReliableMsg::ReceiveClose);
     }
     if kind == LinkMsg::MSG_RECEIVE_FINISH {
-        return Given::Message(ReliableMsg::ReceiveFinish);
+        return Some(ReliableMsg::ReceiveFinish);
     }
-    Given::Nothing
+    None
 }
 
 // The message that a kind and a count name: a count is a Consumed's alone.
-pub(crate) fn message_given(kind: u8, count: u32) -> Given
+pub(crate) fn message_given(kind: u8, count: u32) -> Option<ReliableMsg>
     ensures { result ≡ given kind count }
 {
     if kind == LinkMsg::MSG_CONSUMED {
-        return Given::Message(ReliableMsg::Consumed(count));
+        return Some(ReliableMsg::Consumed(count));
     }
     if count != 0 {
-        return Given::Nothing;
+        return None;
     }
     plain_given(kind)
 }

@@ -7,7 +7,8 @@ ghost use Rattle.msg.specs.Writing.{written_told, write_of, buffer_of};
 ghost use Rattle.door.specs.Messages.{reason_given, block_given, link_given, asked_link};
 
 use crate::answers::{UNKNOWN, refused, word};
-use msg::{LinkMsg, Reading, RefusedReason, Written, read, write};
+use msg::{LinkMsg, RefusedReason, read, write};
+use refusal::Refusal;
 use seq::Seq;
 
 fn reason_number(reason: RefusedReason) -> u64
@@ -84,28 +85,21 @@ pub extern "C" fn fk_read(bytes: &[u8], values: &mut [u64; 3]) -> u64
 {
     let reading = read(bytes);
     match reading {
-        Reading::No(e) => refused(e),
-        Reading::Message(msg) => {
+        Err(e) => refused(e),
+        Ok(msg) => {
             say(msg, values);
             0
         }
     }
 }
 
-// A message, or none.
-#[derive(Clone, Copy)]
-pub enum LinkGiven {
-    Message(LinkMsg),
-    Nothing,
-}
-
-fn refused_for(reason: RefusedReason) -> LinkGiven
-    ensures { result ≡ LinkGiven.Message (LinkMsg.Refused reason) }
+fn refused_for(reason: RefusedReason) -> Option<LinkMsg>
+    ensures { result ≡ Some (LinkMsg.Refused reason) }
 {
-    LinkGiven::Message(LinkMsg::Refused { reason })
+    Some(LinkMsg::Refused { reason })
 }
 
-fn reason_given(number: u32) -> LinkGiven
+fn reason_given(number: u32) -> Option<LinkMsg>
     ensures { result ≡ reason_given number }
 {
     match number {
@@ -113,22 +107,22 @@ fn reason_given(number: u32) -> LinkGiven
         2 => refused_for(RefusedReason::NotListening),
         3 => refused_for(RefusedReason::ConnectionRefused),
         4 => refused_for(RefusedReason::LinkRefused),
-        _ => LinkGiven::Nothing,
+        _ => None,
     }
 }
 
-fn block_given(number: u32) -> LinkGiven
+fn block_given(number: u32) -> Option<LinkMsg>
     ensures { result ≡ block_given number }
 {
     match number {
-        0 => LinkGiven::Message(LinkMsg::SetBlock { blocked: false }),
-        1 => LinkGiven::Message(LinkMsg::SetBlock { blocked: true }),
-        _ => LinkGiven::Nothing,
+        0 => Some(LinkMsg::SetBlock { blocked: false }),
+        1 => Some(LinkMsg::SetBlock { blocked: true }),
+        _ => None,
     }
 }
 
 // The message that a kind and two numbers name, as the values of fk_read do.
-fn link_given(kind: u8, first: u32, second: u32) -> LinkGiven
+fn link_given(kind: u8, first: u32, second: u32) -> Option<LinkMsg>
     ensures { result ≡ link_given kind first second }
 {
     let seq = Seq(first);
@@ -154,19 +148,19 @@ fn link_given(kind: u8, first: u32, second: u32) -> LinkGiven
         LinkMsg::MSG_SET_BLOCK => return block_given(first),
         LinkMsg::MSG_GOODBYE => LinkMsg::Goodbye,
         LinkMsg::MSG_TERMINATE => LinkMsg::Terminate,
-        0 | 17..=255 => return LinkGiven::Nothing,
+        0 | 17..=255 => return None,
     };
-    LinkGiven::Message(msg)
+    Some(msg)
 }
 
 // How many bytes were written.
-fn tell_written(answer: Written, values: &mut [u64; 3]) -> u64
+fn tell_written(answer: Result<usize, Refusal>, values: &mut [u64; 3]) -> u64
     ensures value { result ≡ (written_told answer).number }
     ensures values_after { values.new ≡ sets values.old 0 (written_told answer).values }
 {
     match answer {
-        Written::No(e) => refused(e),
-        Written::Bytes(n) => {
+        Err(e) => refused(e),
+        Ok(n) => {
             values[0] = n as u64;
             0
         }
@@ -188,7 +182,7 @@ pub extern "C" fn fk_write(
 {
     let asked = link_given(kind, first, second);
     match asked {
-        LinkGiven::Nothing => UNKNOWN,
-        LinkGiven::Message(msg) => tell_written(write(msg, buffer), values),
+        None => UNKNOWN,
+        Some(msg) => tell_written(write(msg, buffer), values),
     }
 }

@@ -9,7 +9,7 @@ ghost use Rattle.words.specs.Ready.{Left};
 ghost use Rattle.door.specs.Given.{asked, given};
 
 use crate::answers::{UNKNOWN, UNSOUND, WRONG_LENGTH, tell, tell_message};
-use crate::given::{Given, message_given, rx_said};
+use crate::given::{message_given, rx_said};
 use engine::receiving::lengths_ok;
 use judging::is_sound_with;
 use msg::ReliableMsg;
@@ -61,8 +61,8 @@ pub extern "C" fn fk_receive(
 {
     let asked = message_given(kind, count);
     match asked {
-        Given::Nothing => UNKNOWN,
-        Given::Message(msg) => receive_message(words, store, records, slot, msg, number, payload),
+        None => UNKNOWN,
+        Some(msg) => receive_message(words, store, records, slot, msg, number, payload),
     }
 }
 

@@ -13,7 +13,7 @@ ghost use Rattle.words.specs.Ready.{Left};
 ghost use Rattle.door.specs.Given.{asked, given, timeout_given};
 
 use crate::answers::{UNKNOWN, UNSOUND, WRONG_LENGTH, tell, tell_resent, tell_sent, tell_timeout};
-use crate::given::{Given, message_given};
+use crate::given::message_given;
 use engine::SENT_BYTES;
 use judging::is_sound;
 use link::AckTimeout;
@@ -68,8 +68,8 @@ pub extern "C" fn fk_send(
 {
     let asked = message_given(kind, count);
     match asked {
-        Given::Nothing => UNKNOWN,
-        Given::Message(msg) => send_message(words, store, slot, time, msg, payload, values),
+        None => UNKNOWN,
+        Some(msg) => send_message(words, store, slot, time, msg, payload, values),
     }
 }
 

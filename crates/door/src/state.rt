@@ -11,7 +11,6 @@ ghost use Rattle.door.specs.Fresh.{fresh_gate, state_by};
 use crate::answers::{WRONG_LENGTH, refused};
 use engine::starting::{empty_records, fresh_verdict};
 use links_in_place::fresh::put_fresh;
-use refusal::Verdict;
 use seq::Seq;
 use words::layout::WORDS;
 
@@ -31,8 +30,8 @@ pub extern "C" fn fk_fresh(
 {
     let verdict = fresh_verdict(recv_buffer, cells, records.len());
     match verdict {
-        Verdict::No(e) => refused(e),
-        Verdict::Pass => {
+        Err(e) => refused(e),
+        Ok(()) => {
             if words.len() != WORDS {
                 return WRONG_LENGTH;
             }

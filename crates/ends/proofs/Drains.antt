@@ -1,5 +1,5 @@
 -- With sending stopped, a packet that was acked where it was Sent leaves the table, and an emptied table stays so. Assumes nothing.
-use Rattle.std.specs.Prelude.{◌≡◌, refl, List, map, ℕ, ◌+◌, ◌-◌, ◌^◌, ◌≤◌, ◌<◌, get_or, drop}
+use Rattle.std.specs.Prelude.{◌≡◌, refl, List, map, ℕ, ◌+◌, ◌-◌, ◌^◌, ◌≤◌, ◌<◌, get_or, drop, Ok}
 use Rattle.std.proofs.Math.Path.{sym, ap, subst}
 use Rattle.std.proofs.Common.{◌∙◌, arith, length-drop, get_or-drop}
 use Rattle.std.proofs.Math.Bool.{true}
@@ -17,7 +17,6 @@ use Rattle.engine.specs.declared.state.SentReliableStatus.{SentReliableStatus}
 use Rattle.engine.specs.declared.state.SentReliableStatus.TheVariants as statuses
 use Rattle.engine.specs.declared.state.SentReliable.{SentReliable}
 use Rattle.engine.specs.declared.state.State.{State}
-use Rattle.engine.specs.declared.answer.Outcome.TheVariants as outcomes
 use Rattle.engine.specs.Answer.{done-passed}
 use Rattle.engine.specs.Packets.{no_packet, packets, is_received}
 use Rattle.engine.specs.Table.{in_table, looked_at}
@@ -137,7 +136,7 @@ module _ (W : World) (i : Inv (way W)) (good : Good W.a.state) (j : ℕ) where
       ap (λ (p : SentReliable). p.status) (looked-cell S good.shaped good.sound n (plus-lt W.start j) held) ∙ ap (λ x. (get_or ps x no_packet).status) here
 
   -- an ack that comes where the packet was Sent
-  pub done-now : (slot time n : ℕ) → TimelyAck n W.a W.b → n ≡ plus W.start j → SentOver (status_of W j) slot → (ack_of S slot time n).outcome ≡ outcomes.Done
+  pub done-now : (slot time n : ℕ) → TimelyAck n W.a W.b → n ≡ plus W.start j → SentOver (status_of W j) slot → (ack_of S slot time n).outcome ≡ Ok tt
       → Done (called W (calls.Ack slot time n)).a j
   unfolding ack_of
   done-now slot time n timely n-is over ok =

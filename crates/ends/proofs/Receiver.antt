@@ -1,5 +1,8 @@
 -- Whatever a call at a does, the invariant of what b sends to a is kept. Assumes nothing.
-use Rattle.std.specs.Prelude.{◌≡◌, refl, false, ◌⊎◌, ℕ, ◌+◌, ◌-◌, ◌*◌, ◌%◌, ◌≤◌, ◌<◌, ltb, set, drop}
+use Rattle.std.specs.Prelude.{◌≡◌, refl, false, ◌⊎◌, ℕ, ◌+◌, ◌-◌, ◌*◌, ◌%◌, ◌≤◌, ◌<◌, ltb, set, drop, Some, None, Ok, Result}
+use Rattle.refusal.specs.declared.Refusal.{Refusal}
+use Rattle.engine.specs.Held.{HandOut, Held}
+use Rattle.refusal.specs.Verdicts.{Verdict}
 use Rattle.std.proofs.Math.Path.{sym, ap, subst}
 use Rattle.std.proofs.Common.{ap₂, ◌∙◌}
 use Rattle.std.proofs.Math.Bool.{true}
@@ -16,21 +19,11 @@ use Rattle.seq.specs.Numbers.{seq_of, plus}
 use Rattle.seq.specs.Laws.{cell-counted}
 use Rattle.seq.specs.Distance.{before, past, past-counted, before-counted, not-before-counted}
 use Rattle.msg.specs.declared.reliable.ReliableMsg.{ReliableMsg}
-use Rattle.refusal.specs.declared.verdict.Verdict.{Verdict}
-use Rattle.refusal.specs.declared.verdict.Verdict.TheVariants as verdicts
 use Rattle.refusal.specs.Tests.{false-true}
 use Rattle.link.specs.Acks.{waiting, oldest_ack, ack_queued, ack_taken}
 use Rattle.link.specs.Sizes.{ACKS}
-use Rattle.engine.specs.declared.state.Held.{Held}
-use Rattle.engine.specs.declared.state.Held.TheVariants as helds
 use Rattle.engine.specs.declared.state.Receiving.{Receiving}
 use Rattle.engine.specs.declared.state.State.{State}
-use Rattle.engine.specs.declared.answer.Outcome.{Outcome}
-use Rattle.engine.specs.declared.answer.Outcome.TheVariants as outcomes
-use Rattle.engine.specs.declared.handing_out.HandOut.{HandOut}
-use Rattle.engine.specs.declared.handing_out.HandOut.TheVariants as handouts
-use Rattle.engine.specs.declared.handing_out.TakeAck.{TakeAck as AckAnswer}
-use Rattle.engine.specs.declared.handing_out.TakeAck.TheVariants as acks
 use Rattle.engine.specs.Answer.{changed_by}
 use Rattle.engine.specs.Packets.{packets}
 use Rattle.engine.specs.CellCount.{CellCount, cell-count}
@@ -112,7 +105,7 @@ module _ (W : World) (i : Inv (way (swap W))) (good : Good W.a.state) where
 
   -- ---- Receive
 
-  abbrev received-world : Outcome → Packet → Holding → World
+  abbrev received-world : Result Unit Refusal → Packet → Holding → World
   received-world outcome p k = written W k W.a.given W.a.out (accepted_by outcome W.a.accepted p) W.ab.msgs W.ab.acks
 
   module _ (slot : ℕ) (p : Packet) (brought : Brought p W.ba) (timely : Timely p.index W.b) where
@@ -186,7 +179,7 @@ module _ (W : World) (i : Inv (way (swap W))) (good : Good W.a.state) where
     -- ---- a repeat: it is accepted once more
 
     again-inv : slot < SLOTS → (row_of S slot).ack_count < ACKS → is_repeat N t n ≡ true
-        → Inv (way (swap (received-world outcomes.Done p (record { state = repeated_state S slot n; sent = W.a.sent; received = W.a.received; records = W.a.records }))))
+        → Inv (way (swap (received-world (Ok tt) p (record { state = repeated_state S slot n; sent = W.a.sent; received = W.a.received; records = W.a.records }))))
     unfolding repeated_state
     again-inv small room again = record {
       e = e;
@@ -212,7 +205,7 @@ module _ (W : World) (i : Inv (way (swap W))) (good : Good W.a.state) where
 
     module _ (ok : ReceivePassed S (length W.a.received) W.a.records slot p.msg.kind n (length p.msg.bytes)) (new : is_repeat N t n ≡ false) where
       abbrev c : ℕ → Held
-      c = held_but N t (past n rx.rx_oldest.0) (helds.Message p.msg.kind (length p.msg.bytes))
+      c = held_but N t (past n rx.rx_oldest.0) (Some (p.msg.kind, (length p.msg.bytes)))
 
       abbrev t' : RxTable
       t' = stored_table S W.a.records p.msg.kind n (length p.msg.bytes)
@@ -234,7 +227,7 @@ module _ (W : World) (i : Inv (way (swap W))) (good : Good W.a.state) where
       offset = past_is ex
 
       -- its own cell, and every other
-      here : (k : ℕ) → o + k ≡ x → c k ≡ helds.Message p.msg.kind (length p.msg.bytes)
+      here : (k : ℕ) → o + k ≡ x → c k ≡ Some (p.msg.kind, (length p.msg.bytes))
       here k q = rw (eq-eqb k (past n rx.rx_oldest.0) (omega (arith, offset, q))) refl
 
       there : (k : ℕ) → (o + k ≡ x → ⊥) → c k ≡ cell_of N t (plus s (o + k))
@@ -263,7 +256,7 @@ module _ (W : World) (i : Inv (way (swap W))) (good : Good W.a.state) where
               let n-is : plus s (o + k) ≡ n = ap (plus s) q ∙ sym label.number_is in (
                 omega (arith, label.inside),
                 record {
-                  cell-is = here k q ∙ ap (λ (m : Msg). helds.Message m.kind (length m.bytes)) msg;
+                  cell-is = here k q ∙ ap (λ (m : Msg). Some (m.kind, (length m.bytes))) msg;
                   bytes-is = subst (λ (m : Msg). cell_bytes N store' (plus s (o + k)) (length m.bytes) ≡ m.bytes) msg
                       (rw n-is (copied-here N count.some W.a.received long n p.msg.bytes ok.short));
                 },
@@ -310,7 +303,7 @@ module _ (W : World) (i : Inv (way (swap W))) (good : Good W.a.state) where
           subst H' q (has-full N count s G t t' W.a.received store' e o i.rxi c passes (copied-long N count.some W.a.received long n p.msg.bytes ok.short) 0 (omega arith) right lawful
           (x - o) (omega (arith, ex, q)) (omega (arith, xo)) (ap is_full (here (x - o) q)))
 
-      new-inv : Inv (way (swap (received-world outcomes.Done p (record {
+      new-inv : Inv (way (swap (received-world (Ok tt) p (record {
         state = received_state S W.a.records slot p.msg.kind n (length p.msg.bytes);
         sent = W.a.sent;
         received = store';
@@ -319,7 +312,7 @@ module _ (W : World) (i : Inv (way (swap W))) (good : Good W.a.state) where
       unfolding received_state effect_state passed_over put_in
       new-inv =
           let same : t'.rx.cells ≡ N = turns_same (can_advance N) (passed_over N) (λ (x : RxTable). x.rx.cells) (λ x. refl) N _ in
-          subst (InvAt (way (swap (received-world outcomes.Done p (record {
+          subst (InvAt (way (swap (received-world (Ok tt) p (record {
             state = effect_state S slot p.msg.kind n t'.rx;
             sent = W.a.sent;
             received = store';
@@ -361,7 +354,7 @@ module _ (W : World) (i : Inv (way (swap W))) (good : Good W.a.state) where
 
   module _ (msg : ReliableMsg) (seq : Seq) (len : ℕ) (ok : Taking S W.a.records msg seq len) where
     abbrev c₂ : ℕ → Held
-    c₂ = held_but N t 0 helds.Nothing
+    c₂ = held_but N t 0 None
 
     abbrev t₂ : RxTable
     t₂ = taken_table S W.a.records (data_length msg len)
@@ -373,20 +366,23 @@ module _ (W : World) (i : Inv (way (swap W))) (good : Good W.a.state) where
     oe = omega (arith, rx-ahead i.rxi count.few, ready-past S good W.a.records msg seq len ok)
 
     -- the oldest message is message o
-    first : cell_of N t (plus s o) ≡ helds.Message msg len
+    first : cell_of N t (plus s o) ≡ Some (msg, len)
     first = let none : o + 0 ≡ o = omega arith in ap (λ k. cell_of N t (plus s k)) (sym none) ∙ ap (cell_of N t) (sym (rx-number i.rxi 0)) ∙ ready-here S good W.a.records msg seq len ok
 
     holds-o : (o < length G) × Holds N s W.a.received o (cell_of N t (plus s o)) (at G o)
     holds-o = i.rxi.held o (omega arith) (omega arith) (ap is_full first)
 
-    is-first : helds.Message msg len ≡ helds.Message (at G o).kind (length (at G o).bytes)
+    is-first : ◌≡◌ {A = Held} (Some (msg, len)) (Some ((at G o).kind, length (at G o).bytes))
     is-first = sym first ∙ holds-o.1.cell-is
 
+    both-are : ◌≡◌ {A = ReliableMsg × ℕ} (msg, len) ((at G o).kind, length (at G o).bytes)
+    both-are = let z = is-first in cc
+
     kind-is : msg ≡ (at G o).kind
-    kind-is = let z = is-first in cc
+    kind-is = ap (λ x. x.0) both-are
 
     len_is : len ≡ length (at G o).bytes
-    len_is = let z = is-first in cc
+    len_is = ap (λ x. x.1) both-are
 
     ready-o : is_ready_kind (at G o).kind ≡ true
     ready-o = sym (i.rxi.ready o (omega arith) oe) ∙ ap is_full first
@@ -395,7 +391,7 @@ module _ (W : World) (i : Inv (way (swap W))) (good : Good W.a.state) where
     shown : shown_of S W.a.received W.a.records ≡ (at G o).bytes
     unfolding shown_of showing_of show_verdict hand_out_by sound_withb
     shown =
-        let pass : show_verdict S (length W.a.received) W.a.records ≡ verdicts.Pass =
+        let pass : show_verdict S (length W.a.received) W.a.records ≡ Ok tt =
         simp (
           eq-eqb (length W.a.received) (N * DATA_BYTES) i.rxi.store_long,
           eq-eqb (length W.a.records) N ok.recorded.long,
@@ -404,7 +400,7 @@ module _ (W : World) (i : Inv (way (swap W))) (good : Good W.a.state) where
           ap is_full ok.ready,
         ) in
         ap (λ (v : Verdict). part_as N (hand_out_by v t) W.a.received) pass
-        ∙ ap (λ (x : Held). part_as N (handouts.Message (msg_in x) rx.rx_oldest (held_bytes x)) W.a.received) ok.ready
+        ∙ ap (λ (x : Held). part_as N (Ok ((msg_in x), rx.rx_oldest, (held_bytes x))) W.a.received) ok.ready
         ∙ ap (λ (k : ℕ). take k (drop (cell_start N rx.rx_oldest.0) W.a.received)) (ready-data S good W.a.records msg seq len ok ∙ len_is)
         ∙ ap (λ m. cell_bytes N W.a.received m (length (at G o).bytes)) i.rxi.old-is ∙ holds-o.1.bytes-is
 
@@ -435,7 +431,7 @@ module _ (W : World) (i : Inv (way (swap W))) (good : Good W.a.state) where
     lawful₂ : (k : ℕ) → 1 ≤ k → o + k < e → is_full (c₂ k) ≡ is_ready_kind (at G (o + k)).kind
     lawful₂ k l u = ap is_full (other k l) ∙ i.rxi.ready (o + k) (omega arith) u
 
-    take-inv : Inv (way (swap (taken-world (handouts.Message msg seq len) (record { state = taken_state S W.a.records (data_length msg len); sent = W.a.sent; received = W.a.received; records = t₂.records }))))
+    take-inv : Inv (way (swap (taken-world (Ok (msg, seq, len)) (record { state = taken_state S W.a.records (data_length msg len); sent = W.a.sent; received = W.a.received; records = t₂.records }))))
     unfolding taken_state taken_in passed_by row_of
     take-inv =
         let same : t₂.rx.cells ≡ N = turns_same (can_skip N t₂.records) passed_by (λ (x : Receiving). x.cells) (λ x. refl) N _ in
@@ -445,7 +441,7 @@ module _ (W : World) (i : Inv (way (swap W))) (good : Good W.a.state) where
         let back = had-before N count s G t t₂ W.a.received W.a.received e o i.rxi c₂ passes₂ long 1 some-gone right₂ lawful₂ (λ j. ⊥)
         (λ k l u f. inl (ap is_full (sym (other k (omega (arith, oe)))) ∙ f)) in
         let unready = gone-unready N count s G t t₂ W.a.received W.a.received e o i.rxi c₂ passes₂ long 1 some-gone right₂ lawful₂ in
-        subst (InvAt (way (swap (taken-world (handouts.Message msg seq len) (record { state = taken_state S W.a.records (data_length msg len); sent = W.a.sent; received = W.a.received; records = t₂.records })))))
+        subst (InvAt (way (swap (taken-world (Ok (msg, seq, len)) (record { state = taken_state S W.a.records (data_length msg len); sent = W.a.sent; received = W.a.received; records = t₂.records })))))
         (sym same) (record {
           e = e + passes₂.passed;
           o = o + passes₂.gone;
@@ -468,10 +464,10 @@ module _ (W : World) (i : Inv (way (swap W))) (good : Good W.a.state) where
 
   -- ---- taking an ack: it was waiting
 
-  abbrev acked-world : AckAnswer → Holding → World
+  abbrev acked-world : Result Seq Refusal → Holding → World
   acked-world answer k = written W k W.a.given W.a.out W.a.accepted W.ab.msgs (put_ack_by answer W.ab.acks)
 
-  take-ack-inv : (slot : ℕ) → TakeAckPassed S slot → Inv (way (swap (acked-world (acks.Number (ack_in (oldest_ack (row_of S slot)))) (done (calls.TakeAck slot) h))))
+  take-ack-inv : (slot : ℕ) → TakeAckPassed S slot → Inv (way (swap (acked-world (Ok (ack_in (oldest_ack (row_of S slot)))) (done (calls.TakeAck slot) h))))
   take-ack-inv slot ok =
       let r = row_of S slot in
       let count : r.ack_count ≤ ACKS = rw (row-of S slot ok.at.small) (good.sound.ack-count slot ok.at.small ok.at.live) in

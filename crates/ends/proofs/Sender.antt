@@ -1,5 +1,6 @@
 -- Whatever a call at a does, the invariant of what a sends to b is kept. Assumes nothing.
-use Rattle.std.specs.Prelude.{◌≡◌, true, ◌⊎◌, eqb, get_or, take, drop}
+use Rattle.std.specs.Prelude.{◌≡◌, true, ◌⊎◌, eqb, get_or, take, drop, Ok, Result}
+use Rattle.refusal.specs.declared.Refusal.{Refusal}
 use Rattle.std.proofs.Math.Path.{refl, sym, ap, subst}
 use Rattle.std.proofs.Common.{◌∙◌, inl, inr, arith, eqb-true}
 use mathlib.Core.List.Memᴰ
@@ -18,9 +19,6 @@ use Rattle.engine.specs.declared.state.SentReliableStatus.TheVariants as statuse
 use Rattle.engine.specs.declared.state.SentReliable.{SentReliable}
 use Rattle.engine.specs.declared.state.Sending.{Sending}
 use Rattle.engine.specs.declared.state.State.{State}
-use Rattle.engine.specs.declared.sending.SendAnswer.{SendAnswer}
-use Rattle.engine.specs.declared.sending.SendAnswer.TheVariants as sends
-use Rattle.engine.specs.declared.resending.ResendAnswer.TheVariants as resends
 use Rattle.engine.specs.Packets.{no_packet, packets, is_received}
 use Rattle.engine.specs.Records.{is_full}
 use Rattle.engine.specs.Received.{table_of, expected_at, cell_of}
@@ -102,7 +100,7 @@ module _ (W : World) (i : Inv (way W)) (good : Good W.a.state) where
 
   -- ---- Send
 
-  abbrev sent-world : SendAnswer → Msg → Holding → World
+  abbrev sent-world : Result Seq Refusal → Msg → Holding → World
   sent-world answer m k = written W k (given_by answer G m) W.a.out W.a.accepted (put_by answer W.ab.msgs (length G) m) W.ab.acks
 
   -- what was accepted was given
@@ -111,7 +109,7 @@ module _ (W : World) (i : Inv (way W)) (good : Good W.a.state) where
   has-inside j (inr x) = (i.rxi.held j (omega (arith, i.rxi.oe, x.0)) x.1 x.2).0
 
   send-inv : (slot time : ℕ) (m : Msg) → SendPassed S (length W.a.sent) slot time m.kind (length m.bytes)
-      → Inv (way (sent-world (sends.Number S.tx.tx_seq) m (done (calls.Send slot time m.kind m.bytes) h)))
+      → Inv (way (sent-world (Ok S.tx.tx_seq) m (done (calls.Send slot time m.kind m.bytes) h)))
   unfolding sent_state sent_tx
   send-inv slot time m ok = record {
     e = i.e;
@@ -148,7 +146,7 @@ module _ (W : World) (i : Inv (way W)) (good : Good W.a.state) where
   -- ---- Resend
 
   resend-inv : (slot time n : ℕ) → n < 2 ^ 32 → ResendPassed S slot time n
-      → Inv (way (written W (done (calls.Resend slot time n) h) G W.a.out W.a.accepted (put_again_by (resends.Message (looked_at S.tx n).msg (looked_at S.tx n).len) W n) W.ab.acks))
+      → Inv (way (written W (done (calls.Resend slot time n) h) G W.a.out W.a.accepted (put_again_by (Ok ((looked_at S.tx n).msg, (looked_at S.tx n).len)) W n) W.ab.acks))
   unfolding looked_at place
   resend-inv slot time n number ok = record {
     e = i.e;

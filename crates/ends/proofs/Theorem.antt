@@ -1,6 +1,8 @@
 -- Demand 3, proved: the statement of Demand holds of the engine's own definitions. Both directions of two ends keep the invariant along any run.
 -- Assumes nothing.
-use Rattle.std.specs.Prelude.{◌≡◌, refl, Bool, true, false, List, [], ◌++◌, ℕ, ◌+◌, ◌-◌, ◌*◌, ◌^◌, ◌≤◌, ◌<◌, ltb, length, get_or, take, drop}
+use Rattle.std.specs.Prelude.{◌≡◌, refl, Bool, true, false, List, [], ◌++◌, ℕ, ◌+◌, ◌-◌, ◌*◌, ◌^◌, ◌≤◌, ◌<◌, ltb, length, get_or, take, drop, Ok, Err, Result}
+use Rattle.refusal.specs.declared.Refusal.{Refusal}
+use Rattle.seq.specs.declared.Seq.{Seq}
 use Rattle.std.proofs.Common.{sym, ap, subst, ◌∙◌, inl, arith, take-append-drop, eq-eqb, ne_eqb, ltb-true, le-ltb}
 use mathlib.Core.List.Memᴰ
 use Rattle.std.proofs.Math.Decide.{dec_lt, dec_le}
@@ -9,10 +11,8 @@ use Rattle.std.proofs.Math.Seq.{take-length}
 use borrow.Table.Steps.{cases}
 use Rattle.seq.specs.Numbers.{plus}
 use Rattle.seq.specs.Distance.{past}
-use Rattle.refusal.specs.declared.verdict.Verdict.{Verdict}
-use Rattle.refusal.specs.declared.verdict.Verdict.TheVariants as verdicts
 use Rattle.refusal.specs.Refusals.{refuse}
-use Rattle.refusal.specs.Verdicts.{gate}
+use Rattle.refusal.specs.Verdicts.{Verdict, gate}
 use Rattle.refusal.specs.Tests.{false-true}
 use Rattle.link.specs.declared.row.LinkRow.{LinkRow}
 use Rattle.link.specs.Row.{empty_row, no_row}
@@ -20,9 +20,6 @@ use Rattle.link.specs.Acks.{waiting}
 use Rattle.engine.specs.declared.state.SentReliable.{SentReliable}
 use Rattle.engine.specs.declared.state.Receiving.{Receiving}
 use Rattle.engine.specs.declared.state.State.{State}
-use Rattle.engine.specs.declared.sending.SendAnswer.{SendAnswer}
-use Rattle.engine.specs.declared.sending.SendAnswer.TheVariants as sends
-use Rattle.engine.specs.declared.handing_out.HandOut.TheVariants as handouts
 use Rattle.engine.specs.Answer.{done-passed}
 use Rattle.engine.specs.Starting.{fresh_tx, fresh_rx, fresh_state, fresh_verdict, fresh_of, fresh_records}
 use Rattle.engine.specs.Packets.{no_packet, packets, is_received}
@@ -30,7 +27,6 @@ use Rattle.engine.specs.CellCount.{cell-count}
 use Rattle.engine.specs.Records.{is_full}
 use Rattle.engine.specs.Received.{RxTable, table_of, expected_at, in_use, held_at, is_used, cell_of, view-held}
 use Rattle.engine.specs.DecidedTables.{plus-zero}
-use Rattle.engine.specs.declared.answer.Outcome.TheVariants as outcomes
 use Rattle.engine.specs.Sound.{SoundRecords}
 use Rattle.engine.specs.Ring.{window}
 use Rattle.engine.specs.Rows.{row_of}
@@ -92,9 +88,9 @@ leaves Take = record { held-is = refl; other-same = refl }
 leaves (TakeAck slot) = record { held-is = refl; other-same = refl }
 
 -- no message is taken back
-given-more : (a : SendAnswer) (given : List Msg) (m : Msg) → length given ≤ length (given_by a given m)
-given-more (sends.Number seq) given m = omega (arith, longer given m)
-given-more (sends.No r) given m = omega arith
+given-more : (a : Result Seq Refusal) (given : List Msg) (m : Msg) → length given ≤ length (given_by a given m)
+given-more (Ok seq) given m = omega (arith, longer given m)
+given-more (Err r) given m = omega arith
 
 call-grows : {W X : World} → Call W X → length W.a.given ≤ length X.a.given
 unfolding send_at resend_at receive_at take_at take_ack_at
@@ -177,9 +173,9 @@ fresh-inv s x m y n sa rb kb s32 la lb =
 -- what is given to a fresh end
 record Starts (s buffer cells : ℕ) (records : List ℕ) : Type 0 where
   number : s < 2 ^ 32
-  passed : fresh_verdict buffer cells (length records) ≡ verdicts.Pass
+  passed : fresh_verdict buffer cells (length records) ≡ Ok tt
 
-starts : (s buffer cells : ℕ) (records : List ℕ) → s < 2 ^ 32 → (fresh_of s buffer cells (length records)).outcome ≡ outcomes.Done → Starts s buffer cells records
+starts : (s buffer cells : ℕ) (records : List ℕ) → s < 2 ^ 32 → (fresh_of s buffer cells (length records)).outcome ≡ Ok tt → Starts s buffer cells records
 unfolding fresh_of
 starts s buffer cells records s32 done = record { number = s32; passed = done-passed (fresh_verdict buffer cells (length records)) _ _ done }
 
@@ -216,21 +212,21 @@ joined-fresh (fresh s x m y n sa ra ka sb rb kb s32 hx hy l₁ l₂ l₃ l₄) =
 -- ---- nothing to take
 
 -- an answer is a refusal just if the verdict is
-full-verdict : (v : Verdict) (t : RxTable) → hand_out_by v t ≡ handouts.No (refuse 19 tt) → v ≡ verdicts.No (refuse 19 tt)
+full-verdict : (v : Verdict) (t : RxTable) → hand_out_by v t ≡ Err (refuse 19 tt) → v ≡ Err (refuse 19 tt)
 unfolding hand_out_by
-full-verdict verdicts.Pass t e = let z : ◌≡◌ {A = ℕ} 0 1 = cc in absurd (omega arith)
-full-verdict (verdicts.No r) t e = cc
+full-verdict (Ok tt) t e = let z : ◌≡◌ {A = ℕ} 0 1 = cc in absurd (omega arith)
+full-verdict (Err r) t e = cc
 
 -- with a message ready, the verdict of taking is not 19
 nothing-refused : {X : Type 0} (s : State) (records : List ℕ) → Good s → SoundRecords (table_of s.rx records) → is_full (ready_of (table_of s.rx records)) ≡ true
-    → take_verdict s records ≡ verdicts.No (refuse 19 tt) → X
+    → take_verdict s records ≡ Err (refuse 19 tt) → X
 unfolding take_verdict sound_withb
 nothing-refused s records good recorded ready v =
     let t = table_of s.rx records in
     not-nothing (fits s.rx.rxed_reliable_consumed (ready_bytes (ready_of t)) MAX_TOTAL)
     (simp (eq-eqb (length records) s.rx.cells recorded.long, sound-true s good.sound, records-true t recorded, ready) at v)
   where
-    not-nothing : {X : Type 0} (b : Bool) → gate b 9 verdicts.Pass ≡ verdicts.No (refuse 19 tt) → X
+    not-nothing : {X : Type 0} (b : Bool) → gate b 9 (Ok tt) ≡ Err (refuse 19 tt) → X
     not-nothing true e = let z : ◌≡◌ {A = ℕ} 0 1 = cc in absurd (omega arith)
     not-nothing false e = let z : ◌≡◌ {A = ℕ} 0 1 = cc in absurd (omega arith)
 

@@ -1,17 +1,15 @@
 -- Demand 3 as a statement: of what a sends to b; by `swap` also of what b sends to a. Nothing here names a ring, a table's cells or
 -- a window. Its proof is `demand3` of proofs/Theorem.antt. Assumes nothing.
-use Rattle.std.specs.Prelude.{◌≡◌, cond, ℕ, ◌+◌, ◌≤◌, ◌<◌, length, get_or}
+use Rattle.std.specs.Prelude.{◌≡◌, cond, ℕ, ◌+◌, ◌≤◌, ◌<◌, length, get_or, Ok, Err}
 use mathlib.Core.List.{List, [], ◌∷◌, ◌++◌, Memᴰ}
 use Rattle.seq.specs.Numbers.{plus}
 use Rattle.msg.specs.declared.reliable.ReliableMsg.TheVariants as msgs
 use Rattle.refusal.specs.Refusals.{refuse}
 use Rattle.engine.specs.declared.state.SentReliableStatus.{SentReliableStatus}
 use Rattle.engine.specs.declared.state.SentReliableStatus.TheVariants.{Sent, Received, ResendQueued}
-use Rattle.engine.specs.declared.answer.Outcome.TheVariants as outcomes
 use Rattle.engine.specs.Records.{is_ready_kind}
 use Rattle.engine.specs.Table.{packet_of}
 use Rattle.engine.specs.Acking.{ack_of}
-use Rattle.engine.specs.declared.handing_out.HandOut.TheVariants as handouts
 use Rattle.engine.specs.HandingOut.{take_of}
 use Rattle.laws.specs.Calls as calls
 use Rattle.ends.specs.World.{Msg, Packet, World, swap, called, newest, Brought, BroughtAck, AckFor, TimelyAck, Acked, Step, at_a, Run, ◌then◌, Fresh}
@@ -49,7 +47,7 @@ Complete W = Emptied W → (i : ℕ) → i < length W.a.given → Accepted W i
 
 -- the stronger end: with nothing left to take, what b handed out is all that a was given
 abbrev pub AllOut : World → Type 0
-AllOut W = Emptied W → (take_of W.b.state W.b.records).answer ≡ handouts.No (refuse 19 tt) → W.b.out ≡ handed W.a.given
+AllOut W = Emptied W → (take_of W.b.state W.b.records).answer ≡ Err (refuse 19 tt) → W.b.out ≡ handed W.a.given
 
 -- the status of the packet of message i
 abbrev pub status_of : World → ℕ → SentReliableStatus
@@ -65,7 +63,7 @@ SentOver (ResendQueued link) slot = ⊥
 -- over it unrefused" isn't asked for: `timely` says that a message of the number was accepted, over whatever link
 pub data Returned (U : World) (i : ℕ) : (W : World) → Run U W → Type 0 where
   now : {W : World} (r : Run U W) (slot time n : ℕ) (brought : BroughtAck n W.ba) (timely : TimelyAck n W.a W.b)
-      → n ≡ plus W.start i → SentOver (status_of W i) slot → (ack_of W.a.state slot time n).outcome ≡ outcomes.Done
+      → n ≡ plus W.start i → SentOver (status_of W i) slot → (ack_of W.a.state slot time n).outcome ≡ Ok tt
       → Returned U i (called W (calls.Ack slot time n)) (◌then◌ r (at_a (Acked slot time n brought timely)))
   earlier : {W X : World} {r : Run U W} (x : Step W X) → Returned U i W r → Returned U i X (◌then◌ r x)
 

@@ -1,14 +1,13 @@
 -- The invariant: what is true of what a sends to b after any calls, beside the soundness of both states. `e` and `o` are the next expected and the
 -- oldest number, counted without wrapping from `s`, the start. G is what was given. Assumes nothing.
-use Rattle.std.specs.Prelude.{◌≡◌, true, ◌⊎◌, ℕ, ◌+◌, ◌*◌, ◌≤◌, ◌<◌, length, get_or, take}
+use Rattle.std.specs.Prelude.{◌≡◌, true, ◌⊎◌, ℕ, ◌+◌, ◌*◌, ◌≤◌, ◌<◌, length, get_or, take, Some}
+use Rattle.engine.specs.Held.{Held}
 use mathlib.Core.List.{List, Memᴰ}
 use Rattle.seq.specs.declared.Seq.{Seq}
 use Rattle.seq.specs.Numbers.{plus}
 use Rattle.link.specs.Acks.{waiting}
 use Rattle.engine.specs.declared.state.State.{State}
 use Rattle.engine.specs.declared.state.SentReliable.{SentReliable}
-use Rattle.engine.specs.declared.state.Held.{Held}
-use Rattle.engine.specs.declared.state.Held.TheVariants.{Message}
 use Rattle.engine.specs.Packets.{no_packet, packets, is_received}
 use Rattle.engine.specs.Records.{is_full, is_ready_kind}
 use Rattle.engine.specs.Received.{table_of, cell_of}
@@ -45,7 +44,7 @@ pub record TxI (s : ℕ) (G : List Msg) (next : ℕ) (ps : List SentReliable) (s
 
 -- a cell holds message j
 pub record Holds (N s : ℕ) (store : List ℕ) (j : ℕ) (h : Held) (m : Msg) : Type 0 where
-  pub cell-is : h ≡ Message m.kind (length m.bytes)
+  pub cell-is : h ≡ Some (m.kind, (length m.bytes))
   pub bytes-is : cell_bytes N store (plus s j) (length m.bytes) ≡ m.bytes
 
 pub record RxI (N s : ℕ) (G : List Msg) (expected oldest : ℕ) (c : ℕ → Held) (store : List ℕ) (e o : ℕ) : Type 0 where

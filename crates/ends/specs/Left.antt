@@ -1,6 +1,7 @@
 -- What a call leaves of what demand 3 speaks of. Most calls change statuses of packets and no more; none but Receive adds a waiting ack. And every call of the
 -- list is one of the world's. Assumes nothing.
-use Rattle.std.specs.Prelude.{◌≡◌, Bool, true, cond, ℕ, ◌+◌, ◌%◌, ◌^◌, ◌<◌, eqb, ltb, set}
+use Rattle.std.specs.Prelude.{◌≡◌, Bool, true, cond, ℕ, ◌+◌, ◌%◌, ◌^◌, ◌<◌, eqb, ltb, set, Some, None, Ok}
+use Rattle.engine.specs.Held.{Held}
 use Rattle.std.proofs.Math.Path.{refl, ap}
 use Rattle.std.proofs.Common.{sym, subst, ◌∙◌, arith, get_or-set_same, set-set, eqb-true, lt-ltb}
 use Rattle.std.proofs.Math.Bool.{false}
@@ -13,10 +14,8 @@ use borrow.Table.Steps.{cases}
 use Rattle.seq.specs.declared.Seq.{Seq}
 use Rattle.seq.specs.Distance.{past}
 use Rattle.msg.specs.declared.reliable.ReliableMsg.{ReliableMsg}
-use Rattle.refusal.specs.declared.verdict.Verdict.TheVariants.{Pass}
 use Rattle.refusal.specs.Tests.{false-true}
 use Rattle.link.specs.declared.row.LinkRow.{LinkRow}
-use Rattle.link.specs.declared.row.Limit.TheVariants.{At}
 use Rattle.link.specs.Row.{empty_row, no_row, fresh_row, confirmed, blocked_row, unconfirmed_row, with_unacked}
 use Rattle.link.specs.Limit.{marked_row, mark_resent}
 use Rattle.link.specs.Roundtrip.{pinged, ponged}
@@ -24,8 +23,6 @@ use Rattle.link.specs.Acks.{waiting, ack_taken}
 use Rattle.engine.specs.declared.state.SentReliableStatus.{SentReliableStatus}
 use Rattle.engine.specs.declared.state.SentReliableStatus.TheVariants.{Sent, Received, ResendQueued}
 use Rattle.engine.specs.declared.state.SentReliable.{SentReliable}
-use Rattle.engine.specs.declared.state.Held.{Held}
-use Rattle.engine.specs.declared.state.Held.TheVariants.{Nothing}
 use Rattle.engine.specs.Records.{held_of}
 use Rattle.engine.specs.declared.state.State.{State}
 use Rattle.engine.specs.Packets.{no_packet, packets, is_received, is_queued}
@@ -96,7 +93,7 @@ rx-kept h k same P x =
       (sym same.seq-same d).0,
       (sym same.oldest-same d).0,
       λ n. cond (ltb (past n (sym same.oldest-same d).0) (past (sym same.end_same d).0 (sym same.oldest-same d).0))
-          (held_of (get_or (sym same.records-same d) (n % sym same.count_same d) 0)) Nothing,
+          (held_of (get_or (sym same.records-same d) (n % sym same.count_same d) 0)) None,
       sym same.received-same d,
     )) x
 
@@ -305,7 +302,7 @@ module _ (h : Holding) (good : Good h.state) where
   abbrev row : ℕ → LinkRow
   row slot = row_of h.state slot
 
-  if-passed : (c : calls.Call) → (verdict c h ≡ Pass → Left h (done c h)) → Left h (next c h)
+  if-passed : (c : calls.Call) → (verdict c h ≡ Ok tt → Left h (done c h)) → Left h (next c h)
   if-passed c left = next-keeps c h (Left h) (left-same h) left
 
   pub other-left : (c : calls.Call) → calls.Unnoted c → calls.Typed c → Left h (next c h)
@@ -323,7 +320,7 @@ module _ (h : Holding) (good : Good h.state) where
       (λ e. row-left h good slot (blocked_row (row slot) blocked) h.state.time (passed (calls.Block slot blocked) h t good e).small (same-fewer _ _ (block-acks (row slot) blocked)))
   other-left (calls.Mark slot seq) u t =
       if-passed (calls.Mark slot seq)
-      (λ e. row-left h good slot (marked_row (row slot) (At seq)) h.state.time (passed (calls.Mark slot seq) h t good e).small (same-fewer _ _ (mark-acks (row slot) (At seq))))
+      (λ e. row-left h good slot (marked_row (row slot) (Some seq)) h.state.time (passed (calls.Mark slot seq) h t good e).small (same-fewer _ _ (mark-acks (row slot) (Some seq))))
   other-left (calls.Ping slot time) u t =
       if-passed (calls.Ping slot time)
       (λ e. row-left h good slot (pinged (row slot) time) time (passed (calls.Ping slot time) h t good e).at.small (same-fewer _ _ (ping-acks (row slot) time)))

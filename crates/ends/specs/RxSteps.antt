@@ -1,6 +1,7 @@
 -- What the receiving half's part of the invariant keeps where a cell is changed, the next expected number moves on and the oldest with it (`Passes` of the
 -- crate `laws`): Receive and taking a message are such. Over any cell count N. Assumes nothing.
-use Rattle.std.specs.Prelude.{◌≡◌, refl, true, false, cond, ◌⊎◌, List, [], ◌∷◌, ◌++◌, ℕ, zero, suc, ◌+◌, ◌-◌, ◌*◌, ◌≤◌, ◌<◌, length, take}
+use Rattle.std.specs.Prelude.{◌≡◌, refl, true, false, cond, ◌⊎◌, List, [], ◌∷◌, ◌++◌, ℕ, zero, suc, ◌+◌, ◌-◌, ◌*◌, ◌≤◌, ◌<◌, length, take, Some, None}
+use Rattle.engine.specs.Held.{Held}
 use Rattle.std.proofs.Common.{sym, ◌∙◌, ap, ap₂, subst, inl, inr, append-nil, arith, add-one}
 use Rattle.std.proofs.Math.Decide.{dec_lt}
 use Rattle.std.proofs.Math.Seq.{take-suc}
@@ -11,8 +12,6 @@ use Rattle.seq.specs.Laws.{plus-plus}
 use Rattle.seq.specs.Distance.{past, past-counted}
 use Rattle.msg.specs.declared.reliable.ReliableMsg.{ReliableMsg}
 use Rattle.refusal.specs.Tests.{false-true}
-use Rattle.engine.specs.declared.state.Held.{Held}
-use Rattle.engine.specs.declared.state.Held.TheVariants.{Nothing, Message}
 use Rattle.engine.specs.CellCount.{CellCount}
 use Rattle.engine.specs.Records.{is_full, is_ready_kind, kept_of}
 use Rattle.engine.specs.Received.{RxTable, expected_at, cell_of}
@@ -70,10 +69,10 @@ module _ {N s expected oldest e o : ℕ} {G : List Msg} {c : ℕ → Held} {stor
 -- ---- what is kept of a passed message
 
 kept_full : (h : Held) → is_full (kept_of h) ≡ true → kept_of h ≡ h
-kept_full Nothing f = refl
-kept_full (Message msg len) f = cases (is_ready_kind msg) (λ t. simp t) (λ t. false-true (simp t at f))
+kept_full None f = refl
+kept_full (Some (msg, len)) f = cases (is_ready_kind msg) (λ t. simp t) (λ t. false-true (simp t at f))
 
-kept-ready : (h : Held) (msg : ReliableMsg) (len : ℕ) → h ≡ Message msg len → is_full (kept_of h) ≡ is_ready_kind msg
+kept-ready : (h : Held) (msg : ReliableMsg) (len : ℕ) → h ≡ Some (msg, len) → is_full (kept_of h) ≡ is_ready_kind msg
 kept-ready h msg len e = ap (λ x. is_full (kept_of x)) e ∙ cases (is_ready_kind msg) (λ t. simp t) (λ t. simp t)
 
 -- ---- a cell is changed, and the numbers move on

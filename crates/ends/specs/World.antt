@@ -1,26 +1,19 @@
 -- Two ends and the links between them. What a call does is `next` of the calls' list, in the definitions that the calls' promises cite. An observer writes
 -- down beside it what was given, handed out and accepted; no call sees that, and `Pinned` of Demand says that it is right. A reader needs
 -- this file, Demand, the list of calls (Calls of the crate `laws`) and those definitions. Assumes nothing.
-use Rattle.std.specs.Prelude.{◌≡◌, ℕ, ◌+◌, ◌-◌, ◌*◌, ◌^◌, ◌<◌, length, take, drop}
+use Rattle.std.specs.Prelude.{◌≡◌, ℕ, ◌+◌, ◌-◌, ◌*◌, ◌^◌, ◌<◌, length, take, drop, Ok, Err, Result}
+use Rattle.refusal.specs.declared.Refusal.{Refusal}
+use Rattle.seq.specs.declared.Seq.{Seq}
+use Rattle.engine.specs.Held.{HandOut}
 use mathlib.Core.List.{List, [], ◌∷◌, ◌++◌, Memᴰ}
 use Rattle.seq.specs.Numbers.{plus, minus}
 use Rattle.msg.specs.declared.reliable.ReliableMsg.{ReliableMsg}
 use Rattle.engine.specs.declared.state.State.{State}
-use Rattle.engine.specs.declared.answer.Outcome.{Outcome}
-use Rattle.engine.specs.declared.answer.Outcome.TheVariants as outcomes
 use Rattle.engine.specs.Stores.{cell_start}
 use Rattle.engine.specs.Starting.{fresh_of, fresh_records}
-use Rattle.engine.specs.declared.sending.SendAnswer.{SendAnswer}
-use Rattle.engine.specs.declared.sending.SendAnswer.TheVariants as sends
-use Rattle.engine.specs.declared.resending.ResendAnswer.{ResendAnswer}
-use Rattle.engine.specs.declared.resending.ResendAnswer.TheVariants as resends
 use Rattle.engine.specs.Sending.{send_of}
 use Rattle.engine.specs.Resending.{resend_of}
 use Rattle.engine.specs.Receiving.{receive_of}
-use Rattle.engine.specs.declared.handing_out.HandOut.{HandOut}
-use Rattle.engine.specs.declared.handing_out.HandOut.TheVariants as handouts
-use Rattle.engine.specs.declared.handing_out.TakeAck.{TakeAck as AckAnswer}
-use Rattle.engine.specs.declared.handing_out.TakeAck.TheVariants as acks
 use Rattle.engine.specs.HandingOut.{shown_of, take_of, take_ack_of}
 use Rattle.engine.specs.Sizes.{PACKETS, DATA_BYTES, SENT_BYTES}
 use Rattle.laws.specs.Calls as calls
@@ -93,13 +86,13 @@ called W c = written W (calls.next c (holds W.a)) W.a.given W.a.out W.a.accepted
 -- ---- and what the observer writes down, by the call's answer: of a refused call nothing
 
 -- "an accepted Send": what was given, "by a call not refused", is put on the links
-abbrev pub given_by : SendAnswer → List Msg → Msg → List Msg
-given_by (sends.Number seq) given m = given ++ (m ∷ [])
-given_by (sends.No r) given m = given
+abbrev pub given_by : Result Seq Refusal → List Msg → Msg → List Msg
+given_by (Ok seq) given m = given ++ (m ∷ [])
+given_by (Err r) given m = given
 
-abbrev pub put_by : SendAnswer → List Packet → ℕ → Msg → List Packet
-put_by (sends.Number seq) msgs index m = record { index = index; number = seq.0; msg = m } ∷ msgs
-put_by (sends.No r) msgs index m = msgs
+abbrev pub put_by : Result Seq Refusal → List Packet → ℕ → Msg → List Packet
+put_by (Ok seq) msgs index m = record { index = index; number = seq.0; msg = m } ∷ msgs
+put_by (Err r) msgs index m = msgs
 
 unfoldable pub send_at : World → ℕ → ℕ → Msg → World
 send_at W slot time m =
@@ -113,10 +106,10 @@ abbrev pub newest : ℕ → ℕ → ℕ → ℕ
 newest start given n = given - minus (plus start given) n
 
 -- "an accepted Resend (with its sent cell)": what it answers is put on the links, with the bytes of the number's sent cell
-abbrev pub put_again_by : ResendAnswer → World → ℕ → List Packet
-put_again_by (resends.Message kind len) W n =
+abbrev pub put_again_by : Result (ReliableMsg × ℕ) Refusal → World → ℕ → List Packet
+put_again_by (Ok (kind, len)) W n =
     record { index = newest W.start (length W.a.given) n; number = n; msg = record { kind = kind; bytes = take len (drop (cell_start PACKETS n) W.a.sent) } } ∷ W.ab.msgs
-put_again_by (resends.No r) W n = W.ab.msgs
+put_again_by (Err r) W n = W.ab.msgs
 
 unfoldable pub resend_at : World → ℕ → ℕ → ℕ → World
 resend_at W slot time n =
@@ -124,9 +117,9 @@ resend_at W slot time n =
     (put_again_by (resend_of W.a.state slot time n).answer W n) W.ab.acks
 
 -- Receive: what isn't refused is accepted
-abbrev pub accepted_by : Outcome → List Packet → Packet → List Packet
-accepted_by outcomes.Done accepted p = p ∷ accepted
-accepted_by (outcomes.No r) accepted p = accepted
+abbrev pub accepted_by : Result Unit Refusal → List Packet → Packet → List Packet
+accepted_by (Ok tt) accepted p = p ∷ accepted
+accepted_by (Err r) accepted p = accepted
 
 unfoldable pub receive_at : World → ℕ → Packet → World
 receive_at W slot p =
@@ -136,8 +129,8 @@ receive_at W slot p =
 
 -- Take: what was handed out is the kind that taking answers, with the bytes that showing gives before it
 abbrev pub out_by : HandOut → List Msg → List ℕ → List Msg
-out_by (handouts.Message kind seq len) out shown = out ++ (record { kind = kind; bytes = shown } ∷ [])
-out_by (handouts.No r) out shown = out
+out_by (Ok (kind, seq, len)) out shown = out ++ (record { kind = kind; bytes = shown } ∷ [])
+out_by (Err r) out shown = out
 
 unfoldable pub take_at : World → World
 take_at W =
@@ -146,9 +139,9 @@ take_at W =
     W.ab.msgs W.ab.acks
 
 -- "the taking of an ack": it is put on the links
-abbrev pub put_ack_by : AckAnswer → List ℕ → List ℕ
-put_ack_by (acks.Number seq) numbers = seq.0 ∷ numbers
-put_ack_by (acks.No r) numbers = numbers
+abbrev pub put_ack_by : Result Seq Refusal → List ℕ → List ℕ
+put_ack_by (Ok seq) numbers = seq.0 ∷ numbers
+put_ack_by (Err r) numbers = numbers
 
 unfoldable pub take_ack_at : World → ℕ → World
 take_ack_at W slot =
@@ -228,6 +221,6 @@ fresh_world start a b = record { start = start; a = a; b = b; ab = silent; ba = 
 -- its size, with any bytes in them
 pub data Fresh : World → Type 0 where
   fresh : (start buffer-a cells-a buffer-b cells-b : ℕ) (sent-a received-a records-a sent-b received-b records-b : List ℕ) → start < 2 ^ 32
-      → (fresh_of start buffer-a cells-a (length records-a)).outcome ≡ outcomes.Done → (fresh_of start buffer-b cells-b (length records-b)).outcome ≡ outcomes.Done
+      → (fresh_of start buffer-a cells-a (length records-a)).outcome ≡ Ok tt → (fresh_of start buffer-b cells-b (length records-b)).outcome ≡ Ok tt
       → length sent-a ≡ SENT_BYTES → length received-a ≡ cells-a * DATA_BYTES → length sent-b ≡ SENT_BYTES → length received-b ≡ cells-b * DATA_BYTES
       → Fresh (fresh_world start (fresh_end start buffer-a cells-a sent-a received-a records-a) (fresh_end start buffer-b cells-b sent-b received-b records-b))

@@ -5,7 +5,8 @@ use Rattle.engine.specs.CellCount.{is_cell_count}
 use Rattle.engine.specs.Records.{held_as, held_of, is_record, kept_record}
 use Rattle.engine.specs.Received.{table_of, held_at, is_used, cell_of, bytes_in}
 use Rattle.engine.specs.Packets.{queued_of, sum_of}
-use Rattle.std.specs.Prelude.{◌≡◌, cond, ℕ, ◌+◌, ◌<◌, replicate}
+use Rattle.std.specs.Prelude.{◌≡◌, cond, ℕ, ◌+◌, ◌<◌, replicate, None, Ok, Err}
+use Rattle.engine.specs.Held.{HandOut}
 use Rattle.std.proofs.Math.Path.{refl, sym}
 use Rattle.std.proofs.Common.{◌∙◌, ap, subst, arith}
 use Rattle.std.proofs.Math.Bool.{false}
@@ -15,15 +16,11 @@ use Rattle.std.proofs.Math.ListN.{length}
 use Rattle.std.proofs.lemmas.List.{length-replicate}
 use Rattle.msg.specs.declared.reliable.ReliableMsg.TheVariants as msgs
 use Rattle.refusal.specs.Refusals.{refuse}
-use Rattle.link.specs.declared.row.MaxPing.TheVariants.{Unlimited}
 use Rattle.seq.specs.declared.Seq.{Seq}
 use Rattle.engine.specs.declared.state.State.{State}
 use Rattle.engine.specs.declared.state.SentReliableStatus.{SentReliableStatus}
 use Rattle.engine.specs.declared.state.SentReliableStatus.TheVariants as statuses
-use Rattle.engine.specs.declared.answer.Outcome.TheVariants as outcomes
 use Rattle.engine.specs.Stores.{store_by, copied, cell_start}
-use Rattle.engine.specs.declared.handing_out.HandOut.{HandOut}
-use Rattle.engine.specs.declared.handing_out.HandOut.TheVariants as handouts
 use Rattle.seq.specs.Numbers.{seq_of, plus, minus, signed}
 use Rattle.seq.specs.Distance.{distance_of, near, before, past}
 use Rattle.link.specs.Acks.{ack_queued, waiting, oldest_ack, shifted, ack_taken}
@@ -108,7 +105,7 @@ CELLS = 64
 abbrev pub lent : List ℕ
 lent = replicate CELLS 7
 
-fresh_ok : (fresh_of 4294967295 65536 CELLS (length lent)).outcome ≡ outcomes.Done
+fresh_ok : (fresh_of 4294967295 65536 CELLS (length lent)).outcome ≡ Ok tt
 unfolding fresh_of fresh_verdict is_cell_count
 fresh_ok = refl
 
@@ -154,7 +151,7 @@ pub record Met (sent-a received-a sent-b received-b : List ℕ) : Type 0 where
   pub accepted : ended.b.accepted ≡ p1 ∷ p0 ∷ p1 ∷ []
   -- the table is empty, nothing is left to take, and all that was given was handed out
   pub emptied : Emptied ended
-  pub nothing : (take_of ended.b.state ended.b.records).answer ≡ handouts.No (refuse 19 tt)
+  pub nothing : (take_of ended.b.state ended.b.records).answer ≡ Err (refuse 19 tt)
   pub given : ended.a.given ≡ data-7 ∷ finish ∷ []
   pub out : ended.b.out ≡ data-7 ∷ finish ∷ []
 
@@ -166,16 +163,16 @@ module _ (sa ra sb rb : List ℕ) where
   w0 = begun sa ra sb rb
 
   w1 : World
-  w1 = called w0 (calls.Add 1 0 Unlimited false false)
+  w1 = called w0 (calls.Add 1 0 None false false)
 
   w2 : World
-  w2 = called w1 (calls.Add 2 0 Unlimited false false)
+  w2 = called w1 (calls.Add 2 0 None false false)
 
   w3 : World
-  w3 = swap (called (swap w2) (calls.Add 1 0 Unlimited false false))
+  w3 = swap (called (swap w2) (calls.Add 1 0 None false false))
 
   w4 : World
-  w4 = swap (called (swap w3) (calls.Add 2 0 Unlimited false false))
+  w4 = swap (called (swap w3) (calls.Add 2 0 None false false))
 
   -- a sends both messages over link 0; the first is lost, the second arrives
   w5 : World
@@ -265,13 +262,13 @@ module _ (sa ra sb rb : List ℕ) where
     over-0 : SentOver (status_of w17 0) 1
     number-1 : 0 ≡ plus w16.start 1
     number-0 : 4294967295 ≡ plus w16.start 0
-    accepted-16 : (ack_of w16.a.state 1 0 0).outcome ≡ outcomes.Done
+    accepted-16 : (ack_of w16.a.state 1 0 0).outcome ≡ Ok tt
     copies-16 : length w16.ab.msgs ≡ 4
 
   record ComputedLast : Type 0 where
-    accepted-17 : (ack_of w17.a.state 1 0 4294967295).outcome ≡ outcomes.Done
+    accepted-17 : (ack_of w17.a.state 1 0 4294967295).outcome ≡ Ok tt
     table-18 : w18.a.state.tx.txed_count ≡ 0
-    none-16 : (take_of w16.b.state w16.b.records).answer ≡ handouts.No (refuse 19 tt)
+    none-16 : (take_of w16.b.state w16.b.records).answer ≡ Err (refuse 19 tt)
 
   computed : Computed
   unfolding plus minus signed distance_of near before past ack_queued waiting oldest_ack shifted ack_taken marked_row mark_acked_as mark_resent_as trip_after trip_moved fresh_row empty_row unconfirmed_row with_unacked next_cell window sound? records? recordsb sound_withb is_cell_count queued_of sum_of bytes_in refilled place looked_at packet_of with_table is_taken is_listed take_ack_verdict soundb fresh_tx fresh_rx fresh_state fresh_verdict fresh_of fresh_records slot_verdict timed_verdict requeued row_of slot_ok time_ok in_table with_packet length_ok lowest_empty add_verdict add_of unconfirmed unconfirmed_state unconfirm_of resend_verdict resent_state resend_of totals_ok send_verdict sent_tx told_rx sent_state send_of send_store acked_row acked_tx acked_state ack_verdict ack_of settled_row_as received_tx settled_tx_as sweep_from sweep_of swept_tx held_as held_of is_record kept_record held_at is_used cell_of near_oldest is_repeat can_advance passed_over end_after opened_records put_in turns message_verdict receive_verdict effect_tx repeated_state effect_state received_state receive_of receive_store receive_records ack_answer taken_ack_state take_ack_of ready_of hand_out_by show_verdict showing_of shown_of take_verdict can_skip passed_by taken_in taken_state take_of take_records resend_at take_ack_at send_with receive_with take_with w0 w1 w2 w3 w4 w5 w6 w7 w8 w9 w10 w11 w12 w13 w14 w15 w16 w17 w18
@@ -321,10 +318,10 @@ module _ (sa ra sb rb : List ℕ) where
 
   -- what b is answered as it takes both, and what is shown before
   abbrev first_out : HandOut
-  first_out = handouts.Message msgs.Data (seq_of 4294967295) 1
+  first_out = Ok (msgs.Data, (seq_of 4294967295), 1)
 
   abbrev second-out : HandOut
-  second-out = handouts.Message msgs.SendFinish (seq_of 0) 0
+  second-out = Ok (msgs.SendFinish, (seq_of 0), 0)
 
   record Handed : Type 0 where
     none-12 : w12.b.out ≡ []
@@ -370,10 +367,10 @@ module _ (sa ra sb rb : List ℕ) where
     unfolding w1 w2 w3 w4 w5 w6 w7 w8 w9 w10
     to-10 =
         ◌then◌ {X = w9} {Y = w10} (◌then◌ {X = w8} {Y = w9} (◌then◌ {X = w7} {Y = w8} (◌then◌ {X = w6} {Y = w7} (◌then◌ {X = w5} {Y = w6} (◌then◌ {X = w4} {Y = w5} (◌then◌ {X = w3} {Y = w4} (◌then◌ {X = w2} {Y = w3} (◌then◌ {X = w1} {Y = w2} (◌then◌ {X = w0} {Y = w1} here
-        (at_a (Other (calls.Add 1 0 Unlimited false false) tt tt)))
-        (at_a (Other (calls.Add 2 0 Unlimited false false) tt tt)))
-        (at_b (Other {W = swap w2} (calls.Add 1 0 Unlimited false false) tt tt)))
-        (at_b (Other {W = swap w3} (calls.Add 2 0 Unlimited false false) tt tt)))
+        (at_a (Other (calls.Add 1 0 None false false) tt tt)))
+        (at_a (Other (calls.Add 2 0 None false false) tt tt)))
+        (at_b (Other {W = swap w2} (calls.Add 1 0 None false false) tt tt)))
+        (at_b (Other {W = swap w3} (calls.Add 2 0 None false false) tt tt)))
         (at_a (send-step w4 0 0 data-7 (ap length c.sent-4 ∙ ha))))
         (at_a (send-step w5 0 0 finish (ap length c.sent-5 ∙ put_a))))
         (at_b (receive-step (swap w6) 0 p1 (ap length c.received-6 ∙ hb) (rw c.msgs-6 (Memᴰ.head refl)) (omega (arith, two w6.a.given c.given-6)) c.cells-6)))

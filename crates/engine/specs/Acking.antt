@@ -1,5 +1,5 @@
 -- Document 01, "Ack of number a": what it does to the acked packet and its link, then the sweep, then the whole call. Assumes nothing.
-use Rattle.std.specs.Prelude.{◌≡◌, ℕ, suc, ◌+◌, ◌-◌, ◌%◌, ◌^◌, ◌<◌, ◌≤◌, true, false, cond, List, [], ◌∷◌, length, ◌==◌, slice_index_or, slice_set, refl}
+use Rattle.std.specs.Prelude.{◌≡◌, ℕ, suc, ◌+◌, ◌-◌, ◌%◌, ◌^◌, ◌<◌, ◌≤◌, true, false, cond, List, [], ◌∷◌, length, ◌==◌, slice_index_or, slice_set, refl, Ok}
 use Rattle.link.specs.declared.row.LinkRow.{LinkRow}
 use Rattle.link.specs.Row.{with_unacked}
 use Rattle.link.specs.Roundtrip.{trip_moved}
@@ -18,9 +18,7 @@ use Rattle.seq.specs.Distance.{near}
 use Rattle.engine.specs.Ring.{window, window-step, window-none, window-length, next_cell}
 use Rattle.engine.specs.Packets.{no_packet, packets, is_received, Settled}
 use Rattle.engine.specs.declared.acking.Front.{Front}
-use Rattle.refusal.specs.declared.verdict.Verdict.{Verdict}
-use Rattle.refusal.specs.declared.verdict.Verdict.TheVariants.{Pass}
-use Rattle.refusal.specs.Verdicts.{gate, gate-pass}
+use Rattle.refusal.specs.Verdicts.{Verdict, gate, gate-pass}
 use Rattle.link.specs.Limit.{mark_acked}
 use Rattle.engine.specs.declared.state.State.{State}
 use Rattle.engine.specs.declared.answer.Changed.{Changed}
@@ -105,7 +103,7 @@ acked_state s slot time a = with_parts s (slice_set s.links slot (acked_row s sl
 -- refused with 1, 3 and 4, as every call on a slot at a time, and 02 [5]: with 22, "ack against the next to send". The place that is looked at
 -- holds no other number than a (02 [9])
 unfoldable pub ack_verdict : State → ℕ → ℕ → ℕ → Verdict
-ack_verdict s slot time a = timed_verdict s slot time (gate (near a s.tx.tx_seq.0) 22 Pass)
+ack_verdict s slot time a = timed_verdict s slot time (gate (near a s.tx.tx_seq.0) 22 (Ok tt))
 
 unfoldable pub ack_of : State → ℕ → ℕ → ℕ → Changed
 unfolding ack_verdict acked_state
@@ -118,7 +116,7 @@ pub record AckPassed (s : State) (slot time a : ℕ) : Type 0 where
   pub timed : AtTime s slot time
   pub close : near a s.tx.tx_seq.0 ≡ true
 
-pub ack-passed : (s : State) (slot time a : ℕ) → ack_verdict s slot time a ≡ Pass → AckPassed s slot time a
+pub ack-passed : (s : State) (slot time a : ℕ) → ack_verdict s slot time a ≡ Ok tt → AckPassed s slot time a
 unfolding ack_verdict
 ack-passed s slot time a e =
     let t = timed-passed s slot time _ e in

@@ -1,6 +1,7 @@
 -- What one pass over the records in use finds: the code's own way of deciding what Sound asks of them. That it decides just that is proved in
 -- DecidedRecords. N is the cell count. Assumes nothing.
-use Rattle.std.specs.Prelude.{◌≡◌, ℕ, ◌+◌, ◌-◌, ◌*◌, ◌/◌, ◌%◌, ◌<◌, ◌≤◌, Bool, true, false, cond, not, ◌&&◌, ◌||◌, List, [], ◌∷◌, ◌==◌, ◌≢◌, nat_eq, nat_le, nat_lt, slice_index}
+use Rattle.std.specs.Prelude.{◌≡◌, ℕ, ◌+◌, ◌-◌, ◌*◌, ◌/◌, ◌%◌, ◌<◌, ◌≤◌, Bool, true, false, cond, not, ◌&&◌, ◌||◌, List, [], ◌∷◌, ◌==◌, ◌≢◌, nat_eq, nat_le, nat_lt, slice_index, Some, None}
+use Rattle.engine.specs.Held.{Held}
 use Rattle.std.proofs.Common.{sym, ap, ◌∙◌, mod-lt, arith}
 use Rattle.refusal.specs.Tests.{split, join, same_test}
 use Rattle.msg.specs.declared.reliable.ReliableMsg.TheVariants.{Data}
@@ -8,8 +9,6 @@ use borrow.Table.Steps.{cases}
 use Rattle.msg.specs.Reliable.{MSG_DATA}
 use borrow.Author.Tests.{eqb-true, eq-eqb, ne_eqb, leb-true, le-leb}
 use Rattle.seq.specs.Numbers.{plus, minus}
-use Rattle.engine.specs.declared.state.Held.{Held}
-use Rattle.engine.specs.declared.state.Held.TheVariants.{Nothing, Message}
 use Rattle.engine.specs.declared.state.Receiving.{Receiving}
 use Rattle.engine.specs.Records.{is_full, is_ready_kind, held_bytes, held_as, held_of, record_of, DataRecord, is_record, record-long}
 use Rattle.engine.specs.Received.{RxTable, record_view, expected_at, in_use, held_at}
@@ -35,8 +34,8 @@ pub record CellTally : Type 0 where
 -- a cell k numbers past the oldest, where the next expected is e past it: the oldest is there if it is ready, nothing stands at
 -- the next expected, and what stands before it is ready
 unfoldable pub cell_ok : Held → ℕ → ℕ → Bool
-cell_ok Nothing k e = cond (k == 0) (e == 0) true
-cell_ok (Message msg len) k e = cond (k == e) false (cond (nat_lt k e) (is_ready_kind msg && length_ok msg len) (length_ok msg len))
+cell_ok None k e = cond (k == 0) (e == 0) true
+cell_ok (Some (msg, len)) k e = cond (k == e) false (cond (nat_lt k e) (is_ready_kind msg && length_ok msg len) (length_ok msg len))
 
 -- .. and its word
 abbrev pub word_ok : ℕ → ℕ → ℕ → Bool
@@ -86,15 +85,15 @@ module _ (word : ℕ) (kind : word % 256 ≡ MSG_DATA) where
   abbrev bytes : ℕ
   bytes = word / 256 % 16777216
 
-  pub data-held : held_of word ≡ Message Data bytes
+  pub data-held : held_of word ≡ Some (Data, bytes)
   unfolding held_of held_as
   data-held = simp kind
 
-  data-within : (record_of (Message Data bytes) == word && length_ok Data bytes) ≡ nat_le word 262151
+  data-within : (record_of (Some (Data, bytes)) == word && length_ok Data bytes) ≡ nat_le word 262151
   data-within =
       same_test _ _
       (λ t.
-      let b = split (record_of (Message Data bytes) == word) (length_ok Data bytes) t in
+      let b = split (record_of (Some (Data, bytes)) == word) (length_ok Data bytes) t in
       let whole : 7 + 256 * (word / 256 % 16777216) + 0 ≡ word = eqb-true _ word b.0 in
       let short : word / 256 % 16777216 ≤ 1024 = leb-true _ DATA_BYTES (sym (data-long bytes) ∙ b.1) in
       le-leb word 262151 (omega (arith, whole, short)))
@@ -103,17 +102,17 @@ module _ (word : ℕ) (kind : word % 256 ≡ MSG_DATA) where
       let all : word / 256 % 16777216 ≡ word / 256 = omega (arith, small) in
       let whole : 7 + 256 * (word / 256 % 16777216) + 0 ≡ word = omega (arith, kind, all) in
       let short : bytes ≤ DATA_BYTES = omega (arith, small, all) in
-      join (eq-eqb (record_of (Message Data bytes)) word whole) (data-long bytes ∙ le-leb bytes DATA_BYTES short))
+      join (eq-eqb (record_of (Some (Data, bytes))) word whole) (data-long bytes ∙ le-leb bytes DATA_BYTES short))
 
   pub data-weighed : (t : CellTally) (k e : ℕ) → record_weighed t word k e ≡ record { ok = t.ok && (not (k == e) && nat_le word 262151); size = plus t.size (word / 256 % 16777216) }
   unfolding record_weighed cell_ok is_record
   data-weighed t k e =
       simp data-held
       (cases (k == e)
-      (λ x. simp x (ap (λ b. record { ok = t.ok && b; size = plus t.size bytes }) (cases (record_of (Message Data bytes) == word) (λ y. simp y) (λ y. simp y))))
+      (λ x. simp x (ap (λ b. record { ok = t.ok && b; size = plus t.size bytes }) (cases (record_of (Some (Data, bytes)) == word) (λ y. simp y) (λ y. simp y))))
       (λ x.
       simp x (ap (λ b. record { ok = t.ok && b; size = plus t.size bytes })
-      (ap (λ b. (record_of (Message Data bytes) == word) && b) (cases (nat_lt k e) (λ y. simp y) (λ y. simp y)) ∙ data-within))))
+      (ap (λ b. (record_of (Some (Data, bytes)) == word) && b) (cases (nat_lt k e) (λ y. simp y) (λ y. simp y)) ∙ data-within))))
 
 -- .. and one that is no longer than 1,024 bytes is well wherever it may stand
 module _ (word : ℕ) (is : DataRecord word) where
@@ -124,7 +123,7 @@ module _ (word : ℕ) (is : DataRecord word) where
   unfolding cell_ok is_record
   data-well k e ne =
       let whole : 7 + 256 * (word / 256 % 16777216) + 0 ≡ word = omega (arith, is.kind, is.long) in
-      join (ap (λ h. nat_eq (record_of h) word) (data-held word is.kind) ∙ eq-eqb (record_of (Message Data (word / 256 % 16777216))) word whole)
+      join (ap (λ h. nat_eq (record_of h) word) (data-held word is.kind) ∙ eq-eqb (record_of (Some (Data, (word / 256 % 16777216)))) word whole)
       (ap (λ h. cell_ok h k e) (data-held word is.kind) ∙ simp (ne_eqb k e ne) (cases (nat_lt k e) (λ t. simp t data-fits) (λ t. simp t data-fits)))
 
 -- a record that is well adds its length

@@ -1,12 +1,11 @@
 -- The receive table's changes. Document 01: "number n uses cell n mod 64"; "Then consecutive messages advance the next expected
 -- number; Data and SendFinish among them become ready." Document 02, [8]: "A number's cell is its remainder by the cell count". N is the cell
 -- count. Assumes nothing.
-use Rattle.std.specs.Prelude.{ℕ, ◌+◌, ◌%◌, Bool, cond, not, ◌&&◌, ◌||◌, List, replicate, ◌==◌, nat_lt, slice_index, slice_set}
+use Rattle.std.specs.Prelude.{ℕ, ◌+◌, ◌%◌, Bool, cond, not, ◌&&◌, ◌||◌, List, replicate, ◌==◌, nat_lt, slice_index, slice_set, Some}
 use Rattle.seq.specs.declared.Seq.{Seq}
 use Rattle.seq.specs.Numbers.{seq_of, plus}
 use Rattle.seq.specs.Distance.{before, past}
 use Rattle.msg.specs.declared.reliable.ReliableMsg.{ReliableMsg}
-use Rattle.engine.specs.declared.state.Held.TheVariants.{Message}
 use Rattle.engine.specs.declared.state.Receiving.{Receiving}
 use Rattle.engine.specs.Records.{is_full, held_of, record_of, kept_record}
 use Rattle.engine.specs.Received.{RxTable, held_at, is_used, cell_of}
@@ -67,7 +66,7 @@ unfoldable pub put_in : ℕ → RxTable → ReliableMsg → ℕ → ℕ → RxTa
 unfolding end_after opened_records
 put_in N t msg n len = record {
   rx = with_bytes (with_end t.rx (end_after t.rx n)) (t.rx.rxed_reliable_size + len) t.rx.rxed_reliable_consumed;
-  records = slice_set (opened_records N t n) (n % N) (record_of (Message msg len));
+  records = slice_set (opened_records N t n) (n % N) (record_of (Some (msg, len)));
 }
 
 abbrev pub stored_in : ℕ → RxTable → ReliableMsg → ℕ → ℕ → RxTable

@@ -2,29 +2,23 @@
 -- time or else send time, plus round trip times the round-trip factor, .. clamped to a minimum and a maximum. .. No Sent packet: none
 -- is named. Nothing in the state changes. .. Refusals: 21 for bad factors or bounds, a bound above 2^56 among them (not 3)." How long is
 -- waited is the link's (duration_of). Assumes nothing.
-use Rattle.std.specs.Prelude.{◌≡◌, ℕ, zero, suc, ◌+◌, ◌-◌, ◌%◌, ◌<◌, ◌≤◌, Bool, true, false, cond, List, [], ◌∷◌, length, slice_index_or, refl}
+use Rattle.std.specs.Prelude.{◌≡◌, ℕ, zero, suc, ◌+◌, ◌-◌, ◌%◌, ◌<◌, ◌≤◌, Bool, true, false, cond, List, [], ◌∷◌, length, slice_index_or, refl, Some, None, Option, Ok, Err, Result}
+use Rattle.engine.specs.Held.{ConfirmTimeout}
+use Rattle.refusal.specs.declared.Refusal.{Refusal}
 use Rattle.std.proofs.Math.Path.{ap}
 use Rattle.std.proofs.Common.{◌∙◌, arith}
 use borrow.Table.Steps.{cases}
 use Rattle.refusal.specs.Answers.{Told, success, refused, flag}
-use Rattle.refusal.specs.declared.verdict.Verdict.{Verdict}
-use Rattle.refusal.specs.declared.verdict.Verdict.TheVariants as verdicts
-use Rattle.refusal.specs.Verdicts.{gate, gate-pass}
+use Rattle.refusal.specs.Verdicts.{Verdict, gate, gate-pass}
 use Rattle.refusal.specs.Tests.{false-true}
 use Rattle.link.specs.declared.timeout.AckTimeout.{AckTimeout}
 use Rattle.link.specs.Sizes.{MAX_TIME}
 use Rattle.link.specs.Timeout.{timeout_within, duration_of}
-use Rattle.engine.specs.declared.state.Flushed.{Flushed}
-use Rattle.engine.specs.declared.state.Flushed.TheVariants.{Unflushed, FlushedAt}
 use Rattle.engine.specs.declared.state.InFlight.{InFlight}
 use Rattle.engine.specs.declared.state.SentReliableStatus.{SentReliableStatus}
 use Rattle.engine.specs.declared.state.SentReliableStatus.TheVariants.{Sent, Received, ResendQueued}
 use Rattle.engine.specs.declared.state.SentReliable.{SentReliable}
 use Rattle.engine.specs.declared.state.State.{State}
-use Rattle.engine.specs.declared.deadlines.FirstSent.{FirstSent}
-use Rattle.engine.specs.declared.deadlines.FirstSent.TheVariants.{Nothing, Is}
-use Rattle.engine.specs.declared.deadlines.ConfirmTimeout.{ConfirmTimeout}
-use Rattle.engine.specs.declared.deadlines.ConfirmTimeout.TheVariants as timeouts
 use Rattle.engine.specs.Ring.{window, window-step, window-none, window-length, next_cell}
 use Rattle.engine.specs.Packets.{no_packet, packets, first_of, is_sent}
 use Rattle.engine.specs.Sound.{Sound, SentBy}
@@ -33,25 +27,25 @@ use Rattle.engine.specs.Rows.{row_of}
 use Rattle.engine.specs.Sizes.{PACKETS}
 
 -- what is kept of a packet that is Sent
-abbrev pub in_flight : SentReliableStatus → FirstSent
-in_flight (Sent flight) = Is flight
-in_flight Received = Nothing
-in_flight (ResendQueued link) = Nothing
+abbrev pub in_flight : SentReliableStatus → Option InFlight
+in_flight (Sent flight) = Some flight
+in_flight Received = None
+in_flight (ResendQueued link) = None
 
 -- "the first packet in table order that is Sent"
-unfoldable pub first_sent : List SentReliable → FirstSent
-first_sent [] = Nothing
+unfoldable pub first_sent : List SentReliable → Option InFlight
+first_sent [] = None
 first_sent (p ∷ ps) = cond (is_sent p.status) (in_flight p.status) (first_sent ps)
 
 -- "whether it was flushed"
-abbrev pub was_flushed : Flushed → Bool
-was_flushed Unflushed = false
-was_flushed (FlushedAt at) = true
+abbrev pub was_flushed : Option ℕ → Bool
+was_flushed None = false
+was_flushed (Some at) = true
 
 -- "flush time or else send time"
-abbrev pub flushed_or : Flushed → ℕ → ℕ
-flushed_or Unflushed sent = sent
-flushed_or (FlushedAt at) sent = at
+abbrev pub flushed_or : Option ℕ → ℕ → ℕ
+flushed_or None sent = sent
+flushed_or (Some at) sent = at
 
 abbrev pub definitely_sent : InFlight → ℕ
 definitely_sent flight = flushed_or flight.flushed flight.sent
@@ -61,28 +55,28 @@ unfoldable pub deadline_of : State → InFlight → AckTimeout → Bool → ℕ
 deadline_of s flight timeout unreliable = definitely_sent flight + duration_of timeout (row_of s flight.slot).roundtrip flight.resent unreliable
 
 -- "its slot, whether it was flushed, and the deadline"; "No Sent packet: none is named."
-abbrev pub named_by : FirstSent → State → AckTimeout → Bool → ConfirmTimeout
-named_by (Is flight) s timeout unreliable = timeouts.Packet flight.slot (was_flushed flight.flushed) (deadline_of s flight timeout unreliable)
-named_by Nothing s timeout unreliable = timeouts.Nothing
+abbrev pub named_by : Option InFlight → State → AckTimeout → Bool → ConfirmTimeout
+named_by (Some flight) s timeout unreliable = Ok (Some (flight.slot, (was_flushed flight.flushed), (deadline_of s flight timeout unreliable)))
+named_by None s timeout unreliable = Ok None
 
 -- the same as values
-abbrev pub named_values : FirstSent → State → AckTimeout → Bool → List ℕ
-named_values (Is flight) s timeout unreliable = flight.slot ∷ flag (was_flushed flight.flushed) ∷ deadline_of s flight timeout unreliable ∷ []
-named_values Nothing s timeout unreliable = []
+abbrev pub named_values : Option InFlight → State → AckTimeout → Bool → List ℕ
+named_values (Some flight) s timeout unreliable = flight.slot ∷ flag (was_flushed flight.flushed) ∷ deadline_of s flight timeout unreliable ∷ []
+named_values None s timeout unreliable = []
 
 -- "21 for bad factors or bounds, a bound above 2^56 among them (not 3)": judged before a packet is looked for
 unfoldable pub confirm_timeout_verdict : State → AckTimeout → Verdict
-confirm_timeout_verdict s timeout = gate (soundb s) 1 (gate (timeout_within timeout) 21 verdicts.Pass)
+confirm_timeout_verdict s timeout = gate (soundb s) 1 (gate (timeout_within timeout) 21 (Ok tt))
 
 -- its slot, flushed or not, and the deadline; nothing where none is named
 abbrev pub confirm_timeout_told : ConfirmTimeout → Told
-confirm_timeout_told (timeouts.Packet slot flushed deadline) = success (slot ∷ flag flushed ∷ deadline ∷ [])
-confirm_timeout_told timeouts.Nothing = success []
-confirm_timeout_told (timeouts.No e) = refused e
+confirm_timeout_told (Ok (Some (slot, flushed, deadline))) = success (slot ∷ flag flushed ∷ deadline ∷ [])
+confirm_timeout_told (Ok None) = success []
+confirm_timeout_told (Err e) = refused e
 
 abbrev pub confirm_timeout_by : Verdict → ConfirmTimeout → ConfirmTimeout
-confirm_timeout_by verdicts.Pass answer = answer
-confirm_timeout_by (verdicts.No e) answer = timeouts.No e
+confirm_timeout_by (Ok tt) answer = answer
+confirm_timeout_by (Err e) answer = Err e
 
 unfoldable pub earliest_confirm_timeout_of : State → AckTimeout → Bool → ConfirmTimeout
 unfolding confirm_timeout_verdict first_sent deadline_of
@@ -91,10 +85,10 @@ earliest_confirm_timeout_of s timeout unreliable =
 
 -- ---- laws
 
-pub named-told : (first : FirstSent) (s : State) (timeout : AckTimeout) (unreliable : Bool)
+pub named-told : (first : Option InFlight) (s : State) (timeout : AckTimeout) (unreliable : Bool)
     → confirm_timeout_told (named_by first s timeout unreliable) ≡ success (named_values first s timeout unreliable)
-named-told (Is flight) s timeout unreliable = refl
-named-told Nothing s timeout unreliable = refl
+named-told (Some flight) s timeout unreliable = refl
+named-told None s timeout unreliable = refl
 
 module _ (cells : List SentReliable) (at left : ℕ) where
   pub first-here : 0 < left → is_sent (slice_index_or cells at no_packet).status ≡ true → first_sent (window PACKETS no_packet cells at left) ≡ in_flight (slice_index_or cells at no_packet).status
@@ -106,7 +100,7 @@ module _ (cells : List SentReliable) (at left : ℕ) where
   unfolding first_sent
   first_on h r = ap first_sent (window-step PACKETS no_packet cells at left h) ∙ simp r
 
-  pub first-end : left ≤ 0 → first_sent (window PACKETS no_packet cells at left) ≡ Nothing
+  pub first-end : left ≤ 0 → first_sent (window PACKETS no_packet cells at left) ≡ None
   unfolding first_sent
   first-end h = ap first_sent (window-none PACKETS no_packet cells at left h)
 
@@ -116,13 +110,13 @@ pub record Oldest (ps : List SentReliable) (i : ℕ) (flight : InFlight) : Type 
   pub here : (slice_index_or ps i no_packet).status ≡ Sent flight
   pub before : (k : ℕ) → k < i → is_sent (slice_index_or ps k no_packet).status ≡ false
 
-sent-flight : (st : SentReliableStatus) (flight : InFlight) → is_sent st ≡ true → in_flight st ≡ Is flight → st ≡ Sent flight
+sent-flight : (st : SentReliableStatus) (flight : InFlight) → is_sent st ≡ true → in_flight st ≡ Some flight → st ≡ Sent flight
 sent-flight (Sent f) flight t e = let same : f ≡ flight = cc in ap Sent same
 sent-flight Received flight t e = false-true t
 sent-flight (ResendQueued link) flight t e = false-true t
 
 -- what is found is the oldest ..
-pub found-oldest : (ps : List SentReliable) (flight : InFlight) → first_sent ps ≡ Is flight → (i : ℕ) × Oldest ps i flight
+pub found-oldest : (ps : List SentReliable) (flight : InFlight) → first_sent ps ≡ Some flight → (i : ℕ) × Oldest ps i flight
 unfolding first_sent
 found-oldest [] flight e = let z : ◌≡◌ {A = ℕ} 0 1 = cc in absurd (omega arith)
 found-oldest (p ∷ ps) flight e =
@@ -141,11 +135,11 @@ found-oldest (p ∷ ps) flight e =
 sent-within : (flight : InFlight) (time : ℕ) → SentBy time (Sent flight) → definitely_sent flight ≤ time
 sent-within flight time h = by flight.flushed refl
   where
-    by : (f : Flushed) → flight.flushed ≡ f → flushed_or f flight.sent ≤ time
-    by Unflushed e = h.0
-    by (FlushedAt at) e = rw e at h.1
+    by : (f : Option ℕ) → flight.flushed ≡ f → flushed_or f flight.sent ≤ time
+    by None e = h.0
+    by (Some at) e = rw e at h.1
 
-pub first-within : (s : State) (flight : InFlight) → Sound s → first_sent (packets s.tx) ≡ Is flight → definitely_sent flight ≤ MAX_TIME
+pub first-within : (s : State) (flight : InFlight) → Sound s → first_sent (packets s.tx) ≡ Some flight → definitely_sent flight ≤ MAX_TIME
 first-within s flight fine e =
     let f = found-oldest (packets s.tx) flight e in
     let few : f.0 < s.tx.txed_count = omega (arith, f.1.inside, window-length PACKETS no_packet s.tx.txed_packets (first_of s.tx % PACKETS) s.tx.txed_count) in
@@ -157,7 +151,7 @@ pub record TimeoutPassed (s : State) (timeout : AckTimeout) : Type 0 where
   pub fine : Sound s
   pub within : timeout_within timeout ≡ true
 
-pub timeout-passed : (s : State) (timeout : AckTimeout) → confirm_timeout_verdict s timeout ≡ verdicts.Pass → TimeoutPassed s timeout
+pub timeout-passed : (s : State) (timeout : AckTimeout) → confirm_timeout_verdict s timeout ≡ Ok tt → TimeoutPassed s timeout
 unfolding confirm_timeout_verdict
 timeout-passed s timeout e =
     let e1 = gate-pass (soundb s) _ _ e in

@@ -1,18 +1,15 @@
 -- Whether a state is sound: `soundb` is true just of the states that Sound describes, since it decides that very record, clause by
 -- clause; and `recordsb` of what SoundRecords describes. Refusal 1 asks the first, and where records are used both. Assumes nothing.
-use Rattle.std.specs.Prelude.{◌≡◌, ℕ, zero, suc, ◌*◌, ◌<◌, ◌≤◌, Bool, true, false, not, ◌&&◌, List, [], ◌∷◌, length, ◌==◌, ◌≢◌, nat_le, nat_lt, slice_index, refl}
+use Rattle.std.specs.Prelude.{◌≡◌, ℕ, zero, suc, ◌*◌, ◌<◌, ◌≤◌, Bool, true, false, not, ◌&&◌, List, [], ◌∷◌, length, ◌==◌, ◌≢◌, nat_le, nat_lt, slice_index, refl, Some, None, Option}
+use Rattle.engine.specs.Held.{Held}
 use Rattle.std.proofs.Common.{ap, ap₂, not-suc-le-zero, arith, ltb-true, leb-true, eqb-true, lt-ltb, le-leb, eq-eqb}
 use Rattle.std.proofs.lemmas.Bool.{not-true}
 use borrow.Table.Steps.{cases}
 use Rattle.seq.specs.declared.Seq.{Seq}
 use Rattle.seq.specs.Numbers.{seq_of, plus}
 use Rattle.link.specs.Sizes.{max_ping_within, ping_within, MAX_TIME, ACKS}
-use Rattle.engine.specs.declared.state.Flushed.{Flushed}
-use Rattle.engine.specs.declared.state.Flushed.TheVariants.{Unflushed, FlushedAt}
 use Rattle.engine.specs.declared.state.SentReliableStatus.{SentReliableStatus}
 use Rattle.engine.specs.declared.state.SentReliableStatus.TheVariants.{Sent, Received, ResendQueued}
-use Rattle.engine.specs.declared.state.Held.{Held}
-use Rattle.engine.specs.declared.state.Held.TheVariants.{Nothing, Message}
 use Rattle.engine.specs.declared.state.State.{State}
 use Rattle.engine.specs.Packets.{first_of, packets, queue, is_received, queued_of, SentOn, Outstanding, Settled, sum_of}
 use Rattle.engine.specs.Records.{is_full, is_ready_kind, is_record}
@@ -92,9 +89,9 @@ seqs? [] (y ∷ ys) = no (λ e. let z : 0 ≡ suc (length ys) = ap length e in o
 seqs? (x ∷ xs) [] = no (λ e. let z : suc (length xs) ≡ 0 = ap length e in omega arith)
 seqs? (x ∷ xs) (y ∷ ys) = same (both (seq? x y) (seqs? xs ys)) (λ p. ap₂ (λ (a : Seq) (l : List Seq). a ∷ l) p.0 p.1) (λ e. (cc, cc))
 
-unfoldable nothing? : (h : Held) → Dec (h ≡ Nothing)
-nothing? Nothing = yes refl
-nothing? (Message msg len) = no (λ e. false-true (ap (λ h. not (is_full h)) e))
+unfoldable nothing? : (h : Held) → Dec (h ≡ None)
+nothing? None = yes refl
+nothing? (Some (msg, len)) = no (λ e. false-true (ap (λ h. not (is_full h)) e))
 
 unfoldable here? : (s : State) (st : SentReliableStatus) → Dec (SentHere s st)
 unfolding same both lt? true? eq?
@@ -104,10 +101,10 @@ here? s (Sent flight) =
 here? s Received = yes tt
 here? s (ResendQueued link) = yes tt
 
-unfoldable flushed? : (time : ℕ) (f : Flushed) → Dec (FlushedBy time f)
+unfoldable flushed? : (time : ℕ) (f : Option ℕ) → Dec (FlushedBy time f)
 unfolding le?
-flushed? time Unflushed = yes tt
-flushed? time (FlushedAt at) = le? at time
+flushed? time None = yes tt
+flushed? time (Some at) = le? at time
 
 unfoldable by? : (time : ℕ) (st : SentReliableStatus) → Dec (SentBy time st)
 unfolding both le? flushed?
@@ -117,13 +114,13 @@ by? time (ResendQueued link) = yes tt
 
 unfoldable ready? : (h : Held) → Dec (ReadyKind h)
 unfolding true?
-ready? Nothing = yes tt
-ready? (Message msg len) = true? (is_ready_kind msg)
+ready? None = yes tt
+ready? (Some (msg, len)) = true? (is_ready_kind msg)
 
 unfoldable within? : (h : Held) → Dec (LengthWithin h)
 unfolding true?
-within? Nothing = yes tt
-within? (Message msg len) = true? (length_ok msg len)
+within? None = yes tt
+within? (Some (msg, len)) = true? (length_ok msg len)
 
 -- ---- Sound
 

@@ -1,5 +1,5 @@
 -- What the pass over the packet table finds, in the words of Sound. Assumes nothing.
-use Rattle.std.specs.Prelude.{◌≡◌, ℕ, zero, suc, ◌+◌, ◌-◌, ◌*◌, ◌%◌, ◌^◌, ◌<◌, ◌≤◌, Bool, true, false, cond, ◌&&◌, List, [], ◌∷◌, length, get_or, take, drop, ◌==◌, nat_le, slice_index, slice_index_or, slice_set}
+use Rattle.std.specs.Prelude.{◌≡◌, ℕ, zero, suc, ◌+◌, ◌-◌, ◌*◌, ◌%◌, ◌^◌, ◌<◌, ◌≤◌, Bool, true, false, cond, ◌&&◌, List, [], ◌∷◌, length, get_or, take, drop, ◌==◌, nat_le, slice_index, slice_index_or, slice_set, Some, None, Option}
 use Rattle.std.proofs.Math.Path.{refl, ap}
 use Rattle.std.proofs.Common.{sym, ◌∙◌, arith, length-set, drop-cons, get_or-set_same, get_or-set_other}
 use Rattle.std.proofs.Math.Bool.{and-true, and_assoc}
@@ -8,8 +8,6 @@ use borrow.Table.Steps.{cases}
 use Rattle.seq.specs.declared.Seq.{Seq}
 use Rattle.seq.specs.Numbers.{seq_of, plus}
 use Rattle.seq.specs.Laws.{plus-lt, plus-plus}
-use Rattle.engine.specs.declared.state.Flushed.{Flushed}
-use Rattle.engine.specs.declared.state.Flushed.TheVariants.{Unflushed, FlushedAt}
 use Rattle.engine.specs.declared.state.SentReliableStatus.{SentReliableStatus}
 use Rattle.engine.specs.declared.state.SentReliableStatus.TheVariants.{Sent, Received, ResendQueued}
 use Rattle.engine.specs.declared.state.SentReliable.{SentReliable}
@@ -31,13 +29,13 @@ pub record Good (s : State) (p : SentReliable) (n : ℕ) : Type 0 where
   pub timed : SentBy s.time p.status
 
 -- what the test of a flush time says, and back
-flushed-by : (f : Flushed) (time : ℕ) → flushed_ok f time ≡ true → FlushedBy time f
-flushed-by Unflushed time e = tt
-flushed-by (FlushedAt at) time e = leb-true at time e
+flushed-by : (f : Option ℕ) (time : ℕ) → flushed_ok f time ≡ true → FlushedBy time f
+flushed-by None time e = tt
+flushed-by (Some at) time e = leb-true at time e
 
-by-flushed : (f : Flushed) (time : ℕ) → FlushedBy time f → flushed_ok f time ≡ true
-by-flushed Unflushed time h = refl
-by-flushed (FlushedAt at) time h = le-leb at time h
+by-flushed : (f : Option ℕ) (time : ℕ) → FlushedBy time f → flushed_ok f time ≡ true
+by-flushed None time h = refl
+by-flushed (Some at) time h = le-leb at time h
 
 -- what the test of a status says: its slot, its times ..
 module _ (s : State) where

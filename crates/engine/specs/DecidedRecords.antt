@@ -1,5 +1,6 @@
 -- The pass over the records in use finds just what SoundRecords says: `found-records-same`. Assumes nothing.
-use Rattle.std.specs.Prelude.{◌≡◌, ℕ, zero, suc, ◌+◌, ◌-◌, ◌*◌, ◌%◌, ◌^◌, ◌<◌, ◌≤◌, Bool, true, false, ◌&&◌, List, [], ◌∷◌, map, length, ◌==◌, ◌≢◌, nat_eq, nat_lt, slice_index, slice_index_or, refl}
+use Rattle.std.specs.Prelude.{◌≡◌, ℕ, zero, suc, ◌+◌, ◌-◌, ◌*◌, ◌%◌, ◌^◌, ◌<◌, ◌≤◌, Bool, true, false, ◌&&◌, List, [], ◌∷◌, map, length, ◌==◌, ◌≢◌, nat_eq, nat_lt, slice_index, slice_index_or, refl, Some, None}
+use Rattle.engine.specs.Held.{Held}
 use Rattle.std.proofs.Math.Path.{sym, ap}
 use Rattle.std.proofs.Common.{◌∙◌}
 use Rattle.std.proofs.Math.Bool.{and-true, and_assoc}
@@ -12,8 +13,6 @@ use Rattle.seq.specs.Numbers.{plus, minus}
 use Rattle.seq.specs.Laws.{plus-lt, plus-plus, plus-difference}
 use Rattle.seq.specs.Distance.{past, past_near}
 use Rattle.msg.specs.declared.reliable.ReliableMsg.{ReliableMsg}
-use Rattle.engine.specs.declared.state.Held.{Held}
-use Rattle.engine.specs.declared.state.Held.TheVariants.{Nothing, Message}
 use Rattle.engine.specs.Records.{is_full, is_ready_kind, held_bytes, held_of, is_record}
 use Rattle.engine.specs.Received.{RxTable, record_view, cell_view, expected_at, in_use, held_at, bytes_in, held-map, view-held, view-none}
 use Rattle.engine.specs.CellCount.{CellCount}
@@ -66,11 +65,11 @@ records-all (w ∷ ws) k e f =
 
 -- a cell with a fitting length holds few bytes
 held-le : (h : Held) → LengthWithin h → held_bytes h ≤ DATA_BYTES
-held-le Nothing w = omega arith
-held-le (Message msg len) w = length-le msg len w
+held-le None w = omega arith
+held-le (Some (msg, len)) w = length-le msg len w
 
 -- .. and so do many
-pub bytes_le : (hs : List Held) → ((i : ℕ) → i < length hs → LengthWithin (slice_index_or hs i Nothing)) → bytes_in hs ≤ DATA_BYTES * length hs
+pub bytes_le : (hs : List Held) → ((i : ℕ) → i < length hs → LengthWithin (slice_index_or hs i None)) → bytes_in hs ≤ DATA_BYTES * length hs
 unfolding bytes_in
 bytes_le [] f = omega arith
 bytes_le (h ∷ hs) f = omega (arith, held-le h (f 0 (omega arith)), bytes_le hs (λ i l. f (suc i) (omega arith)))
@@ -78,46 +77,46 @@ bytes_le (h ∷ hs) f = omega (arith, held-le h (f 0 (omega arith)), bytes_le hs
 -- what the test of a cell says, where k is its place and e the next expected: its length fits ..
 cell-length : (h : Held) (k e : ℕ) → cell_ok h k e ≡ true → LengthWithin h
 unfolding cell_ok
-cell-length Nothing k e ok = tt
-cell-length (Message msg len) k e ok =
+cell-length None k e ok = tt
+cell-length (Some (msg, len)) k e ok =
     cases (k == e) (λ t. false-true (simp t at ok))
     (λ t. cases (nat_lt k e) (λ u. (split (is_ready_kind msg) (length_ok msg len) (simp (t, u) at ok)).1) (λ u. simp (t, u) at ok))
 
 -- .. what stands before the next expected is ready ..
 cell-ready : (h : Held) (k e : ℕ) → k < e → cell_ok h k e ≡ true → ReadyKind h
 unfolding cell_ok
-cell-ready Nothing k e l ok = tt
-cell-ready (Message msg len) k e l ok =
+cell-ready None k e l ok = tt
+cell-ready (Some (msg, len)) k e l ok =
     (split (is_ready_kind msg) (length_ok msg len) (simp (ne_eqb k e (λ q. omega arith), lt-ltb k e l) at ok)).0
 
 -- .. the oldest is there, if it is before the next expected ..
 cell-oldest : (h : Held) (e : ℕ) → 0 < e → cell_ok h 0 e ≡ true → is_full h ≡ true
 unfolding cell_ok
-cell-oldest Nothing e l ok = absurd (omega (arith, eqb-true e 0 ok))
-cell-oldest (Message msg len) e l ok = refl
+cell-oldest None e l ok = absurd (omega (arith, eqb-true e 0 ok))
+cell-oldest (Some (msg, len)) e l ok = refl
 
 -- .. and nothing stands at the next expected
-cell-expected : (h : Held) (e : ℕ) → cell_ok h e e ≡ true → h ≡ Nothing
+cell-expected : (h : Held) (e : ℕ) → cell_ok h e e ≡ true → h ≡ None
 unfolding cell_ok
-cell-expected Nothing e ok = refl
-cell-expected (Message msg len) e ok = false-true (simp (eq-eqb e e refl) at ok)
+cell-expected None e ok = refl
+cell-expected (Some (msg, len)) e ok = false-true (simp (eq-eqb e e refl) at ok)
 
 -- a message is not nothing
-full-nothing : (msg : ReliableMsg) (len : ℕ) → Message msg len ≢ Nothing
+full-nothing : (msg : ReliableMsg) (len : ℕ) → ◌≢◌ {A = Held} (Some (msg, len)) None
 full-nothing msg len e = false-true (sym (ap is_full e))
 
 -- the test of a cell holds by these four
-cell-decided : (h : Held) (k e : ℕ) → LengthWithin h → (k < e → ReadyKind h) → (k ≡ 0 → 0 < e → is_full h ≡ true) → (k ≡ e → h ≡ Nothing)
+cell-decided : (h : Held) (k e : ℕ) → LengthWithin h → (k < e → ReadyKind h) → (k ≡ 0 → 0 < e → is_full h ≡ true) → (k ≡ e → h ≡ None)
     → cell_ok h k e ≡ true
 unfolding cell_ok
-cell-decided Nothing k e w r o x =
+cell-decided None k e w r o x =
     cases (k == 0)
     (λ t. elim (ℕ_discrete e 0) [
       | yes q ↦ simp (t, eq-eqb e 0 q)
       | no ne ↦ false-true (o (eqb-true k 0 t) (omega arith))
     ])
     (λ t. simp t)
-cell-decided (Message msg len) k e w r o x =
+cell-decided (Some (msg, len)) k e w r o x =
     cases (k == e) (λ t. absurd (full-nothing msg len (x (eqb-true k e t))))
     (λ t. cases (nat_lt k e) (λ u. simp (t, u) (join (r (ltb-true k e u)) w)) (λ u. simp (t, u) w))
 

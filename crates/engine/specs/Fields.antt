@@ -1,6 +1,6 @@
 -- The state, its halves and a packet with some of their fields changed: antt has no update of a record, and so a new field is
 -- written here and where it starts (Starting), and nowhere else. Assumes nothing.
-use Rattle.std.specs.Prelude.{ℕ, Bool, List, slice_set}
+use Rattle.std.specs.Prelude.{ℕ, Bool, List, slice_set, Some, None, Option}
 use Rattle.seq.specs.declared.Seq.{Seq}
 use Rattle.link.specs.declared.row.LinkRow.{LinkRow}
 use Rattle.msg.specs.declared.reliable.ReliableMsg.{ReliableMsg}
@@ -10,20 +10,18 @@ use Rattle.engine.specs.declared.state.Sending.{Sending}
 use Rattle.engine.specs.declared.state.Receiving.{Receiving}
 use Rattle.engine.specs.declared.state.State.{State}
 use Rattle.engine.specs.declared.state.InFlight.{InFlight}
-use Rattle.engine.specs.declared.state.Flushed.{Flushed}
-use Rattle.engine.specs.declared.state.Flushed.TheVariants.{Unflushed, FlushedAt}
 
 -- ---- a packet
 
 abbrev pub new_flight : (time slot link : ℕ) (resent : Bool) → InFlight
-new_flight t s l again = record { sent = t; flushed = Unflushed; slot = s; link = l; resent = again }
+new_flight t s l again = record { sent = t; flushed = None; slot = s; link = l; resent = again }
 
 -- a flush time that is there stays
-abbrev pub flush_time : Flushed → ℕ → Flushed
-flush_time Unflushed time = FlushedAt time
-flush_time (FlushedAt at) time = FlushedAt at
+abbrev pub flush_time : Option ℕ → ℕ → Option ℕ
+flush_time None time = Some time
+flush_time (Some at) time = Some at
 
-abbrev pub with_flushed : InFlight → Flushed → InFlight
+abbrev pub with_flushed : InFlight → Option ℕ → InFlight
 with_flushed flight f = record { sent = flight.sent; flushed = f; slot = flight.slot; link = flight.link; resent = flight.resent }
 
 abbrev pub flushed_flight : InFlight → ℕ → InFlight

@@ -1,6 +1,5 @@
 -- Document 01, "Flush. Every Sent packet of the link without a flush time gets the present one." Assumes nothing.
-use Rattle.std.specs.Prelude.{ℕ, cond, map, ◌==◌}
-use Rattle.refusal.specs.declared.verdict.Verdict.TheVariants.{Pass}
+use Rattle.std.specs.Prelude.{ℕ, cond, map, ◌==◌, Ok}
 use Rattle.engine.specs.declared.state.SentReliableStatus.{SentReliableStatus}
 use Rattle.engine.specs.declared.state.SentReliableStatus.TheVariants.{Sent, Received, ResendQueued}
 use Rattle.engine.specs.declared.state.SentReliable.{SentReliable}
@@ -26,4 +25,4 @@ flushed_state s slot time = with_time (with_tx s (with_table s.tx (map (flushed_
 
 unfoldable pub flush_of : State → ℕ → ℕ → Changed
 unfolding flushed_state
-flush_of s slot time = changed_by (timed_verdict s slot time Pass) s (flushed_state s slot time)
+flush_of s slot time = changed_by (timed_verdict s slot time (Ok tt)) s (flushed_state s slot time)

@@ -1,12 +1,10 @@
 -- Document 01, "Refusal numbers": "A number applies only in these calls: 1, those given a state; .. 3, those given a time ..; 4,
 -- those given a slot". Assumes nothing.
-use Rattle.std.specs.Prelude.{◌≡◌, ℕ, ◌<◌, ◌≤◌, true, nat_le, nat_lt}
+use Rattle.std.specs.Prelude.{◌≡◌, ℕ, ◌<◌, ◌≤◌, true, nat_le, nat_lt, Ok}
 use borrow.Author.Tests.{leb-true, ltb-true}
 use Rattle.refusal.specs.Tests.{split}
 use Rattle.link.specs.Sizes.{MAX_TIME}
-use Rattle.refusal.specs.declared.verdict.Verdict.{Verdict}
-use Rattle.refusal.specs.declared.verdict.Verdict.TheVariants.{Pass}
-use Rattle.refusal.specs.Verdicts.{gate, gate-pass}
+use Rattle.refusal.specs.Verdicts.{Verdict, gate, gate-pass}
 use Rattle.engine.specs.declared.state.State.{State}
 use Rattle.engine.specs.Decide.{soundb, sound}
 use Rattle.engine.specs.Sound.{Sound, row_at}
@@ -15,11 +13,11 @@ use Rattle.engine.specs.Sizes.{SLOTS}
 
 -- a call given a state alone
 abbrev pub state_verdict : State → Verdict
-state_verdict s = gate (soundb s) 1 Pass
+state_verdict s = gate (soundb s) 1 (Ok tt)
 
 -- a call given a state and a slot
 unfoldable pub slot_verdict : State → ℕ → Verdict
-slot_verdict s slot = gate (soundb s) 1 (gate (slot_ok s slot) 4 Pass)
+slot_verdict s slot = gate (soundb s) 1 (gate (slot_ok s slot) 4 (Ok tt))
 
 -- a call given a state, a slot and a time, with what its own gates say
 unfoldable pub timed_verdict : State → ℕ → ℕ → Verdict → Verdict
@@ -49,14 +47,14 @@ module _ (s : State) (slot : ℕ) where
       let b = split (nat_le s.time time) (nat_le time MAX_TIME) e in
       record { at = slot-ok t here; later = leb-true s.time time b.0; top = leb-true time MAX_TIME b.1 }
 
-  pub slot-passed : slot_verdict s slot ≡ Pass → AtSlot s slot
+  pub slot-passed : slot_verdict s slot ≡ Ok tt → AtSlot s slot
   unfolding slot_verdict
   slot-passed e =
       let e1 = gate-pass (soundb s) _ _ e in
       let e4 = gate-pass (slot_ok s slot) _ _ e1.1 in
       slot-ok e1.0 e4.0
 
-  pub timed-passed : (time : ℕ) (rest : Verdict) → timed_verdict s slot time rest ≡ Pass → AtTime s slot time × (rest ≡ Pass)
+  pub timed-passed : (time : ℕ) (rest : Verdict) → timed_verdict s slot time rest ≡ Ok tt → AtTime s slot time × (rest ≡ Ok tt)
   unfolding timed_verdict
   timed-passed time rest e =
       let e1 = gate-pass (soundb s) _ _ e in

@@ -1,3 +1,4 @@
+pub mod Held
 pub mod Sizes
 pub mod CellCount
 pub mod Fields

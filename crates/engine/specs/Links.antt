@@ -1,6 +1,7 @@
 -- Document 01, "Links. Adding uses the lowest empty slot. .. Confirming, blocking, noting a ping and setting the limit mark to any
 -- number are plain changes of a row (P)", and "Pong". Assumes nothing.
-use Rattle.std.specs.Prelude.{◌≡◌, ℕ, zero, suc, ◌+◌, ◌-◌, ◌<◌, ◌≤◌, Bool, true, false, cond, not, ◌&&◌, ◌||◌, List, [], ◌∷◌, length, drop, ◌==◌, ◌≢◌, nat_le, nat_lt, slice_index_or}
+use Rattle.std.specs.Prelude.{◌≡◌, ℕ, zero, suc, ◌+◌, ◌-◌, ◌<◌, ◌≤◌, Bool, true, false, cond, not, ◌&&◌, ◌||◌, List, [], ◌∷◌, length, drop, ◌==◌, ◌≢◌, nat_le, nat_lt, slice_index_or, Some, Option, Ok, Err, Result}
+use Rattle.refusal.specs.declared.Refusal.{Refusal}
 use Rattle.std.proofs.Common.{sym, ◌∙◌, add-one, arith, drop_of_length-le, eq-eqb, leb-true, ltb-true}
 use Rattle.std.proofs.Math.Path.{ap, ap₂}
 use Rattle.std.proofs.Math.Seq.{drop-cons}
@@ -8,10 +9,7 @@ use Rattle.std.proofs.lemmas.Bool.{not-true}
 use borrow.Table.Steps.{cases}
 use Rattle.refusal.specs.Answers.{Told, success, refused}
 use Rattle.refusal.specs.Tests.{false-true, split}
-use Rattle.refusal.specs.declared.verdict.Verdict.{Verdict}
-use Rattle.refusal.specs.declared.verdict.Verdict.TheVariants as verdicts
-use Rattle.refusal.specs.Verdicts.{gate, gate-pass}
-use Rattle.link.specs.declared.row.MaxPing.{MaxPing}
+use Rattle.refusal.specs.Verdicts.{Verdict, gate, gate-pass}
 use Rattle.link.specs.Row.{no_row, fresh_row, confirmed, blocked_row}
 use Rattle.link.specs.Sizes.{max_ping_within, MAX_TIME}
 use Rattle.engine.specs.declared.state.State.{State}
@@ -19,11 +17,8 @@ use Rattle.link.specs.declared.row.LinkRow.{LinkRow}
 use Rattle.engine.specs.Decide.{soundb, sound}
 use Rattle.engine.specs.Sound.{Sound}
 use Rattle.engine.specs.Rows.{row_of}
-use Rattle.engine.specs.declared.links.AddAnswer.{AddAnswer}
-use Rattle.engine.specs.declared.links.AddAnswer.TheVariants.{Slot, No}
 use Rattle.engine.specs.declared.links.Added.{Added}
 use Rattle.seq.specs.declared.Seq.{Seq}
-use Rattle.link.specs.declared.row.Limit.TheVariants.{At}
 use Rattle.link.specs.Limit.{marked_row}
 use Rattle.link.specs.Roundtrip.{pinged, ponged}
 use Rattle.engine.specs.declared.answer.Changed.{Changed}
@@ -49,24 +44,24 @@ is_taken (row ∷ rows) id = (row.live && row.link_id == id) || is_taken rows id
 
 -- "1", "3, .. adding among them" (a round trip or `max_ping` above 2^56; a link is added at no time of its own), "no empty link
 -- slot" (5), "the identity belongs to a live link" (6)
-unfoldable pub add_verdict : State → ℕ → ℕ → MaxPing → Verdict
+unfoldable pub add_verdict : State → ℕ → ℕ → Option ℕ → Verdict
 add_verdict s id roundtrip max =
     gate (soundb s) 1
     (gate (nat_le roundtrip MAX_TIME && max_ping_within max) 3
     (gate (nat_lt (lowest_in s) SLOTS) 5
     (gate (not (is_taken s.links id)) 6
-    verdicts.Pass)))
+    (Ok tt))))
 
 -- the answer is the slot
-abbrev pub add_told : AddAnswer → Told
-add_told (Slot slot) = success (slot ∷ [])
-add_told (No e) = refused e
+abbrev pub add_told : Result ℕ Refusal → Told
+add_told (Ok slot) = success (slot ∷ [])
+add_told (Err e) = refused e
 
 abbrev pub added_by : Verdict → ℕ → State → State → Added
-added_by verdicts.Pass slot s next = record { answer = Slot slot; state = next }
-added_by (verdicts.No e) slot s next = record { answer = No e; state = s }
+added_by (Ok tt) slot s next = record { answer = Ok slot; state = next }
+added_by (Err e) slot s next = record { answer = Err e; state = s }
 
-unfoldable pub add_of : State → ℕ → ℕ → MaxPing → Bool → Bool → Added
+unfoldable pub add_of : State → ℕ → ℕ → Option ℕ → Bool → Bool → Added
 unfolding add_verdict
 add_of s id roundtrip max blocked unconfirmed =
     added_by (add_verdict s id roundtrip max) (lowest_in s) s
@@ -81,27 +76,27 @@ unfoldable pub block_of : State → ℕ → Bool → Changed
 block_of s slot blocked = changed_by (slot_verdict s slot) s (with_row s slot (blocked_row (row_of s slot) blocked))
 
 unfoldable pub mark_of : State → ℕ → Seq → Changed
-mark_of s slot seq = changed_by (slot_verdict s slot) s (with_row s slot (marked_row (row_of s slot) (At seq)))
+mark_of s slot seq = changed_by (slot_verdict s slot) s (with_row s slot (marked_row (row_of s slot) (Some seq)))
 
 -- the last accepted time moves in every accepted call that is given one
 unfoldable pub ping_of : State → ℕ → ℕ → Changed
-ping_of s slot time = changed_by (timed_verdict s slot time verdicts.Pass) s (with_time (with_row s slot (pinged (row_of s slot) time)) time)
+ping_of s slot time = changed_by (timed_verdict s slot time (Ok tt)) s (with_time (with_row s slot (pinged (row_of s slot) time)) time)
 
 -- "With none, it is accepted and only the last accepted time moves."
 unfoldable pub pong_of : State → ℕ → ℕ → Changed
-pong_of s slot time = changed_by (timed_verdict s slot time verdicts.Pass) s (with_time (with_row s slot (ponged (row_of s slot) time)) time)
+pong_of s slot time = changed_by (timed_verdict s slot time (Ok tt)) s (with_time (with_row s slot (ponged (row_of s slot) time)) time)
 
 -- ---- laws
 
 -- what an accepted link says
-pub record AddPassed (s : State) (id roundtrip : ℕ) (max : MaxPing) : Type 0 where
+pub record AddPassed (s : State) (id roundtrip : ℕ) (max : Option ℕ) : Type 0 where
   pub fine : Sound s
   pub trip : roundtrip ≤ MAX_TIME
   pub limit : max_ping_within max ≡ true
   pub small : lowest_in s < SLOTS
   pub nowhere : is_taken s.links id ≡ false
 
-pub add-passed : (s : State) (id roundtrip : ℕ) (max : MaxPing) → add_verdict s id roundtrip max ≡ verdicts.Pass → AddPassed s id roundtrip max
+pub add-passed : (s : State) (id roundtrip : ℕ) (max : Option ℕ) → add_verdict s id roundtrip max ≡ Ok tt → AddPassed s id roundtrip max
 unfolding add_verdict
 add-passed s id roundtrip max e =
     let e1 = gate-pass (soundb s) _ _ e in

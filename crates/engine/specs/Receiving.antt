@@ -1,16 +1,14 @@
 -- Document 01, "Receive. A number before the next expected, or already held, adds an ack and changes nothing else, even if its
 -- bytes differ. A new one adds an ack, is stored (data copied as in Send), and has its effect at once: Data adds to the untaken
 -- bytes, Consumed reduces `txed_unconsumed`, ReceiveClose raises a flag, ReceiveFinish ends sending." Assumes nothing.
-use Rattle.std.specs.Prelude.{◌≡◌, ℕ, ◌+◌, ◌-◌, ◌*◌, ◌^◌, ◌<◌, ◌≤◌, Bool, true, false, cond, ◌&&◌, ◌||◌, List, length, ◌==◌, nat_le, nat_lt, slice_set}
+use Rattle.std.specs.Prelude.{◌≡◌, ℕ, ◌+◌, ◌-◌, ◌*◌, ◌^◌, ◌<◌, ◌≤◌, Bool, true, false, cond, ◌&&◌, ◌||◌, List, length, ◌==◌, nat_le, nat_lt, slice_set, Ok}
 use Rattle.std.proofs.Common.{sym, ap, ap₂, ◌∙◌, arith, eqb-true, leb-true, ltb-true, ltb-false}
 use Rattle.seq.specs.Numbers.{seq_of, plus, USABLE_INTERVAL}
 use Rattle.seq.specs.Laws.{plus-difference}
 use Rattle.seq.specs.Distance.{near, past, past_near, past-counted}
 use Rattle.msg.specs.declared.reliable.ReliableMsg.{ReliableMsg}
 use Rattle.msg.specs.Reliable.{is_kind, count_of, MSG_RECEIVE_CLOSE, MSG_RECEIVE_FINISH}
-use Rattle.refusal.specs.declared.verdict.Verdict.{Verdict}
-use Rattle.refusal.specs.declared.verdict.Verdict.TheVariants.{Pass}
-use Rattle.refusal.specs.Verdicts.{gate, gate-pass}
+use Rattle.refusal.specs.Verdicts.{Verdict, gate, gate-pass}
 use Rattle.refusal.specs.Tests.{split}
 use Rattle.link.specs.Acks.{ack_queued}
 use Rattle.link.specs.Sizes.{ACKS}
@@ -51,7 +49,7 @@ message_verdict s records slot msg n len =
     (gate (nat_lt (row_of s slot).ack_count ACKS) 13
     (gate (again || fits s.rx.rxed_reliable_size len s.rx.recv_buffer) 14
     (gate (again || consumed_ok msg s.tx.txed_unconsumed) 15
-    Pass)))))))
+    (Ok tt))))))))
 
 -- not "a store or record space of the wrong length for the state's cell count" (2), where both are lent
 abbrev pub lengths_ok : Receiving → (store records : ℕ) → Bool
@@ -130,7 +128,7 @@ pub record ReceivePassed (s : State) (store : ℕ) (records : List ℕ) (slot : 
 new-test : (again b : Bool) → again ≡ false → (again || b) ≡ true → b ≡ true
 new-test again b n e = simp n at e
 
-pub receive-passed : (s : State) (store : ℕ) (records : List ℕ) (slot : ℕ) (msg : ReliableMsg) (n len : ℕ) → receive_verdict s store records slot msg n len ≡ Pass
+pub receive-passed : (s : State) (store : ℕ) (records : List ℕ) (slot : ℕ) (msg : ReliableMsg) (n len : ℕ) → receive_verdict s store records slot msg n len ≡ Ok tt
     → ReceivePassed s store records slot msg n len
 unfolding receive_verdict message_verdict sound_withb
 receive-passed s store records slot msg n len e =

@@ -1,6 +1,7 @@
 -- What a cell's record says. The records are words of the lent record space (document 02, [8]), one a cell. 0 is an empty cell; else a word is a
 -- message's kind, its length times 2^8 and its count times 2^32. Assumes nothing.
-use Rattle.std.specs.Prelude.{◌≡◌, ℕ, ◌+◌, ◌*◌, ◌/◌, ◌%◌, ◌^◌, ◌<◌, ◌≤◌, Bool, true, false, cond, ◌||◌, ◌==◌, refl}
+use Rattle.std.specs.Prelude.{◌≡◌, ℕ, ◌+◌, ◌*◌, ◌/◌, ◌%◌, ◌^◌, ◌<◌, ◌≤◌, Bool, true, false, cond, ◌||◌, ◌==◌, refl, Some, None}
+use Rattle.engine.specs.Held.{Held}
 use Rattle.std.proofs.Common.{sym, ap, ◌∙◌, arith, eq-eqb, eqb-true}
 use borrow.Table.Steps.{cases}
 use Rattle.refusal.specs.Tests.{false-true}
@@ -8,19 +9,17 @@ use Rattle.msg.specs.declared.reliable.ReliableMsg.{ReliableMsg}
 use Rattle.msg.specs.declared.reliable.ReliableMsg.TheVariants.{Data, Consumed, SendFinish, ReceiveClose, ReceiveFinish}
 use Rattle.msg.specs.Reliable.{is_kind, kind_of, count_of, MSG_DATA, MSG_CONSUMED, MSG_SEND_FINISH, MSG_RECEIVE_CLOSE, MSG_RECEIVE_FINISH}
 use Rattle.engine.specs.Sizes.{DATA_BYTES}
-use Rattle.engine.specs.declared.state.Held.{Held}
-use Rattle.engine.specs.declared.state.Held.TheVariants.{Nothing, Message}
 
 -- ---- what a cell holds
 
 abbrev pub is_full : Held → Bool
-is_full Nothing = false
-is_full (Message msg len) = true
+is_full None = false
+is_full (Some (msg, len)) = true
 
 -- the data bytes
 abbrev pub held_bytes : Held → ℕ
-held_bytes Nothing = 0
-held_bytes (Message msg len) = len
+held_bytes None = 0
+held_bytes (Some (msg, len)) = len
 
 -- "Data and SendFinish among them become ready"
 abbrev pub is_ready_kind : ReliableMsg → Bool
@@ -28,24 +27,24 @@ is_ready_kind msg = is_kind MSG_DATA msg || is_kind MSG_SEND_FINISH msg
 
 -- .. and any other leaves its cell
 abbrev pub kept_of : Held → Held
-kept_of Nothing = Nothing
-kept_of (Message msg len) = cond (is_ready_kind msg) (Message msg len) Nothing
+kept_of None = None
+kept_of (Some (msg, len)) = cond (is_ready_kind msg) (Some (msg, len)) None
 
 -- ---- its record
 
 abbrev pub record_of : Held → ℕ
-record_of Nothing = 0
-record_of (Message msg len) = kind_of msg + 256 * len + 4294967296 * count_of msg
+record_of None = 0
+record_of (Some (msg, len)) = kind_of msg + 256 * len + 4294967296 * count_of msg
 
 -- a kind that no cell holds says nothing
 unfoldable pub held_as : (kind len count : ℕ) → Held
 held_as kind len count =
-    cond (kind == MSG_DATA) (Message Data len)
-    (cond (kind == MSG_CONSUMED) (Message (Consumed count) len)
-    (cond (kind == MSG_SEND_FINISH) (Message SendFinish len)
-    (cond (kind == MSG_RECEIVE_CLOSE) (Message ReceiveClose len)
-    (cond (kind == MSG_RECEIVE_FINISH) (Message ReceiveFinish len)
-    Nothing))))
+    cond (kind == MSG_DATA) (Some (Data, len))
+    (cond (kind == MSG_CONSUMED) (Some ((Consumed count), len))
+    (cond (kind == MSG_SEND_FINISH) (Some (SendFinish, len))
+    (cond (kind == MSG_RECEIVE_CLOSE) (Some (ReceiveClose, len))
+    (cond (kind == MSG_RECEIVE_FINISH) (Some (ReceiveFinish, len))
+    None))))
 
 unfoldable pub held_of : ℕ → Held
 unfolding held_as
@@ -70,15 +69,15 @@ kept_record word = cond (is_full (kept_of (held_of word))) word 0
 
 -- a length has 24 bits of a record
 abbrev pub RecordFits : Held → Type 0
-RecordFits Nothing = Unit
-RecordFits (Message msg len) = len < 2 ^ 24
+RecordFits None = Unit
+RecordFits (Some (msg, len)) = len < 2 ^ 24
 
-pub held_none : held_of 0 ≡ Nothing
+pub held_none : held_of 0 ≡ None
 unfolding held_of held_as
 held_none = refl
 
 -- what is written is read
-held-as : (msg : ReliableMsg) (len : ℕ) → held_as (kind_of msg) len (count_of msg) ≡ Message msg len
+held-as : (msg : ReliableMsg) (len : ℕ) → held_as (kind_of msg) len (count_of msg) ≡ Some (msg, len)
 unfolding held_as
 held-as Data len = refl
 held-as (Consumed n) len = refl
@@ -101,23 +100,23 @@ parts k len n small short =
     let middle : (len + 16777216 * n) % 16777216 ≡ len = omega arith in
     (omega arith, ap (λ x. x % 16777216) above ∙ middle, omega arith)
 
-pub held-record : (msg : ReliableMsg) (len : ℕ) → len < 2 ^ 24 → held_of (record_of (Message msg len)) ≡ Message msg len
+pub held-record : (msg : ReliableMsg) (len : ℕ) → len < 2 ^ 24 → held_of (record_of (Some (msg, len))) ≡ Some (msg, len)
 unfolding held_of
 held-record msg len short =
     let p = parts (kind_of msg) len (count_of msg) (kind-lt msg) short in
     simp (p.0, p.1, p.2) (held-as msg len)
 
-pub record_is : (msg : ReliableMsg) (len : ℕ) → len < 2 ^ 24 → is_record (record_of (Message msg len)) ≡ true
+pub record_is : (msg : ReliableMsg) (len : ℕ) → len < 2 ^ 24 → is_record (record_of (Some (msg, len))) ≡ true
 unfolding is_record
 record_is msg len short = eq-eqb _ _ (ap record_of (held-record msg len short))
 
-none : (h : Held) → is_full h ≡ false → h ≡ Nothing
-none Nothing e = refl
-none (Message msg len) e = false-true (sym e)
+none : (h : Held) → is_full h ≡ false → h ≡ None
+none None e = refl
+none (Some (msg, len)) e = false-true (sym e)
 
 kept_same : (h : Held) → is_full (kept_of h) ≡ true → kept_of h ≡ h
-kept_same Nothing e = false-true e
-kept_same (Message msg len) e = cases (is_ready_kind msg) (λ t. simp t) (λ t. false-true (simp t at e))
+kept_same None e = false-true e
+kept_same (Some (msg, len)) e = cases (is_ready_kind msg) (λ t. simp t) (λ t. false-true (simp t at e))
 
 pub held_kept : (word : ℕ) → held_of (kept_record word) ≡ kept_of (held_of word)
 unfolding kept_record
@@ -159,6 +158,6 @@ unfolding is_record
 record-long word e =
     cases (is_full (held_of word)) (λ t. full-long word t)
     (λ t.
-    let empty : held_of word ≡ Nothing = none (held_of word) t in
+    let empty : held_of word ≡ None = none (held_of word) t in
     let zero : 0 ≡ word = sym (ap record_of empty) ∙ eqb-true (record_of (held_of word)) word e in
     ap held_bytes empty ∙ omega arith)

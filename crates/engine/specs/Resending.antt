@@ -1,7 +1,9 @@
 -- Document 01, "Resend. The packet becomes Sent on the new link, time now, unflushed, and leaves the queue; that link's unacked
 -- bytes grow, the totals don't. If the number is before the mark, the mark becomes the number. The answer is the message's kind,
 -- count and length." Assumes nothing.
-use Rattle.std.specs.Prelude.{◌≡◌, ℕ, zero, suc, ◌+◌, ◌-◌, ◌%◌, ◌^◌, ◌<◌, Bool, true, false, not, ◌&&◌, ◌||◌, List, [], ◌∷◌, length, ◌==◌, slice_index_or, slice_set, refl}
+use Rattle.std.specs.Prelude.{◌≡◌, ℕ, zero, suc, ◌+◌, ◌-◌, ◌%◌, ◌^◌, ◌<◌, Bool, true, false, not, ◌&&◌, ◌||◌, List, [], ◌∷◌, length, ◌==◌, slice_index_or, slice_set, refl, Ok, Err, Result}
+use Rattle.refusal.specs.declared.Refusal.{Refusal}
+use Rattle.msg.specs.declared.reliable.ReliableMsg.{ReliableMsg}
 use Rattle.std.proofs.Common.{sym, ap₂, ◌∙◌, arith, eqb-true, eq-eqb, le-leb}
 use Rattle.std.proofs.Math.Path.{ap}
 use Rattle.std.proofs.Math.Bool.{or-true}
@@ -10,9 +12,7 @@ use Rattle.seq.specs.declared.Seq.{Seq}
 use Rattle.seq.specs.Distance.{past}
 use Rattle.msg.specs.Reliable.{kind_of, count_of}
 use Rattle.refusal.specs.Answers.{Told, success, refused}
-use Rattle.refusal.specs.declared.verdict.Verdict.{Verdict}
-use Rattle.refusal.specs.declared.verdict.Verdict.TheVariants as verdicts
-use Rattle.refusal.specs.Verdicts.{gate, gate-pass}
+use Rattle.refusal.specs.Verdicts.{Verdict, gate, gate-pass}
 use Rattle.refusal.specs.Tests.{false-true, split, join, same_test}
 use Rattle.link.specs.Row.{with_unacked}
 use Rattle.link.specs.Limit.{mark_resent}
@@ -29,8 +29,6 @@ use Rattle.engine.specs.Decide.{soundb, sound}
 use Rattle.engine.specs.Gates.{timed_verdict, AtTime, timed-passed}
 use Rattle.engine.specs.Sound.{Sound, Shaped, packet_at}
 use Rattle.engine.specs.InTable.{placed, packet-back, packet-short, looked-cell, looked-number, row_small}
-use Rattle.engine.specs.declared.resending.ResendAnswer.{ResendAnswer}
-use Rattle.engine.specs.declared.resending.ResendAnswer.TheVariants.{Message, No}
 use Rattle.engine.specs.declared.resending.ResendResult.{ResendResult}
 use Rattle.engine.specs.Sizes.{PACKETS}
 use Rattle.engine.specs.Fields.{with_status, with_parts, new_flight}
@@ -53,7 +51,7 @@ resend_verdict s slot time n =
     timed_verdict s slot time
     (gate (is_listed (queue s.tx) n) 16
     (gate (not (last_link (looked_at s.tx n).status == (row_of s slot).link_id)) 17
-    verdicts.Pass))
+    (Ok tt)))
 
 unfoldable pub resent_state : State → ℕ → ℕ → ℕ → State
 resent_state s slot time n =
@@ -64,13 +62,13 @@ resent_state s slot time n =
     time
 
 -- "The answer is the message's kind, count and length."
-abbrev pub resend_told : ResendAnswer → Told
-resend_told (Message msg len) = success (kind_of msg ∷ count_of msg ∷ len ∷ [])
-resend_told (No e) = refused e
+abbrev pub resend_told : Result (ReliableMsg × ℕ) Refusal → Told
+resend_told (Ok (msg, len)) = success (kind_of msg ∷ count_of msg ∷ len ∷ [])
+resend_told (Err e) = refused e
 
 abbrev pub resent_by : Verdict → State → ℕ → State → ResendResult
-resent_by verdicts.Pass s n next = record { answer = Message (looked_at s.tx n).msg (looked_at s.tx n).len; state = next }
-resent_by (verdicts.No e) s n next = record { answer = No e; state = s }
+resent_by (Ok tt) s n next = record { answer = Ok ((looked_at s.tx n).msg, (looked_at s.tx n).len); state = next }
+resent_by (Err e) s n next = record { answer = Err e; state = s }
 
 unfoldable pub resend_of : State → ℕ → ℕ → ℕ → ResendResult
 unfolding resend_verdict resent_state
@@ -141,7 +139,7 @@ pub record ResendPassed (s : State) (slot time n : ℕ) : Type 0 where
   pub held : in_table s.tx n ≡ true
   pub queued : is_queued (looked_at s.tx n).status ≡ true
 
-pub resend-passed : (s : State) (slot time n : ℕ) → Shaped s → n < 2 ^ 32 → resend_verdict s slot time n ≡ verdicts.Pass → ResendPassed s slot time n
+pub resend-passed : (s : State) (slot time n : ℕ) → Shaped s → n < 2 ^ 32 → resend_verdict s slot time n ≡ Ok tt → ResendPassed s slot time n
 unfolding resend_verdict
 resend-passed s slot time n shaped h e =
     let own = timed-passed s slot time _ e in
@@ -150,7 +148,7 @@ resend-passed s slot time n shaped h e =
     record { timed = own.0; held = both.0; queued = both.1 }
 
 -- the new link's unacked bytes stay small
-pub resend-fits : (s : State) (slot time n : ℕ) → Shaped s → n < 2 ^ 32 → resend_verdict s slot time n ≡ verdicts.Pass
+pub resend-fits : (s : State) (slot time n : ℕ) → Shaped s → n < 2 ^ 32 → resend_verdict s slot time n ≡ Ok tt
     → (row_of s slot).txed_unacked_data + (looked_at s.tx n).len < 2 ^ 32
 resend-fits s slot time n shaped h e =
     let p = resend-passed s slot time n shaped h e in
@@ -158,7 +156,7 @@ resend-fits s slot time n shaped h e =
     omega (arith, packet-short s shaped at.fine n h p.held, row_small s shaped at.fine slot at.small at.live, ap (λ r. r.txed_unacked_data) (row-of s slot at.small))
 
 -- an accepted resend's packet is in the number's cell
-pub resend-cell : (s : State) (slot time n : ℕ) → Shaped s → n < 2 ^ 32 → resend_verdict s slot time n ≡ verdicts.Pass → packet_of s.tx n ≡ looked_at s.tx n
+pub resend-cell : (s : State) (slot time n : ℕ) → Shaped s → n < 2 ^ 32 → resend_verdict s slot time n ≡ Ok tt → packet_of s.tx n ≡ looked_at s.tx n
 resend-cell s slot time n shaped h e =
     let p = resend-passed s slot time n shaped h e in
     looked-cell s shaped p.timed.at.fine n h p.held
@@ -169,7 +167,7 @@ resend_asked s slot time n =
     timed_verdict s slot time
     (gate (in_table s.tx n && is_queued (packet_of s.tx n).status) 16
     (gate (not (last_link (packet_of s.tx n).status == (row_of s slot).link_id)) 17
-    verdicts.Pass))
+    (Ok tt)))
 
 pub resend-same : (s : State) (slot time n : ℕ) → Shaped s → n < 2 ^ 32 → resend_asked s slot time n ≡ resend_verdict s slot time n
 unfolding resend_verdict timed_verdict
@@ -182,7 +180,7 @@ resend-same s slot time n shaped h =
     (λ u.
     let cell = looked-cell s shaped fine n h (listed-queued s n shaped fine h u).0 in
     ap₂
-    (λ (queued : Bool) (p : SentReliable). timed_verdict s slot time (gate queued 16 (gate (not (last_link p.status == (row_of s slot).link_id)) 17 verdicts.Pass)))
+    (λ (queued : Bool) (p : SentReliable). timed_verdict s slot time (gate queued 16 (gate (not (last_link p.status == (row_of s slot).link_id)) 17 (Ok tt))))
     same cell)
     (λ u. simp (same, u)))
     (λ t. simp t)

@@ -1,15 +1,15 @@
 -- Document 01, "Send. Takes the next number, copies data to its own cell and no other byte, records Sent with time, slot and
 -- identity; `txed_unacked`, `txed_unconsumed` and the link's unacked bytes grow by the data length. The answer is the number. A
 -- Consumed reduces the taken-and-untold count by its amount (P)." Assumes nothing.
-use Rattle.std.specs.Prelude.{◌≡◌, ℕ, ◌+◌, ◌-◌, ◌%◌, ◌^◌, ◌<◌, ◌≤◌, Bool, true, false, not, ◌&&◌, ◌||◌, List, [], ◌∷◌, length, ◌==◌, nat_le, nat_lt, slice_set}
+use Rattle.std.specs.Prelude.{◌≡◌, ℕ, ◌+◌, ◌-◌, ◌%◌, ◌^◌, ◌<◌, ◌≤◌, Bool, true, false, not, ◌&&◌, ◌||◌, List, [], ◌∷◌, length, ◌==◌, nat_le, nat_lt, slice_set, Ok, Err, Result}
+use Rattle.refusal.specs.declared.Refusal.{Refusal}
+use Rattle.seq.specs.declared.Seq.{Seq}
 use Rattle.std.proofs.Common.{eqb-true, leb-true, ltb-true}
 use Rattle.seq.specs.Numbers.{seq_of, plus}
 use Rattle.msg.specs.declared.reliable.ReliableMsg.{ReliableMsg}
 use Rattle.msg.specs.Reliable.{is_kind, count_of, MSG_CONSUMED, MSG_SEND_FINISH}
 use Rattle.refusal.specs.Answers.{Told, success, refused}
-use Rattle.refusal.specs.declared.verdict.Verdict.{Verdict}
-use Rattle.refusal.specs.declared.verdict.Verdict.TheVariants as verdicts
-use Rattle.refusal.specs.Verdicts.{gate, gate-pass}
+use Rattle.refusal.specs.Verdicts.{Verdict, gate, gate-pass}
 use Rattle.refusal.specs.Tests.{split}
 use Rattle.link.specs.Row.{with_unacked}
 use Rattle.engine.specs.declared.state.SentReliableStatus.TheVariants.{Sent}
@@ -22,8 +22,6 @@ use Rattle.engine.specs.DecidedTables.{length-le}
 use Rattle.engine.specs.Rows.{row_of, slot_ok, time_ok}
 use Rattle.engine.specs.Gates.{AtTime, time-ok}
 use Rattle.engine.specs.Stores.{cell_start, copied, store_by}
-use Rattle.engine.specs.declared.sending.SendAnswer.{SendAnswer}
-use Rattle.engine.specs.declared.sending.SendAnswer.TheVariants.{Number, No}
 use Rattle.engine.specs.declared.sending.SendResult.{SendResult}
 use Rattle.engine.specs.Sizes.{PACKETS, DATA_BYTES, SENT_BYTES}
 use Rattle.engine.specs.Records.{is_ready_kind}
@@ -58,7 +56,7 @@ send_verdict s store slot time msg len =
     (gate (open_ok s.tx.send_finish_sent msg) 8
     (gate (totals_ok s slot msg len) 9
     (gate (nat_lt s.tx.txed_count PACKETS) 10
-    verdicts.Pass)))))))
+    (Ok tt))))))))
 
 -- "Takes the next number, .. records Sent with time, slot and identity; `txed_unacked`, `txed_unconsumed` .. grow by the data length"
 unfoldable pub sent_tx : Sending → ℕ → ℕ → ℕ → ReliableMsg → ℕ → Sending
@@ -86,13 +84,13 @@ sent_state s slot time msg len =
     time
 
 -- "The answer is the number."
-abbrev pub send_told : SendAnswer → Told
-send_told (Number seq) = success (seq.0 ∷ [])
-send_told (No e) = refused e
+abbrev pub send_told : Result Seq Refusal → Told
+send_told (Ok seq) = success (seq.0 ∷ [])
+send_told (Err e) = refused e
 
 abbrev pub sent_by : Verdict → State → State → SendResult
-sent_by verdicts.Pass s next = record { answer = Number s.tx.tx_seq; state = next }
-sent_by (verdicts.No e) s next = record { answer = No e; state = s }
+sent_by (Ok tt) s next = record { answer = Ok s.tx.tx_seq; state = next }
+sent_by (Err e) s next = record { answer = Err e; state = s }
 
 unfoldable pub send_of : State → ℕ → ℕ → ℕ → ReliableMsg → ℕ → SendResult
 unfolding send_verdict sent_state
@@ -123,7 +121,7 @@ pub record SendPassed (s : State) (store slot time : ℕ) (msg : ReliableMsg) (l
   pub stored : store ≡ SENT_BYTES
   pub short : len ≤ DATA_BYTES
 
-pub send-passed : (s : State) (store slot time : ℕ) (msg : ReliableMsg) (len : ℕ) → send_verdict s store slot time msg len ≡ verdicts.Pass → SendPassed s store slot time msg len
+pub send-passed : (s : State) (store slot time : ℕ) (msg : ReliableMsg) (len : ℕ) → send_verdict s store slot time msg len ≡ Ok tt → SendPassed s store slot time msg len
 unfolding send_verdict totals_ok
 send-passed s store slot time msg len e =
     let e2 = gate-pass (store == SENT_BYTES) _ _ e in

@@ -1,7 +1,8 @@
 -- Document 01, "Slow links. Given a lent run of link records (eight, in slot order; another length gives 4, the only refusal
 -- here), those live and confirmed with round trip above `max_ping` are listed, lowest slot first, unless every confirmed link is
 -- slow. Slow here means blocked, or without `max_ping`, or above it." Assumes nothing.
-use Rattle.std.specs.Prelude.{◌≡◌, ℕ, suc, ◌+◌, ◌-◌, ◌<◌, ◌≤◌, Bool, true, cond, ◌&&◌, List, [], ◌∷◌, ◌++◌, length, get_or, take, drop, set, replicate, ◌==◌, slice_index_or, slice_set}
+use Rattle.std.specs.Prelude.{◌≡◌, ℕ, suc, ◌+◌, ◌-◌, ◌<◌, ◌≤◌, Bool, true, cond, ◌&&◌, List, [], ◌∷◌, ◌++◌, length, get_or, take, drop, set, replicate, ◌==◌, slice_index_or, slice_set, Ok, Err, Result}
+use Rattle.refusal.specs.declared.Refusal.{Refusal}
 use Rattle.std.proofs.Common.{sym, ap, ap₂, ◌∙◌, append_assoc, append-nil, add-one, arith, length-append, length-take, drop_of_length-le, take-suc, take_all, drop-cons}
 use Rattle.std.proofs.Math.Seq.{set-append_seam, take-append_seam}
 use Rattle.link.specs.declared.row.LinkRow.{LinkRow}
@@ -11,11 +12,7 @@ use Rattle.engine.specs.declared.slowness.SlowLinks.{SlowLinks}
 use borrow.Table.Steps.{cases}
 use Rattle.refusal.specs.Refusals.{refuse}
 use Rattle.refusal.specs.Answers.{Told, success, refused, told_by}
-use Rattle.refusal.specs.Verdicts.{gate}
-use Rattle.refusal.specs.declared.verdict.Verdict.{Verdict}
-use Rattle.refusal.specs.declared.verdict.Verdict.TheVariants.{Pass}
-use Rattle.engine.specs.declared.slowness.SlowAnswer.{SlowAnswer}
-use Rattle.engine.specs.declared.slowness.SlowAnswer.TheVariants.{Listed, No}
+use Rattle.refusal.specs.Verdicts.{Verdict, gate}
 use Rattle.engine.specs.Sizes.{SLOTS}
 
 -- "live and confirmed with round trip above `max_ping`"
@@ -57,16 +54,16 @@ note_in old slot row = cond (over_link row) (found (slice_set old.slots old.coun
 
 -- "another length gives 4, the only refusal here"
 abbrev pub slow_verdict : List LinkRow → Verdict
-slow_verdict rows = gate (length rows == SLOTS) 4 Pass
+slow_verdict rows = gate (length rows == SLOTS) 4 (Ok tt)
 
 -- the slots listed
-abbrev pub slow_told : SlowAnswer → Told
-slow_told (Listed found) = success (take found.count found.slots)
-slow_told (No e) = refused e
+abbrev pub slow_told : Result SlowLinks Refusal → Told
+slow_told (Ok found) = success (take found.count found.slots)
+slow_told (Err e) = refused e
 
-unfoldable pub slow_links_of : List LinkRow → SlowAnswer
+unfoldable pub slow_links_of : List LinkRow → Result SlowLinks Refusal
 unfolding slow_of
-slow_links_of rows = cond (length rows == SLOTS) (Listed (slow_of rows)) (No (refuse 4 tt))
+slow_links_of rows = cond (length rows == SLOTS) (Ok (slow_of rows)) (Err (refuse 4 tt))
 
 -- ---- laws
 

@@ -3,18 +3,15 @@
 -- empty slot has no link, and nothing is asked of what its row holds. What the cells hold stands in the lent records: "receiving, showing and taking
 -- messages use it, and other calls judge Sound without what it holds" (document 02, [8]). So Sound is what every call judges, and SoundRecords
 -- the clauses that those three judge besides. Assumes nothing.
-use Rattle.std.specs.Prelude.{◌≡◌, ℕ, suc, ◌*◌, ◌^◌, ◌<◌, ◌≤◌, true, false, length, slice_index, slice_index_or}
+use Rattle.std.specs.Prelude.{◌≡◌, ℕ, suc, ◌*◌, ◌^◌, ◌<◌, ◌≤◌, true, false, length, slice_index, slice_index_or, Some, None, Option}
+use Rattle.engine.specs.Held.{Held}
 use Rattle.seq.specs.Numbers.{seq_of, plus}
 use Rattle.link.specs.declared.row.LinkRow.{LinkRow}
 use Rattle.link.specs.Sizes.{max_ping_within, ping_within, MAX_TIME, ACKS}
 use Rattle.link.specs.Row.{no_row}
-use Rattle.engine.specs.declared.state.Flushed.{Flushed}
-use Rattle.engine.specs.declared.state.Flushed.TheVariants.{Unflushed, FlushedAt}
 use Rattle.engine.specs.declared.state.SentReliableStatus.{SentReliableStatus}
 use Rattle.engine.specs.declared.state.SentReliableStatus.TheVariants.{Sent, Received, ResendQueued}
 use Rattle.engine.specs.declared.state.SentReliable.{SentReliable}
-use Rattle.engine.specs.declared.state.Held.{Held}
-use Rattle.engine.specs.declared.state.Held.TheVariants.{Nothing, Message}
 use Rattle.engine.specs.declared.state.State.{State}
 use Rattle.engine.specs.Packets.{no_packet, first_of, packets, queue, is_received, queued_of, SentOn, Outstanding, Settled, sum_of}
 use Rattle.engine.specs.Records.{is_full, is_ready_kind, is_record}
@@ -37,9 +34,9 @@ SentHere s (Sent flight) = (flight.slot < SLOTS) × ((row_at s flight.slot).live
 SentHere s Received = Unit
 SentHere s (ResendQueued link) = Unit
 
-abbrev pub FlushedBy : ℕ → Flushed → Type 0
-FlushedBy time Unflushed = Unit
-FlushedBy time (FlushedAt at) = at ≤ time
+abbrev pub FlushedBy : ℕ → Option ℕ → Type 0
+FlushedBy time None = Unit
+FlushedBy time (Some at) = at ≤ time
 
 -- "send, flush .. times are at most the last accepted time"
 abbrev pub SentBy : ℕ → SentReliableStatus → Type 0
@@ -49,13 +46,13 @@ SentBy time (ResendQueued link) = Unit
 
 -- "Data or SendFinish", where anything stands
 abbrev pub ReadyKind : Held → Type 0
-ReadyKind Nothing = Unit
-ReadyKind (Message msg len) = is_ready_kind msg ≡ true
+ReadyKind None = Unit
+ReadyKind (Some (msg, len)) = is_ready_kind msg ≡ true
 
 -- "counts, lengths .. are within their sizes": a message's length
 abbrev pub LengthWithin : Held → Type 0
-LengthWithin Nothing = Unit
-LengthWithin (Message msg len) = length_ok msg len ≡ true
+LengthWithin None = Unit
+LengthWithin (Some (msg, len)) = length_ok msg len ≡ true
 
 pub record Sound (s : State) : Type 0 where
   -- "packet numbers are consecutive and end just before the next number": place i bears the first number plus i, and the
@@ -98,7 +95,7 @@ pub record Sound (s : State) : Type 0 where
 
 -- what the cell k numbers past the oldest holds
 abbrev pub cell_at : RxTable → ℕ → Held
-cell_at t k = slice_index_or (cell_view t.rx.cells t) k Nothing
+cell_at t k = slice_index_or (cell_view t.rx.cells t) k None
 
 -- the clauses about what the cells hold
 pub record SoundRecords (t : RxTable) : Type 0 where
@@ -111,7 +108,7 @@ pub record SoundRecords (t : RxTable) : Type 0 where
   pub ready : (k : ℕ) → k < expected_at t.rx → ReadyKind (cell_at t k)
   pub oldest : 0 < expected_at t.rx → is_full (cell_at t 0) ≡ true
   -- "held ones lie after it, each once": nothing stands at the next expected itself, and the last cell in use holds one
-  pub held : cell_at t (expected_at t.rx) ≡ Nothing
+  pub held : cell_at t (expected_at t.rx) ≡ None
   pub newest : (k : ℕ) → expected_at t.rx ≤ k → suc k ≡ in_use t.rx → is_full (cell_at t k) ≡ true
   -- "counts, lengths .. are within their sizes": each record in use is 0 or the record of a message
   pub cell-length : (k : ℕ) → k < in_use t.rx → LengthWithin (cell_at t k)

@@ -3,20 +3,17 @@
 -- Request [8]: "The fresh state's call is lent it too and, when accepted, leaves every record empty, whatever it held; there 2 goes by the cell count
 -- asked for, and 21 is checked first"; "the receive buffer setting may reach cells times 1,024, and 21 follows, also for any other cell count". Assumes
 -- nothing.
-use Rattle.std.specs.Prelude.{◌≡◌, ℕ, ◌*◌, true, false, ◌&&◌, List, length, replicate, ◌==◌, nat_le}
+use Rattle.std.specs.Prelude.{◌≡◌, ℕ, ◌*◌, true, false, ◌&&◌, List, length, replicate, ◌==◌, nat_le, Ok, Err}
 use Rattle.std.proofs.Common.{arith}
 use borrow.Table.Steps.{cases}
 use Rattle.seq.specs.Numbers.{seq_of, minus}
 use Rattle.link.specs.Row.{empty_row}
 use Rattle.refusal.specs.declared.Refusal.{Refusal}
-use Rattle.refusal.specs.declared.verdict.Verdict.{Verdict}
-use Rattle.refusal.specs.declared.verdict.Verdict.TheVariants.{Pass, No}
-use Rattle.refusal.specs.Verdicts.{gate}
+use Rattle.refusal.specs.Verdicts.{Verdict, gate}
 use Rattle.engine.specs.declared.state.Sending.{Sending}
 use Rattle.engine.specs.declared.state.Receiving.{Receiving}
 use Rattle.engine.specs.declared.state.State.{State}
 use Rattle.engine.specs.declared.answer.Changed.{Changed}
-use Rattle.engine.specs.declared.answer.Outcome.TheVariants as outcomes
 use Rattle.engine.specs.Decide.{soundb, sound}
 use Rattle.engine.specs.Packets.{no_packet}
 use Rattle.engine.specs.CellCount.{is_cell_count}
@@ -58,7 +55,7 @@ unfoldable pub fresh_verdict : (buffer cells records : ℕ) → Verdict
 fresh_verdict buffer n records =
     gate (is_cell_count n && (nat_le 1 buffer && nat_le buffer (n * DATA_BYTES))) 21
     (gate (records == n) 2
-    Pass)
+    (Ok tt))
 
 -- the state that comes with a refusal has no cells and no buffer
 unfoldable pub fresh_of : (start buffer cells records : ℕ) → Changed
@@ -72,7 +69,7 @@ fresh_records buffer n records = store_by (fresh_verdict buffer n (length record
 
 -- "Each returns its number alone": where a fresh state is refused, what comes with the refusal is not sound
 abbrev pub RefusedUnsound : Changed → Type 0
-RefusedUnsound r = (e : Refusal) → r.outcome ≡ outcomes.No e → soundb r.state ≡ false
+RefusedUnsound r = (e : Refusal) → r.outcome ≡ Err e → soundb r.state ≡ false
 
 -- ---- laws
 
@@ -86,7 +83,7 @@ pub fresh-refused : (start buffer n records : ℕ) → RefusedUnsound (fresh_of 
 unfolding fresh_of
 fresh-refused start buffer n records e h = by-verdict (fresh_verdict buffer n records) h
   where
-    by-verdict : (v : Verdict) → (changed_by v (fresh_state start 0 0) (fresh_state start buffer n)).outcome ≡ outcomes.No e
+    by-verdict : (v : Verdict) → (changed_by v (fresh_state start 0 0) (fresh_state start buffer n)).outcome ≡ Err e
         → soundb (changed_by v (fresh_state start 0 0) (fresh_state start buffer n)).state ≡ false
-    by-verdict Pass h = let z : ◌≡◌ {A = ℕ} 0 1 = cc in absurd (omega arith)
-    by-verdict (No f) h = refused-unsound start
+    by-verdict (Ok tt) h = let z : ◌≡◌ {A = ℕ} 0 1 = cc in absurd (omega arith)
+    by-verdict (Err f) h = refused-unsound start

@@ -1,11 +1,10 @@
 -- The lent stores. Document 01: "Two lent stores, sent and received, of exactly 65,536 bytes each: number n uses cell n mod 64", a
 -- cell of 1,024 bytes. Assumes nothing.
-use Rattle.std.specs.Prelude.{◌≡◌, ℕ, ◌+◌, ◌-◌, ◌*◌, ◌%◌, ◌≤◌, List, [], ◌++◌, length, take, drop}
+use Rattle.std.specs.Prelude.{◌≡◌, ℕ, ◌+◌, ◌-◌, ◌*◌, ◌%◌, ◌≤◌, List, [], ◌++◌, length, take, drop, Ok, Err}
+use Rattle.refusal.specs.Verdicts.{Verdict}
 use Rattle.std.proofs.Common.{append-nil, arith, length-take, drop_of_length-le, drop-drop}
 use Rattle.std.proofs.Math.Seq.{take-length}
-use Rattle.refusal.specs.declared.verdict.Verdict.{Verdict}
 use Rattle.engine.specs.Sizes.{DATA_BYTES}
-use Rattle.refusal.specs.declared.verdict.Verdict.TheVariants as verdicts
 
 -- "number n uses cell n mod 64", of 1,024 bytes: where the cell starts, of N cells
 abbrev pub cell_start : ℕ → ℕ → ℕ
@@ -17,8 +16,8 @@ copied store at bytes = take at store ++ (bytes ++ drop (at + length bytes) stor
 
 -- a refusal leaves every byte as it came
 abbrev pub store_by : Verdict → List ℕ → List ℕ → List ℕ
-store_by verdicts.Pass old new = new
-store_by (verdicts.No e) old new = old
+store_by (Ok tt) old new = new
+store_by (Err e) old new = old
 
 -- ---- laws
 

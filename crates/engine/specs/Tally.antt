@@ -1,12 +1,10 @@
 -- What one pass over the packet table finds: the code's own way of deciding what Sound asks of it. That it decides just that
 -- is proved in Decided. Assumes nothing.
-use Rattle.std.specs.Prelude.{◌≡◌, ℕ, ◌+◌, ◌-◌, ◌%◌, ◌^◌, ◌<◌, ◌≤◌, Bool, true, ◌&&◌, ◌||◌, List, [], ◌∷◌, get_or, ◌==◌, nat_le, slice_index, slice_index_or, slice_set}
+use Rattle.std.specs.Prelude.{◌≡◌, ℕ, ◌+◌, ◌-◌, ◌%◌, ◌^◌, ◌<◌, ◌≤◌, Bool, true, ◌&&◌, ◌||◌, List, [], ◌∷◌, get_or, ◌==◌, nat_le, slice_index, slice_index_or, slice_set, Some, None, Option}
 use Rattle.std.proofs.Common.{ap}
 use Rattle.seq.specs.declared.Seq.{Seq}
 use Rattle.seq.specs.Numbers.{seq_of, plus}
 use Rattle.msg.specs.declared.reliable.ReliableMsg.{ReliableMsg}
-use Rattle.engine.specs.declared.state.Flushed.{Flushed}
-use Rattle.engine.specs.declared.state.Flushed.TheVariants.{Unflushed, FlushedAt}
 use Rattle.engine.specs.declared.state.SentReliableStatus.{SentReliableStatus}
 use Rattle.engine.specs.declared.state.SentReliableStatus.TheVariants.{Sent, Received, ResendQueued}
 use Rattle.engine.specs.declared.state.SentReliable.{SentReliable}
@@ -22,9 +20,9 @@ use Rattle.engine.specs.Sizes.{PACKETS, SLOTS, DATA_BYTES}
 unfoldable pub length_ok : ReliableMsg → ℕ → Bool
 length_ok msg len = len == 0 || (nat_le len DATA_BYTES && is_data msg)
 
-abbrev pub flushed_ok : Flushed → ℕ → Bool
-flushed_ok Unflushed time = true
-flushed_ok (FlushedAt at) time = nat_le at time
+abbrev pub flushed_ok : Option ℕ → ℕ → Bool
+flushed_ok None time = true
+flushed_ok (Some at) time = nat_le at time
 
 unfoldable pub status_ok : SentReliableStatus → Seq → Seq → Roster → ℕ → Bool
 status_ok (Sent flight) seq next roster time = lives_in roster flight.slot flight.link && (nat_le flight.sent time && flushed_ok flight.flushed time)

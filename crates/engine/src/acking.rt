@@ -6,7 +6,7 @@ ghost use Rattle.engine.specs.Sound.{Sound};
 ghost use Rattle.engine.specs.Acking.{settled_row, received_tx, settled_tx, sweep_of, swept_tx, acked_row, acked_tx, ack_verdict, ack_of};
 ghost use Rattle.engine.specs.Sizes.{PACKETS};
 
-use crate::answer::{Changed, Outcome};
+use crate::answer::Changed;
 use crate::gates::timed_verdict;
 use crate::packets::is_received;
 use crate::queue::requeue;
@@ -17,7 +17,7 @@ use crate::state::{Sending, SentReliable, SentReliableStatus, State};
 use crate::table::{first_cell, in_table, packet_of, with_packet};
 use crate::totals::less;
 use link::LinkRow;
-use refusal::{Refusal, Verdict, gate};
+use refusal::{Refusal, gate};
 use seq::Seq;
 
 // The row, where the packet was Sent over its slot.
@@ -139,11 +139,11 @@ fn acked_tx(s: State, slot: u8, seq: Seq) -> Sending
 }
 
 // Its own gate judges the number against the next to send.
-fn ack_verdict(s: State, slot: u8, time: u64, seq: Seq) -> Verdict
+fn ack_verdict(s: State, slot: u8, time: u64, seq: Seq) -> Result<(), Refusal>
     ensures { result ≡ ack_verdict s slot time seq.0 }
 {
     let tx = s.tx;
-    let v22 = gate(seq.is_near(tx.tx_seq), Refusal::Far, Verdict::Pass);
+    let v22 = gate(seq.is_near(tx.tx_seq), Refusal::Far, Ok(()));
     timed_verdict(s, slot, time, v22)
 }
 
@@ -153,18 +153,18 @@ pub fn ack(s: State, slot: u8, time: u64, seq: Seq) -> Changed
 {
     let verdict = ack_verdict(s, slot, time, seq);
     match verdict {
-        Verdict::No(e) => Changed {
-            outcome: Outcome::No(e),
+        Err(e) => Changed {
+            outcome: Err(e),
             state: s,
         },
-        Verdict::Pass => {
+        Ok(()) => {
             let row = acked_row(s, slot, time, seq);
             let tx = acked_tx(s, slot, seq);
             let mut out = with_row(s, slot, row);
             out.tx = sweep(tx);
             out.time = time;
             Changed {
-                outcome: Outcome::Done,
+                outcome: Ok(()),
                 state: out,
             }
         }

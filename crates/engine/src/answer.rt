@@ -3,31 +3,25 @@ ghost use Rattle.std.specs.Prelude.{◌≡◌};
 ghost use Rattle.engine.specs.Answer.{changed_by};
 
 use crate::state::State;
-use refusal::{Refusal, Verdict};
-
-#[derive(Clone, Copy)]
-pub enum Outcome {
-    Done,
-    No(Refusal),
-}
+use refusal::Refusal;
 
 #[derive(Clone, Copy)]
 pub struct Changed {
-    pub outcome: Outcome,
+    pub outcome: Result<(), Refusal>,
     pub state: State,
 }
 
 // The next state where the verdict lets the call pass, else the state as it came.
-pub(crate) fn change(verdict: Verdict, s: State, next: State) -> Changed
+pub(crate) fn change(verdict: Result<(), Refusal>, s: State, next: State) -> Changed
     ensures { result ≡ changed_by verdict s next }
 {
     match verdict {
-        Verdict::Pass => Changed {
-            outcome: Outcome::Done,
+        Ok(()) => Changed {
+            outcome: Ok(()),
             state: next,
         },
-        Verdict::No(e) => Changed {
-            outcome: Outcome::No(e),
+        Err(e) => Changed {
+            outcome: Err(e),
             state: s,
         },
     }

@@ -33,7 +33,7 @@ fn cell_of(rx: Receiving, records: &[u64], seq: Seq) -> Held
     ensures { result ≡ cell_of rx.cells (table_of rx records.now) seq.0 }
 {
     if !is_used(rx, seq) {
-        return Held::Nothing;
+        return None;
     }
     held_at(rx, records, seq)
 }

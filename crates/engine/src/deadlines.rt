@@ -12,38 +12,26 @@ use crate::ring::next_cell;
 use crate::rows::row_of;
 use crate::sizes::PACKETS;
 use crate::sound::is_sound;
-use crate::state::{Flushed, InFlight, Sending, SentReliableStatus, State};
+use crate::state::{InFlight, Sending, SentReliableStatus, State};
 use crate::table::first_cell;
 use link::AckTimeout;
-use refusal::{Refusal, Verdict, gate};
+use refusal::{Refusal, gate};
 
-// The first packet in table order that is Sent. Public so that `laws` can name it.
-#[derive(Clone, Copy)]
-pub enum FirstSent {
-    Nothing,
-    Is(InFlight),
-}
+pub type ConfirmTimeout = Result<Option<(u8, bool, u64)>, Refusal>;
 
-#[derive(Clone, Copy)]
-pub enum ConfirmTimeout {
-    // the slot that the packet was sent over, whether it was flushed, and the deadline
-    Packet(u8, bool, u64),
-    // no packet is Sent
-    Nothing,
-    No(Refusal),
-}
-
-pub fn in_flight(status: SentReliableStatus) -> FirstSent
+// Public so that `laws` can name it.
+pub fn in_flight(status: SentReliableStatus) -> Option<InFlight>
     ensures { result ≡ in_flight status }
 {
     match status {
-        SentReliableStatus::Sent(flight) => FirstSent::Is(flight),
-        SentReliableStatus::Received => FirstSent::Nothing,
-        SentReliableStatus::ResendQueued { sent_link: _ } => FirstSent::Nothing,
+        SentReliableStatus::Sent(flight) => Some(flight),
+        SentReliableStatus::Received => None,
+        SentReliableStatus::ResendQueued { sent_link: _ } => None,
     }
 }
 
-fn first_sent(tx: Sending) -> FirstSent
+// The first packet in table order that is Sent.
+fn first_sent(tx: Sending) -> Option<InFlight>
     requires { tx.txed_count ≤ PACKETS }
     ensures { result ≡ first_sent (packets tx) }
 {
@@ -58,15 +46,15 @@ fn first_sent(tx: Sending) -> FirstSent
         at = next_cell(PACKETS, at);
         left -= 1;
     }
-    FirstSent::Nothing
+    None
 }
 
-pub fn was_flushed(flushed: Flushed) -> bool
+pub fn was_flushed(flushed: Option<u64>) -> bool
     ensures { result ≡ was_flushed flushed }
 {
     match flushed {
-        Flushed::Unflushed => false,
-        Flushed::FlushedAt(_) => true,
+        None => false,
+        Some(_) => true,
     }
 }
 
@@ -76,8 +64,8 @@ pub fn definitely_sent(flight: InFlight) -> u64
 {
     let flushed = flight.flushed;
     match flushed {
-        Flushed::Unflushed => flight.sent,
-        Flushed::FlushedAt(at) => at,
+        None => flight.sent,
+        Some(at) => at,
     }
 }
 
@@ -90,7 +78,7 @@ fn deadline(s: State, flight: InFlight, timeout: AckTimeout, unreliable: bool) -
     definitely_sent(flight) + wait
 }
 
-fn confirm_timeout_verdict(s: State, timeout: AckTimeout) -> Verdict
+fn confirm_timeout_verdict(s: State, timeout: AckTimeout) -> Result<(), Refusal>
     ensures { result ≡ confirm_timeout_verdict s timeout }
 {
     let sound = is_sound(s);
@@ -98,23 +86,23 @@ fn confirm_timeout_verdict(s: State, timeout: AckTimeout) -> Verdict
     gate(
         sound,
         Refusal::Unsound,
-        gate(within, Refusal::Setting, Verdict::Pass),
+        gate(within, Refusal::Setting, Ok(())),
     )
 }
 
 // What is named in a state that passes.
 fn named(s: State, timeout: AckTimeout, unreliable: bool) -> ConfirmTimeout
-    requires { confirm_timeout_verdict s timeout ≡ Verdict.Pass }
+    requires { confirm_timeout_verdict s timeout ≡ Ok tt }
     ensures { result ≡ named_by (first_sent (packets s.tx)) s timeout unreliable }
 {
     let tx = s.tx;
     let first = first_sent(tx);
     match first {
-        FirstSent::Nothing => ConfirmTimeout::Nothing,
-        FirstSent::Is(flight) => {
+        None => Ok(None),
+        Some(flight) => {
             let flushed = flight.flushed;
             let at = deadline(s, flight, timeout, unreliable);
-            ConfirmTimeout::Packet(flight.slot, was_flushed(flushed), at)
+            Ok(Some((flight.slot, was_flushed(flushed), at)))
         }
     }
 }
@@ -127,7 +115,7 @@ pub fn earliest_confirm_timeout(s: State, timeout: AckTimeout, unreliable: bool)
 {
     let verdict = confirm_timeout_verdict(s, timeout);
     match verdict {
-        Verdict::No(e) => ConfirmTimeout::No(e),
-        Verdict::Pass => named(s, timeout, unreliable),
+        Err(e) => Err(e),
+        Ok(()) => named(s, timeout, unreliable),
     }
 }

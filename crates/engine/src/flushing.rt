@@ -8,13 +8,12 @@ ghost use Rattle.engine.specs.Packets.{no_packet};
 ghost use Rattle.engine.specs.Flushing.{flushed_packet, flushed_state, flush_of};
 ghost use Rattle.engine.specs.Sizes.{PACKETS};
 
-use crate::answer::{Changed, Outcome};
+use crate::answer::Changed;
 use crate::gates::timed_verdict;
 use crate::ring::next_cell;
 use crate::sizes::PACKETS;
 use crate::state::{SentReliable, SentReliableStatus, State};
 use crate::table::first_cell;
-use refusal::Verdict;
 
 // A Sent packet of the slot without a flush time gets the present one.
 pub fn flush_packet(p: SentReliable, slot: u8, time: u64) -> SentReliable
@@ -74,16 +73,16 @@ fn flushed_state(s: State, slot: u8, time: u64) -> State
 
 pub fn flush(s: State, slot: u8, time: u64) -> Changed
     ensures value { result ≡ flush_of s slot time }
-    ensures outcome_value { outcome_told result.outcome ≡ told_by (timed_verdict s slot time Verdict.Pass) [] }
+    ensures outcome_value { outcome_told result.outcome ≡ told_by (timed_verdict s slot time (Ok tt)) [] }
 {
-    let verdict = timed_verdict(s, slot, time, Verdict::Pass);
+    let verdict = timed_verdict(s, slot, time, Ok(()));
     match verdict {
-        Verdict::No(e) => Changed {
-            outcome: Outcome::No(e),
+        Err(e) => Changed {
+            outcome: Err(e),
             state: s,
         },
-        Verdict::Pass => Changed {
-            outcome: Outcome::Done,
+        Ok(()) => Changed {
+            outcome: Ok(()),
             state: flushed_state(s, slot, time),
         },
     }

@@ -5,10 +5,10 @@ ghost use Rattle.engine.specs.Gates.{slot_verdict, timed_verdict};
 use crate::rows::{slot_ok, time_ok};
 use crate::sound::is_sound;
 use crate::state::State;
-use refusal::{Refusal, Verdict, gate};
+use refusal::{Refusal, gate};
 
 // The refusals of a call that is given a state and a slot.
-pub(crate) fn slot_verdict(s: State, slot: u8) -> Verdict
+pub(crate) fn slot_verdict(s: State, slot: u8) -> Result<(), Refusal>
     ensures { result ≡ slot_verdict s slot }
 {
     let sound = is_sound(s);
@@ -16,12 +16,17 @@ pub(crate) fn slot_verdict(s: State, slot: u8) -> Verdict
     gate(
         sound,
         Refusal::Unsound,
-        gate(slotted, Refusal::Slot, Verdict::Pass),
+        gate(slotted, Refusal::Slot, Ok(())),
     )
 }
 
 // The refusals of a call that is given a state, a slot and a time, before those of its own.
-pub(crate) fn timed_verdict(s: State, slot: u8, time: u64, rest: Verdict) -> Verdict
+pub(crate) fn timed_verdict(
+    s: State,
+    slot: u8,
+    time: u64,
+    rest: Result<(), Refusal>,
+) -> Result<(), Refusal>
     ensures { result ≡ timed_verdict s slot time rest }
 {
     let sound = is_sound(s);

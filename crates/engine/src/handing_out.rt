@@ -20,17 +20,11 @@ use crate::sound::{is_sound, is_sound_with};
 use crate::state::{Held, Receiving, State};
 use crate::totals::{MAX_TOTAL, less, sum_fits};
 use link::LinkRow;
-use link::acks::OldestAck;
 use msg::ReliableMsg;
-use refusal::{Refusal, Verdict, gate};
+use refusal::{Refusal, gate};
 use seq::Seq;
 
-#[derive(Clone, Copy)]
-pub enum HandOut {
-    // the message, its number and the length of its data
-    Message(ReliableMsg, Seq, u32),
-    No(Refusal),
-}
+pub type HandOut = Result<(ReliableMsg, Seq, u32), Refusal>;
 
 // The oldest ready message, where there is one.
 pub fn oldest_ready(rx: Receiving, records: &[u64]) -> Held
@@ -38,7 +32,7 @@ pub fn oldest_ready(rx: Receiving, records: &[u64]) -> Held
     ensures { result ≡ ready_of (table_of rx records.now) }
 {
     if rx.rx_oldest.eq(rx.rx_seq) {
-        return Held::Nothing;
+        return None;
     }
     held_at(rx, records, rx.rx_oldest)
 }
@@ -48,23 +42,23 @@ pub fn msg_in(held: Held) -> ReliableMsg
     ensures { result ≡ msg_in held }
 {
     match held {
-        Held::Nothing => ReliableMsg::Data,
-        Held::Message(msg, _) => msg,
+        None => ReliableMsg::Data,
+        Some((msg, _)) => msg,
     }
 }
 
 // The answer about the oldest ready message.
-fn hand_out(verdict: Verdict, rx: Receiving, records: &[u64]) -> HandOut
-    requires { verdict ≡ Verdict.Pass → Lent rx (length records.now) }
+fn hand_out(verdict: Result<(), Refusal>, rx: Receiving, records: &[u64]) -> HandOut
+    requires { verdict ≡ Ok tt → Lent rx (length records.now) }
     ensures { result ≡ hand_out_by verdict (table_of rx records.now) }
 {
     match verdict {
-        Verdict::No(e) => HandOut::No(e),
-        Verdict::Pass => {
+        Err(e) => Err(e),
+        Ok(()) => {
             let held = oldest_ready(rx, records);
             let msg = msg_in(held);
             let seq = rx.rx_oldest;
-            HandOut::Message(msg, seq, held_bytes(held))
+            Ok((msg, seq, held_bytes(held)))
         }
     }
 }
@@ -81,23 +75,23 @@ pub fn ready_bytes(held: Held) -> u32
     ensures { result ≡ ready_bytes held }
 {
     match held {
-        Held::Nothing => 0,
-        Held::Message(msg, len) => data_length(msg, len),
+        None => 0,
+        Some((msg, len)) => data_length(msg, len),
     }
 }
 
-fn show_verdict(s: State, store: usize, records: &[u64]) -> Verdict
+fn show_verdict(s: State, store: usize, records: &[u64]) -> Result<(), Refusal>
     ensures { result ≡ show_verdict s store records.now }
 {
     let rx = s.rx;
     if !lengths_ok(rx, store, records.len()) {
-        return Verdict::No(Refusal::StoreLength);
+        return Err(Refusal::StoreLength);
     }
     if !is_sound_with(s, records) {
-        return Verdict::No(Refusal::Unsound);
+        return Err(Refusal::Unsound);
     }
     let held = oldest_ready(rx, records);
-    gate(is_full(held), Refusal::Nothing, Verdict::Pass)
+    gate(is_full(held), Refusal::Nothing, Ok(()))
 }
 
 // What `show` shows: the message, its number and the length of its data, or why there is nothing to show.
@@ -116,8 +110,8 @@ pub fn show<'a, 'b>(s: State, store: &'a [u8], records: &'b [u64]) -> &'a [u8]
 {
     let answer = showing(s, store, records);
     match answer {
-        HandOut::No(_) => &store[..0],
-        HandOut::Message(msg, seq, len) => {
+        Err(_) => &store[..0],
+        Ok((msg, seq, len)) => {
             let start = cell_at(s.rx.cells, seq) * DATA_BYTES;
             let end = start + data_length(msg, len) as usize;
             &store[start..end]
@@ -131,20 +125,20 @@ pub struct TakeResult {
     pub state: State,
 }
 
-fn take_verdict(s: State, records: &[u64]) -> Verdict
+fn take_verdict(s: State, records: &[u64]) -> Result<(), Refusal>
     ensures { result ≡ take_verdict s records.now }
 {
     let rx = s.rx;
     if records.len() != rx.cells as usize {
-        return Verdict::No(Refusal::StoreLength);
+        return Err(Refusal::StoreLength);
     }
     if !is_sound_with(s, records) {
-        return Verdict::No(Refusal::Unsound);
+        return Err(Refusal::Unsound);
     }
     let held = oldest_ready(rx, records);
     let bytes = ready_bytes(held);
     let fits = sum_fits(rx.rxed_reliable_consumed, bytes as usize, MAX_TOTAL);
-    let v19 = gate(is_full(held), Refusal::Nothing, Verdict::Pass);
+    let v19 = gate(is_full(held), Refusal::Nothing, Ok(()));
     gate(fits, Refusal::Total, v19)
 }
 
@@ -218,8 +212,8 @@ pub fn take(s: State, records: &mut [u64]) -> TakeResult
     let rx = s.rx;
     let answer = hand_out(take_verdict(s, records), rx, records);
     match answer {
-        HandOut::No(_) => TakeResult { answer, state: s },
-        HandOut::Message(msg, _, len) => {
+        Err(_) => TakeResult { answer, state: s },
+        Ok((msg, _, len)) => {
             let next = take_message(rx, records, data_length(msg, len));
             TakeResult {
                 answer,
@@ -230,55 +224,49 @@ pub fn take(s: State, records: &mut [u64]) -> TakeResult
 }
 
 #[derive(Clone, Copy)]
-pub enum TakeAck {
-    Number(Seq),
-    No(Refusal),
-}
-
-#[derive(Clone, Copy)]
 pub struct TakeAckResult {
-    pub answer: TakeAck,
+    pub answer: Result<Seq, Refusal>,
     pub state: State,
 }
 
-fn is_waiting(oldest: OldestAck) -> bool
+fn is_waiting(oldest: Option<Seq>) -> bool
     ensures { result ≡ is_waiting oldest }
 {
     match oldest {
-        OldestAck::Nothing => false,
-        OldestAck::Number(_) => true,
+        None => false,
+        Some(_) => true,
     }
 }
 
 // The number that is acked; where none waits it is never asked.
-fn ack_in(oldest: OldestAck) -> Seq
+fn ack_in(oldest: Option<Seq>) -> Seq
     ensures { result ≡ ack_in oldest }
 {
     match oldest {
-        OldestAck::Nothing => Seq::ZERO,
-        OldestAck::Number(seq) => seq,
+        None => Seq::ZERO,
+        Some(seq) => seq,
     }
 }
 
-fn take_ack_verdict(s: State, slot: u8) -> Verdict
+fn take_ack_verdict(s: State, slot: u8) -> Result<(), Refusal>
     ensures { result ≡ take_ack_verdict s slot }
 {
     let oldest = row_of(s, slot).oldest_ack();
-    let v19 = gate(is_waiting(oldest), Refusal::Nothing, Verdict::Pass);
+    let v19 = gate(is_waiting(oldest), Refusal::Nothing, Ok(()));
     let v4 = gate(slot_ok(s, slot), Refusal::Slot, v19);
     gate(is_sound(s), Refusal::Unsound, v4)
 }
 
 // The link's oldest ack.
-fn ack_answer(s: State, slot: u8) -> TakeAck
+fn ack_answer(s: State, slot: u8) -> Result<Seq, Refusal>
     ensures { result ≡ ack_answer s slot }
 {
     let verdict = take_ack_verdict(s, slot);
     match verdict {
-        Verdict::No(e) => TakeAck::No(e),
-        Verdict::Pass => {
+        Err(e) => Err(e),
+        Ok(()) => {
             let oldest = row_of(s, slot).oldest_ack();
-            TakeAck::Number(ack_in(oldest))
+            Ok(ack_in(oldest))
         }
     }
 }
@@ -297,18 +285,12 @@ pub fn take_ack(s: State, slot: u8) -> TakeAckResult
 {
     let answer = ack_answer(s, slot);
     match answer {
-        TakeAck::No(_) => TakeAckResult { answer, state: s },
-        TakeAck::Number(_) => TakeAckResult {
+        Err(_) => TakeAckResult { answer, state: s },
+        Ok(_) => TakeAckResult {
             answer,
             state: taken_ack_state(s, slot),
         },
     }
-}
-
-#[derive(Clone, Copy)]
-pub enum Due {
-    Is(bool),
-    No(Refusal),
 }
 
 // A Consumed is due above this count: with nobody reading, none need be saved up.
@@ -323,13 +305,13 @@ fn due_above(s: State) -> u32
 }
 
 // Whether the other end is to be told what was taken.
-pub fn is_consume_ack_required(s: State) -> Due
+pub fn is_consume_ack_required(s: State) -> Result<bool, Refusal>
     ensures value { result ≡ due_of s }
     ensures result_value { due_told result ≡ told_by (state_verdict s) (flag (is_due s) ∷ []) }
 {
     if !is_sound(s) {
-        return Due::No(Refusal::Unsound);
+        return Err(Refusal::Unsound);
     }
     let untold = s.rx.rxed_reliable_consumed;
-    Due::Is(due_above(s) < untold)
+    Ok(due_above(s) < untold)
 }

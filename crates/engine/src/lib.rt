@@ -33,26 +33,23 @@ pub mod totals;
 pub mod unconfirming;
 
 pub use acking::ack;
-pub use answer::{Changed, Outcome};
+pub use answer::Changed;
 pub use closing::close_reader;
 pub use deadlines::{ConfirmTimeout, earliest_confirm_timeout};
 pub use flushing::flush;
 pub use handing_out::{
-    Due, HandOut, TakeAck, TakeAckResult, TakeResult, is_consume_ack_required, show, showing, take,
-    take_ack,
+    HandOut, TakeAckResult, TakeResult, is_consume_ack_required, show, showing, take, take_ack,
 };
-pub use links::{AddAnswer, Added, add, block, confirm, mark, ping, pong};
+pub use links::{Added, add, block, confirm, mark, ping, pong};
 pub use receiving::receive;
 pub use records::held_of;
-pub use resending::{ResendAnswer, ResendResult, resend};
+pub use resending::{ResendResult, resend};
 pub use rows::row_of;
-pub use sending::{SendAnswer, SendResult, send};
+pub use sending::{SendResult, send};
 pub use sizes::{DATA_BYTES, LEAST_CELLS, MOST_CELLS, PACKETS, SENT_BYTES, SLOTS};
-pub use slowness::{SlowAnswer, SlowLinks, slow};
+pub use slowness::{SlowLinks, slow};
 pub use sound::{is_sound, is_sound_with};
 pub use starting::fresh;
-pub use state::{
-    Flushed, Held, InFlight, Receiving, Sending, SentReliable, SentReliableStatus, State,
-};
+pub use state::{Held, InFlight, Receiving, Sending, SentReliable, SentReliableStatus, State};
 pub use table::packet_of;
 pub use unconfirming::{remove, unconfirm};

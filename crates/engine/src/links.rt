@@ -12,20 +12,14 @@ use crate::rows::{row_of, with_row, with_time};
 use crate::sizes::{SLOT_END, SLOTS};
 use crate::sound::is_sound;
 use crate::state::State;
+use link::LinkRow;
 use link::sizes::{MAX_TIME, max_ping_within};
-use link::{Limit, LinkRow, MaxPing};
-use refusal::{Refusal, Verdict, both, gate};
+use refusal::{Refusal, both, gate};
 use seq::Seq;
 
 #[derive(Clone, Copy)]
-pub enum AddAnswer {
-    Slot(u8),
-    No(Refusal),
-}
-
-#[derive(Clone, Copy)]
 pub struct Added {
-    pub answer: AddAnswer,
+    pub answer: Result<u8, Refusal>,
     pub state: State,
 }
 
@@ -60,7 +54,13 @@ fn is_taken(links: [LinkRow; SLOTS], link_id: u64) -> bool
     false
 }
 
-fn add_verdict(s: State, slot: u8, link_id: u64, roundtrip: u64, max_ping: MaxPing) -> Verdict
+fn add_verdict(
+    s: State,
+    slot: u8,
+    link_id: u64,
+    roundtrip: u64,
+    max_ping: Option<u64>,
+) -> Result<(), Refusal>
     requires { slot ≡ lowest_in s }
     ensures { result ≡ add_verdict s link_id roundtrip max_ping }
 {
@@ -68,7 +68,7 @@ fn add_verdict(s: State, slot: u8, link_id: u64, roundtrip: u64, max_ping: MaxPi
     let links = s.links;
     let taken = is_taken(links, link_id);
     let timed = both(roundtrip <= MAX_TIME, max_ping_within(max_ping));
-    let known = gate(!taken, Refusal::Identity, Verdict::Pass);
+    let known = gate(!taken, Refusal::Identity, Ok(()));
     let room = gate(slot < SLOT_END, Refusal::NoSlot, known);
     gate(sound, Refusal::Unsound, gate(timed, Refusal::Time, room))
 }
@@ -78,7 +78,7 @@ pub fn add(
     s: State,
     link_id: u64,
     roundtrip: u64,
-    max_ping: MaxPing,
+    max_ping: Option<u64>,
     blocked: bool,
     unconfirmed: bool,
 ) -> Added
@@ -89,14 +89,14 @@ pub fn add(
     let slot = lowest_empty(links);
     let verdict = add_verdict(s, slot, link_id, roundtrip, max_ping);
     match verdict {
-        Verdict::No(e) => Added {
-            answer: AddAnswer::No(e),
+        Err(e) => Added {
+            answer: Err(e),
             state: s,
         },
-        Verdict::Pass => {
+        Ok(()) => {
             let row = LinkRow::fresh(link_id, roundtrip, max_ping, blocked, unconfirmed);
             Added {
-                answer: AddAnswer::Slot(slot),
+                answer: Ok(slot),
                 state: with_row(s, slot, row),
             }
         }
@@ -127,16 +127,16 @@ pub fn mark(s: State, slot: u8, seq: Seq) -> Changed
     ensures outcome_value { outcome_told result.outcome ≡ told_by (slot_verdict s slot) [] }
 {
     let verdict = slot_verdict(s, slot);
-    let row = row_of(s, slot).mark(Limit::At(seq));
+    let row = row_of(s, slot).mark(Some(seq));
     change(verdict, s, with_row(s, slot, row))
 }
 
 // Notes that a ping was sent.
 pub fn ping(s: State, slot: u8, time: u64) -> Changed
     ensures value { result ≡ ping_of s slot time }
-    ensures outcome_value { outcome_told result.outcome ≡ told_by (timed_verdict s slot time Verdict.Pass) [] }
+    ensures outcome_value { outcome_told result.outcome ≡ told_by (timed_verdict s slot time (Ok tt)) [] }
 {
-    let verdict = timed_verdict(s, slot, time, Verdict::Pass);
+    let verdict = timed_verdict(s, slot, time, Ok(()));
     let row = row_of(s, slot).ping(time);
     change(verdict, s, with_time(with_row(s, slot, row), time))
 }
@@ -144,9 +144,9 @@ pub fn ping(s: State, slot: u8, time: u64) -> Changed
 // A pong arrived.
 pub fn pong(s: State, slot: u8, time: u64) -> Changed
     ensures value { result ≡ pong_of s slot time }
-    ensures outcome_value { outcome_told result.outcome ≡ told_by (timed_verdict s slot time Verdict.Pass) [] }
+    ensures outcome_value { outcome_told result.outcome ≡ told_by (timed_verdict s slot time (Ok tt)) [] }
 {
-    let verdict = timed_verdict(s, slot, time, Verdict::Pass);
+    let verdict = timed_verdict(s, slot, time, Ok(()));
     let row = row_of(s, slot).pong(time);
     change(verdict, s, with_time(with_row(s, slot, row), time))
 }

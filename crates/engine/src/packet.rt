@@ -2,7 +2,7 @@
 ghost use Rattle.std.specs.Prelude.{◌≡◌};
 ghost use Rattle.engine.specs.Fields.{new_flight, flushed_flight, new_packet, with_status};
 
-use crate::state::{Flushed, InFlight, SentReliable, SentReliableStatus};
+use crate::state::{InFlight, SentReliable, SentReliableStatus};
 use msg::ReliableMsg;
 use seq::Seq;
 
@@ -12,7 +12,7 @@ impl InFlight {
     {
         InFlight {
             sent: time,
-            flushed: Flushed::Unflushed,
+            flushed: None,
             slot,
             link,
             resent,
@@ -25,14 +25,14 @@ impl InFlight {
     {
         let flushed = self.flushed;
         match flushed {
-            Flushed::Unflushed => InFlight {
+            None => InFlight {
                 sent: self.sent,
-                flushed: Flushed::FlushedAt(time),
+                flushed: Some(time),
                 slot: self.slot,
                 link: self.link,
                 resent: self.resent,
             },
-            Flushed::FlushedAt(_) => self,
+            Some(_) => self,
         }
     }
 }

@@ -7,7 +7,7 @@ ghost use Rattle.engine.specs.Sizes.{PACKETS};
 use crate::ring::next_cell;
 use crate::roster::Roster;
 use crate::sizes::{DATA_BYTES, PACKET_ROUND, PACKETS, SLOT_END, SLOTS};
-use crate::state::{Flushed, Sending, SentReliable, SentReliableStatus};
+use crate::state::{Sending, SentReliable, SentReliableStatus};
 use msg::{LinkMsg, ReliableMsg};
 use refusal::both;
 use seq::Seq;
@@ -68,12 +68,12 @@ pub fn is_queued(status: SentReliableStatus) -> bool
     }
 }
 
-fn flushed_ok(flushed: Flushed, time: u64) -> bool
+fn flushed_ok(flushed: Option<u64>, time: u64) -> bool
     ensures { result ≡ flushed_ok flushed time }
 {
     match flushed {
-        Flushed::Unflushed => true,
-        Flushed::FlushedAt(at) => at <= time,
+        None => true,
+        Some(at) => at <= time,
     }
 }
 

@@ -14,13 +14,13 @@ fn cell_ok(held: Held, k: usize, expected: usize) -> bool
     ensures { result ≡ cell_ok held k expected }
 {
     match held {
-        Held::Nothing => {
+        None => {
             if k == 0 {
                 return expected == 0;
             }
             true
         }
-        Held::Message(msg, len) => {
+        Some((msg, len)) => {
             let long = length_ok(msg, len as usize);
             if k == expected {
                 return false;

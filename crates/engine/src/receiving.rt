@@ -8,7 +8,7 @@ ghost use Rattle.msg.specs.Reliable.{count_of};
 ghost use Rattle.refusal.specs.Answers.{told_by};
 ghost use Rattle.engine.specs.Answer.{outcome_told};
 
-use crate::answer::{Changed, Outcome};
+use crate::answer::Changed;
 use crate::cells::{advance, is_repeat, near_oldest, open_cells};
 use crate::packets::length_ok;
 use crate::records::record_of;
@@ -20,7 +20,7 @@ use crate::state::{Held, Receiving, Sending, State};
 use crate::totals::sum_fits;
 use link::sizes::ACKS;
 use msg::{LinkMsg, ReliableMsg};
-use refusal::{Refusal, Verdict, both, either, gate};
+use refusal::{Refusal, both, either, gate};
 use seq::Seq;
 
 // What is asked of a message in a sound state, with its records.
@@ -31,7 +31,7 @@ fn message_verdict(
     msg: ReliableMsg,
     seq: Seq,
     len: usize,
-) -> Verdict
+) -> Result<(), Refusal>
     requires { Lent s.rx (length records.now) }
     ensures { result ≡ message_verdict s records.now slot msg seq.0 len }
 {
@@ -42,7 +42,7 @@ fn message_verdict(
     let acks = row_of(s, slot).ack_count < ACKS;
     let room = either(again, sum_fits(rx.rxed_reliable_size, len, rx.recv_buffer));
     let consumed = either(again, msg.count() <= s.tx.txed_unconsumed);
-    let v15 = gate(consumed, Refusal::Consumed, Verdict::Pass);
+    let v15 = gate(consumed, Refusal::Consumed, Ok(()));
     let v14 = gate(room, Refusal::Buffer, v15);
     let v13 = gate(acks, Refusal::Acks, v14);
     let v12 = gate(window, Refusal::Window, v13);
@@ -68,14 +68,14 @@ fn receive_verdict(
     msg: ReliableMsg,
     seq: Seq,
     len: usize,
-) -> Verdict
+) -> Result<(), Refusal>
     ensures { result ≡ receive_verdict s store records.now slot msg seq.0 len }
 {
     if !lengths_ok(s.rx, store, records.len()) {
-        return Verdict::No(Refusal::StoreLength);
+        return Err(Refusal::StoreLength);
     }
     if !is_sound_with(s, records) {
-        return Verdict::No(Refusal::Unsound);
+        return Err(Refusal::Unsound);
     }
     message_verdict(s, records, slot, msg, seq, len)
 }
@@ -107,7 +107,7 @@ pub fn store_message(
 {
     let end = open_cells(rx, records, seq);
     let at = cell_at(rx.cells, seq);
-    records[at] = record_of(Held::Message(msg, len));
+    records[at] = record_of(Some((msg, len)));
     let mut out = rx;
     out.rx_end = end;
     out.rxed_reliable_size = rx.rxed_reliable_size + len;
@@ -151,15 +151,15 @@ pub fn receive(
     let len = payload.len();
     let verdict = receive_verdict(s, store.len(), records, slot, msg, seq, len);
     match verdict {
-        Verdict::No(e) => Changed {
-            outcome: Outcome::No(e),
+        Err(e) => Changed {
+            outcome: Err(e),
             state: s,
         },
-        Verdict::Pass => {
+        Ok(()) => {
             let rx = s.rx;
             if is_repeat(rx, records, seq) {
                 return Changed {
-                    outcome: Outcome::Done,
+                    outcome: Ok(()),
                     state: repeated_state(s, slot, seq),
                 };
             }
@@ -168,7 +168,7 @@ pub fn receive(
             store[start..end].copy_from_slice(payload);
             let next = store_message(rx, records, msg, seq, len as u32);
             Changed {
-                outcome: Outcome::Done,
+                outcome: Ok(()),
                 state: received_state(s, slot, msg, seq, next),
             }
         }

@@ -16,8 +16,8 @@ pub fn is_full(held: Held) -> bool
     ensures { result ≡ is_full held }
 {
     match held {
-        Held::Nothing => false,
-        Held::Message(_, _) => true,
+        None => false,
+        Some((_, _)) => true,
     }
 }
 
@@ -25,8 +25,8 @@ pub fn held_bytes(held: Held) -> u32
     ensures { result ≡ held_bytes held }
 {
     match held {
-        Held::Nothing => 0,
-        Held::Message(_, len) => len,
+        None => 0,
+        Some((_, len)) => len,
     }
 }
 
@@ -41,21 +41,21 @@ fn held_as(kind: u8, len: u32, count: u32) -> Held
     ensures { result ≡ held_as kind len count }
 {
     if kind == LinkMsg::MSG_DATA {
-        return Held::Message(ReliableMsg::Data, len);
+        return Some((ReliableMsg::Data, len));
     }
     if kind == LinkMsg::MSG_CONSUMED {
-        return Held::Message(ReliableMsg::Consumed(count), len);
+        return Some((ReliableMsg::Consumed(count), len));
     }
     if kind == LinkMsg::MSG_SEND_FINISH {
-        return Held::Message(ReliableMsg::SendFinish, len);
+        return Some((ReliableMsg::SendFinish, len));
     }
     if kind == LinkMsg::MSG_RECEIVE_CLOSE {
-        return Held::Message(ReliableMsg::ReceiveClose, len);
+        return Some((ReliableMsg::ReceiveClose, len));
     }
     if kind == LinkMsg::MSG_RECEIVE_FINISH {
-        return Held::Message(ReliableMsg::ReceiveFinish, len);
+        return Some((ReliableMsg::ReceiveFinish, len));
     }
-    Held::Nothing
+    None
 }
 
 // The length that a record has.
@@ -81,8 +81,8 @@ pub fn record_of(held: Held) -> u64
     ensures { result ≡ record_of held }
 {
     match held {
-        Held::Nothing => 0,
-        Held::Message(msg, len) => {
+        None => 0,
+        Some((msg, len)) => {
             let kind = msg.kind() as u64;
             let count = msg.count() as u64;
             kind + 0x100 * (len as u64) + 0x1_0000_0000 * count
@@ -111,12 +111,12 @@ fn kept(held: Held) -> Held
     ensures { result ≡ kept_of held }
 {
     match held {
-        Held::Nothing => held,
-        Held::Message(msg, _) => {
+        None => held,
+        Some((msg, _)) => {
             if is_ready_kind(msg) {
                 return held;
             }
-            Held::Nothing
+            None
         }
     }
 }

@@ -12,19 +12,12 @@ use crate::rows::{row_of, with_row};
 use crate::state::{InFlight, SentReliableStatus, State};
 use crate::table::{in_table, packet_of, with_packet};
 use msg::ReliableMsg;
-use refusal::{Refusal, Verdict, both, gate};
+use refusal::{Refusal, both, gate};
 use seq::Seq;
 
 #[derive(Clone, Copy)]
-pub enum ResendAnswer {
-    // the message, and the length of its data
-    Message(ReliableMsg, u32),
-    No(Refusal),
-}
-
-#[derive(Clone, Copy)]
 pub struct ResendResult {
-    pub answer: ResendAnswer,
+    pub answer: Result<(ReliableMsg, u32), Refusal>,
     pub state: State,
 }
 
@@ -39,7 +32,7 @@ pub fn last_link(status: SentReliableStatus) -> u64
     }
 }
 
-fn resend_verdict(s: State, slot: u8, time: u64, seq: Seq) -> Verdict
+fn resend_verdict(s: State, slot: u8, time: u64, seq: Seq) -> Result<(), Refusal>
     ensures { result ≡ resend_verdict s slot time seq.0 }
 {
     let tx = s.tx;
@@ -49,13 +42,13 @@ fn resend_verdict(s: State, slot: u8, time: u64, seq: Seq) -> Verdict
     let queued = both(held, is_queued(status));
     let id = row_of(s, slot).link_id;
     let other = last_link(status) != id;
-    let v17 = gate(other, Refusal::SameIdentity, Verdict::Pass);
+    let v17 = gate(other, Refusal::SameIdentity, Ok(()));
     let v16 = gate(queued, Refusal::NotQueued, v17);
     timed_verdict(s, slot, time, v16)
 }
 
 fn resent_state(s: State, slot: u8, time: u64, seq: Seq) -> State
-    requires { resend_verdict s slot time seq.0 ≡ Verdict.Pass }
+    requires { resend_verdict s slot time seq.0 ≡ Ok tt }
     ensures { result ≡ resent_state s slot time seq.0 }
 {
     let row = row_of(s, slot);
@@ -78,16 +71,16 @@ pub fn resend(s: State, slot: u8, time: u64, seq: Seq) -> ResendResult
 {
     let verdict = resend_verdict(s, slot, time, seq);
     match verdict {
-        Verdict::No(e) => ResendResult {
-            answer: ResendAnswer::No(e),
+        Err(e) => ResendResult {
+            answer: Err(e),
             state: s,
         },
-        Verdict::Pass => {
+        Ok(()) => {
             let tx = s.tx;
             let p = packet_of(tx, seq);
             let msg = p.msg;
             ResendResult {
-                answer: ResendAnswer::Message(msg, p.len),
+                answer: Ok((msg, p.len)),
                 state: resent_state(s, slot, time, seq),
             }
         }

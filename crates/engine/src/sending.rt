@@ -13,18 +13,12 @@ use crate::sound::is_sound;
 use crate::state::{InFlight, Receiving, Sending, SentReliable, SentReliableStatus, State};
 use crate::totals::{MAX_TOTAL, sum_fits};
 use msg::{LinkMsg, ReliableMsg};
-use refusal::{Refusal, Verdict, both, either, gate};
+use refusal::{Refusal, both, either, gate};
 use seq::Seq;
 
 #[derive(Clone, Copy)]
-pub enum SendAnswer {
-    Number(Seq),
-    No(Refusal),
-}
-
-#[derive(Clone, Copy)]
 pub struct SendResult {
-    pub answer: SendAnswer,
+    pub answer: Result<Seq, Refusal>,
     pub state: State,
 }
 
@@ -61,7 +55,7 @@ fn send_verdict(
     time: u64,
     msg: ReliableMsg,
     len: usize,
-) -> Verdict
+) -> Result<(), Refusal>
     ensures { result ≡ send_verdict s store slot time msg len }
 {
     let sound = is_sound(s);
@@ -70,7 +64,7 @@ fn send_verdict(
     let long = length_ok(msg, len);
     let open = open_ok(s.tx.send_finish_sent, msg);
     let totals = totals_ok(s, slot, msg, len);
-    let v10 = gate(s.tx.txed_count < PACKETS, Refusal::Full, Verdict::Pass);
+    let v10 = gate(s.tx.txed_count < PACKETS, Refusal::Full, Ok(()));
     let v9 = gate(totals, Refusal::Total, v10);
     let v8 = gate(open, Refusal::Finished, v9);
     let v7 = gate(long, Refusal::Length, v8);
@@ -140,18 +134,18 @@ pub fn send(
     let len = payload.len();
     let verdict = send_verdict(s, store.len(), slot, time, msg, len);
     match verdict {
-        Verdict::No(e) => SendResult {
-            answer: SendAnswer::No(e),
+        Err(e) => SendResult {
+            answer: Err(e),
             state: s,
         },
-        Verdict::Pass => {
+        Ok(()) => {
             let seq = s.tx.tx_seq;
             let start = (seq.0 % PACKET_ROUND) as usize * DATA_BYTES;
             let end = start + len;
             store[start..end].copy_from_slice(payload);
             let next = sent_state(s, slot, time, msg, len as u32);
             SendResult {
-                answer: SendAnswer::Number(seq),
+                answer: Ok(seq),
                 state: next,
             }
         }

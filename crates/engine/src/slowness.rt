@@ -92,21 +92,15 @@ pub fn slow_rows(rows: [LinkRow; SLOTS]) -> SlowLinks
     list_over(rows)
 }
 
-#[derive(Clone, Copy)]
-pub enum SlowAnswer {
-    Listed(SlowLinks),
-    No(Refusal),
-}
-
 // The slow links of a lent run of rows, which is to be eight long. The answer and what it tells are one clause.
-pub fn slow(rows: &[LinkRow]) -> SlowAnswer
+pub fn slow(rows: &[LinkRow]) -> Result<SlowLinks, Refusal>
     ensures { (result ≡ slow_links_of rows.now) × (slow_told result ≡ told_by (slow_verdict rows.now) (slow_slots rows.now)) }
 {
     if rows.len() != SLOTS {
-        return SlowAnswer::No(Refusal::Slot);
+        return Err(Refusal::Slot);
     }
     let all = [
         rows[0], rows[1], rows[2], rows[3], rows[4], rows[5], rows[6], rows[7],
     ];
-    SlowAnswer::Listed(slow_rows(all))
+    Ok(slow_rows(all))
 }

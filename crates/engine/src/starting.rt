@@ -4,13 +4,13 @@ ghost use Rattle.refusal.specs.Answers.{told_by};
 ghost use Rattle.engine.specs.Answer.{outcome_told};
 ghost use Rattle.engine.specs.Starting.{fresh_tx, fresh_rx, fresh_state, fresh_verdict, fresh_of, fresh_records, RefusedUnsound};
 
-use crate::answer::{Changed, Outcome};
+use crate::answer::Changed;
 use crate::sizes::{DATA_BYTES, PACKETS, SLOTS};
 use crate::sound::is_cell_count;
 use crate::state::{InFlight, Receiving, Sending, SentReliable, SentReliableStatus, State};
 use link::LinkRow;
 use msg::ReliableMsg;
-use refusal::{Refusal, Verdict, both, gate};
+use refusal::{Refusal, both, gate};
 use seq::Seq;
 
 fn fresh_tx(start: Seq) -> Sending
@@ -60,16 +60,12 @@ fn fresh_state(start: Seq, recv_buffer: u32, cells: u32) -> State
     }
 }
 
-pub fn fresh_verdict(recv_buffer: u32, cells: u32, records: usize) -> Verdict
+pub fn fresh_verdict(recv_buffer: u32, cells: u32, records: usize) -> Result<(), Refusal>
     ensures { result ≡ fresh_verdict recv_buffer cells records }
 {
     let most = cells as usize * DATA_BYTES;
     let within = both(1 <= recv_buffer, recv_buffer as usize <= most);
-    let v2 = gate(
-        records == cells as usize,
-        Refusal::StoreLength,
-        Verdict::Pass,
-    );
+    let v2 = gate(records == cells as usize, Refusal::StoreLength, Ok(()));
     gate(both(is_cell_count(cells), within), Refusal::Setting, v2)
 }
 
@@ -94,14 +90,14 @@ pub fn fresh(start: Seq, recv_buffer: u32, cells: u32, records: &mut [u64]) -> C
 {
     let verdict = fresh_verdict(recv_buffer, cells, records.len());
     match verdict {
-        Verdict::No(e) => Changed {
-            outcome: Outcome::No(e),
+        Err(e) => Changed {
+            outcome: Err(e),
             state: fresh_state(start, 0, 0),
         },
-        Verdict::Pass => {
+        Ok(()) => {
             empty_records(records);
             Changed {
-                outcome: Outcome::Done,
+                outcome: Ok(()),
                 state: fresh_state(start, recv_buffer, cells),
             }
         }

@@ -4,25 +4,19 @@ use link::LinkRow;
 use msg::ReliableMsg;
 use seq::Seq;
 
-// When a packet was flushed.
-#[derive(Clone, Copy)]
-pub enum Flushed {
-    Unflushed,
-    FlushedAt(u64),
-}
-
 // A packet that was sent over a link, and is not acknowledged yet.
-#[derive(Clone, Copy)]
+#[derive(Clone, Copy, PartialEq, Eq)]
 pub struct InFlight {
     pub sent: u64,
-    pub flushed: Flushed,
+    // when it was flushed
+    pub flushed: Option<u64>,
     pub slot: u8,
     pub link: u64,
     // whether it was sent before
     pub resent: bool,
 }
 
-#[derive(Clone, Copy)]
+#[derive(Clone, Copy, PartialEq, Eq)]
 pub enum SentReliableStatus {
     Sent(InFlight),
     // Received by the other end.
@@ -32,7 +26,7 @@ pub enum SentReliableStatus {
 }
 
 // A packet of the table. The bytes of a Data are in the sent store, in the cell of its number.
-#[derive(Clone, Copy)]
+#[derive(Clone, Copy, PartialEq, Eq)]
 pub struct SentReliable {
     pub seq: Seq,
     pub msg: ReliableMsg,
@@ -41,14 +35,10 @@ pub struct SentReliable {
 }
 
 // What a receive cell holds: a message and its length. Its record, a word of the lent record space, says so (`records`).
-#[derive(Clone, Copy)]
-pub enum Held {
-    Nothing,
-    Message(ReliableMsg, u32),
-}
+pub type Held = Option<(ReliableMsg, u32)>;
 
 // The sending half.
-#[derive(Clone, Copy)]
+#[derive(Clone, Copy, PartialEq, Eq)]
 pub struct Sending {
     // the number that the next message gets
     pub tx_seq: Seq,
@@ -72,7 +62,7 @@ pub struct Sending {
 }
 
 // The receiving half.
-#[derive(Clone, Copy)]
+#[derive(Clone, Copy, PartialEq, Eq)]
 pub struct Receiving {
     // the next expected number
     pub rx_seq: Seq,
@@ -89,7 +79,7 @@ pub struct Receiving {
     pub rx_end: Seq,
 }
 
-#[derive(Clone, Copy)]
+#[derive(Clone, Copy, PartialEq, Eq)]
 pub struct State {
     pub links: [LinkRow; SLOTS],
     pub tx: Sending,

@@ -8,7 +8,7 @@ ghost use Rattle.engine.specs.Packets.{no_packet};
 ghost use Rattle.engine.specs.Unconfirming.{unconfirmed_packet, unconfirmed_state, removed_state, unconfirm_of, remove_of};
 ghost use Rattle.engine.specs.Sizes.{PACKETS};
 
-use crate::answer::{Changed, Outcome};
+use crate::answer::Changed;
 use crate::gates::slot_verdict;
 use crate::queue::requeue;
 use crate::ring::next_cell;
@@ -17,7 +17,6 @@ use crate::sizes::PACKETS;
 use crate::state::{SentReliable, SentReliableStatus, State};
 use crate::table::first_cell;
 use link::LinkRow;
-use refusal::Verdict;
 
 // A packet Sent over the slot becomes ResendQueued, and remembers the identity.
 pub fn unconfirm_packet(p: SentReliable, slot: u8) -> SentReliable
@@ -82,12 +81,12 @@ pub fn unconfirm(s: State, slot: u8) -> Changed
 {
     let verdict = slot_verdict(s, slot);
     match verdict {
-        Verdict::No(e) => Changed {
-            outcome: Outcome::No(e),
+        Err(e) => Changed {
+            outcome: Err(e),
             state: s,
         },
-        Verdict::Pass => Changed {
-            outcome: Outcome::Done,
+        Ok(()) => Changed {
+            outcome: Ok(()),
             state: unconfirmed_state(s, slot),
         },
     }
@@ -108,12 +107,12 @@ pub fn remove(s: State, slot: u8) -> Changed
 {
     let verdict = slot_verdict(s, slot);
     match verdict {
-        Verdict::No(e) => Changed {
-            outcome: Outcome::No(e),
+        Err(e) => Changed {
+            outcome: Err(e),
             state: s,
         },
-        Verdict::Pass => Changed {
-            outcome: Outcome::Done,
+        Ok(()) => Changed {
+            outcome: Ok(()),
             state: removed_state(s, slot),
         },
     }

@@ -1,5 +1,6 @@
 -- What a packet adds to the tally of its table, found from its words: nothing where it is not well. Assumes nothing.
-use Rattle.std.specs.Prelude.{◌≡◌, ℕ, zero, suc, ◌+◌, ◌-◌, ◌/◌, ◌%◌, ◌^◌, ◌<◌, Bool, true, false, cond, ◌&&◌, List, [], ◌∷◌, get_or, ◌==◌, ◌≢◌, nat_eq, nat_le, slice_index, slice_index_or, slice_set}
+use Rattle.std.specs.Prelude.{◌≡◌, ℕ, zero, suc, ◌+◌, ◌-◌, ◌/◌, ◌%◌, ◌^◌, ◌<◌, Bool, true, false, cond, ◌&&◌, List, [], ◌∷◌, get_or, ◌==◌, ◌≢◌, nat_eq, nat_le, slice_index, slice_index_or, slice_set, Some, None}
+use Rattle.engine.specs.Held.{Held}
 use Rattle.std.proofs.Math.Path.{refl, sym, ap}
 use Rattle.std.proofs.Common.{◌∙◌, arith}
 use borrow.Table.Steps.{cases}
@@ -11,8 +12,6 @@ use Rattle.seq.specs.declared.Seq.{Seq}
 use Rattle.seq.specs.Numbers.{seq_of, plus}
 use Rattle.engine.specs.declared.roster.Roster.{Roster}
 use Rattle.engine.specs.declared.packets.Tally.{Tally}
-use Rattle.engine.specs.declared.state.Held.{Held}
-use Rattle.engine.specs.declared.state.Held.TheVariants.{Nothing, Message}
 use Rattle.engine.specs.declared.state.SentReliable.{SentReliable}
 use Rattle.engine.specs.declared.state.SentReliableStatus.{SentReliableStatus}
 use Rattle.engine.specs.declared.state.SentReliableStatus.TheVariants.{Sent, Received, ResendQueued}
@@ -50,8 +49,8 @@ flight_fine roster xs slot time =
 
 -- a message word is one whose length is well
 abbrev pub held_fine : Held → Bool
-held_fine Nothing = false
-held_fine (Message msg len) = length_ok msg len
+held_fine None = false
+held_fine (Some (msg, len)) = length_ok msg len
 
 -- a tally that is not well, whatever its sums
 abbrev pub spoilt : Tally
@@ -77,8 +76,8 @@ unfolding held_of
 long-word word e = held-long (word % 256) (word / 256 % 16777216) (word / 4294967296) e
 
 fine-full : (h : Held) → held_fine h ≡ true → is_full h ≡ true
-fine-full Nothing e = e
-fine-full (Message msg len) e = refl
+fine-full None e = e
+fine-full (Some (msg, len)) e = refl
 
 -- a Data's, by its word alone
 pub data-fine : (word : ℕ) → DataRecord word → held_fine (held_of word) ≡ true
@@ -87,19 +86,19 @@ data-fine word is = ap held_fine (data-held word is.kind) ∙ data-fits word is
 module _ (n next : Seq) (roster : Roster) (time : ℕ) where
   held-other : (h : Held) (seq : Seq) (st : SentReliableStatus) → (seq.0 == n.0) ≡ false → weight_of (packet_held h seq st) n next roster time ≡ Wrong
   unfolding weight_of packet_ok
-  held-other Nothing seq st e = simp e
-  held-other (Message msg len) seq st e = simp e
+  held-other None seq st e = simp e
+  held-other (Some (msg, len)) seq st e = simp e
 
   held-bad : (h : Held) (seq : Seq) (st : SentReliableStatus) → seq.0 ≡ n.0 → held_fine h ≡ false → weight_of (packet_held h seq st) n next roster time ≡ Wrong
   unfolding weight_of packet_ok length_ok
-  held-bad Nothing seq st q e = simp (eq-eqb seq.0 n.0 q)
-  held-bad (Message msg len) seq st q e = simp (eq-eqb seq.0 n.0 q, e)
+  held-bad None seq st q e = simp (eq-eqb seq.0 n.0 q)
+  held-bad (Some (msg, len)) seq st q e = simp (eq-eqb seq.0 n.0 q, e)
 
   held-well : (h : Held) (seq : Seq) (st : SentReliableStatus) (long : ℕ) → seq.0 ≡ n.0 → held_fine h ≡ true → held_bytes h ≡ long
       → weight_of (packet_held h seq st) n next roster time ≡ cond (status_ok st n next roster time) (weight_by st long) Wrong
   unfolding weight_of packet_ok
-  held-well Nothing seq st long q e l = false-true e
-  held-well (Message msg len) seq st long q e l =
+  held-well None seq st long q e l = false-true e
+  held-well (Some (msg, len)) seq st long q e l =
       let m : seq ≡ n = ap seq_of q in
       simp (eq-eqb seq.0 n.0 q, e) (λ i. cond (status_ok st (m i) next roster time) (weight_by st (l i)) Wrong)
 

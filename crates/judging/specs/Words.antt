@@ -1,5 +1,6 @@
 -- What the tests read of a state's words. Assumes nothing.
-use Rattle.std.specs.Prelude.{◌≡◌, ℕ, ◌+◌, ◌<◌, ◌≤◌, Bool, true, false, ◌&&◌, List, length, ◌==◌, ◌≢◌, nat_eq, nat_le, slice_index, slice_index_or, refl}
+use Rattle.std.specs.Prelude.{◌≡◌, ℕ, ◌+◌, ◌<◌, ◌≤◌, Bool, true, false, ◌&&◌, List, length, ◌==◌, ◌≢◌, nat_eq, nat_le, slice_index, slice_index_or, refl, Some, None}
+use Rattle.engine.specs.Held.{Held}
 use Rattle.std.proofs.Common.{sym, ◌∙◌, arith}
 use Rattle.std.proofs.Math.Path.{ap}
 use borrow.Table.Steps.{cases}
@@ -10,8 +11,6 @@ use Rattle.link.specs.declared.row.LinkRow.{LinkRow}
 use Rattle.link.specs.Sizes.{row_within, MAX_TIME}
 use Rattle.engine.specs.declared.packets.Tally.{Tally}
 use Rattle.engine.specs.declared.state.Sending.{Sending}
-use Rattle.engine.specs.declared.state.Held.{Held}
-use Rattle.engine.specs.declared.state.Held.TheVariants.{Nothing, Message}
 use Rattle.engine.specs.declared.state.SentReliable.{SentReliable}
 use Rattle.engine.specs.declared.state.SentReliableStatus.{SentReliableStatus}
 use Rattle.engine.specs.declared.state.State.{State}
@@ -47,8 +46,8 @@ module _ (w : List ℕ) (long : length w ≡ WORDS) where
       (λ f3. cases (tag == 4) (λ t. simp (f1, f2, f3, t)) (λ f4. simp (f1, f2, f3, f4)))))
 
   held-status : (h : Held) (seq : Seq) (st : SentReliableStatus) → (packet_held h seq st).status ≡ st
-  held-status Nothing seq st = refl
-  held-status (Message msg len) seq st = refl
+  held-status None seq st = refl
+  held-status (Some (msg, len)) seq st = refl
 
   pub tag_read : (k : ℕ) → k < 64 → is_received (slice_index_or (state_of w).tx.txed_packets k no_packet).status ≡ (slice_index w (packet_start k + 2) == 3)
   unfolding packet_of

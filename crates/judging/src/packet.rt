@@ -35,8 +35,8 @@ fn message_ok(word: u64) -> bool
     }
     let held = held_of(word);
     match held {
-        Held::Nothing => false,
-        Held::Message(msg, len) => length_ok(msg, len as usize),
+        None => false,
+        Some((msg, len)) => length_ok(msg, len as usize),
     }
 }
 

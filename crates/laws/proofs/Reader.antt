@@ -1,11 +1,10 @@
 -- Request [4]: "With the reader closed, messages are still received, acked and taken as before." What follows from `alike` over every call of the list.
-use Rattle.std.specs.Prelude.{◌≡◌, refl, ◌≢◌, Bool, false, List, [], ◌∷◌, ℕ, length}
+use Rattle.std.specs.Prelude.{◌≡◌, refl, ◌≢◌, Bool, false, List, [], ◌∷◌, ℕ, length, Ok, Err}
+use Rattle.engine.specs.Held.{HandOut}
+use Rattle.refusal.specs.Verdicts.{Verdict}
 use Rattle.std.proofs.Common.{sym, ◌∙◌}
 use Rattle.std.proofs.Math.Path.{ap}
-use Rattle.refusal.specs.declared.verdict.Verdict.{Verdict}
-use Rattle.refusal.specs.declared.verdict.Verdict.TheVariants.{Pass, No}
 use Rattle.refusal.specs.Answers.{told_by}
-use Rattle.engine.specs.declared.handing_out.HandOut.{HandOut}
 use Rattle.engine.specs.HandingOut.{hand_out_by, part_as, place_as, showing_of, shown_of, shown_at}
 use Rattle.engine.specs.Fields.{with_reader}
 use Rattle.laws.specs.Calls.{Call, Show, Due, Close, Holding, table, verdict, values, told, next}
@@ -23,8 +22,8 @@ module _ (c : Call) (h : Holding) (reads : Bool) where
   reader-left shut = go (verdict c h) refl
     where
       go : (v : Verdict) → verdict c h ≡ v → next c (reading reads h) ≡ reading reads (next c h)
-      go Pass e = left_passed c (reading reads h) ((alike c h reads).0 ∙ e) ∙ (alike c h reads).1.1 shut ∙ ap (reading reads) (sym (left_passed c h e))
-      go (No r) e = left-refused c (reading reads h) r ((alike c h reads).0 ∙ e) ∙ ap (reading reads) (sym (left-refused c h r e))
+      go (Ok tt) e = left_passed c (reading reads h) ((alike c h reads).0 ∙ e) ∙ (alike c h reads).1.1 shut ∙ ap (reading reads) (sym (left_passed c h e))
+      go (Err r) e = left-refused c (reading reads h) r ((alike c h reads).0 ∙ e) ∙ ap (reading reads) (sym (left-refused c h r e))
 
 -- what is shown, and where it lies
 module _ (h : Holding) (reads : Bool) where

@@ -1,9 +1,9 @@
 -- Every call that is given a state, by its name and with what it is given, and what it makes of a state, the two lent stores and the lent records:
 -- the definitions that the calls' promises cite. A call that gives no state leaves all as it came. Assumes nothing.
-use Rattle.std.specs.Prelude.{Bool, cond, List, [], ◌∷◌, ℕ, ◌^◌, ◌<◌, length}
+use Rattle.std.specs.Prelude.{Bool, cond, List, [], ◌∷◌, ℕ, ◌^◌, ◌<◌, length, Some, Option, Ok}
+use Rattle.refusal.specs.Verdicts.{Verdict}
 use Rattle.seq.specs.declared.Seq.{Seq}
 use Rattle.msg.specs.declared.reliable.ReliableMsg.{ReliableMsg}
-use Rattle.link.specs.declared.row.MaxPing.{MaxPing}
 use Rattle.link.specs.declared.timeout.AckTimeout.{AckTimeout}
 use Rattle.engine.specs.declared.state.State.{State}
 use Rattle.engine.specs.Links.{add_of, confirm_of, block_of, mark_of, ping_of, pong_of, add_verdict, lowest_in, AddPassed}
@@ -21,8 +21,6 @@ use Rattle.link.specs.Acks.{oldest_ack}
 use Rattle.refusal.specs.Answers.{Told, told_by, flag}
 use Rattle.engine.specs.HandingOut.{ready_values, ack_in, is_due, take_of, take_records, take_ack_of, ready_of, msg_in, data_length, show_verdict, take_verdict, taken_table, taken_state, Taking, take_ack_verdict, taken_ack_state, TakeAckPassed}
 use Rattle.engine.specs.Deadlines.{first_sent, named_values, confirm_timeout_verdict}
-use Rattle.refusal.specs.declared.verdict.Verdict.{Verdict}
-use Rattle.link.specs.declared.row.Limit.TheVariants.{At}
 use Rattle.link.specs.Row.{fresh_row, confirmed, blocked_row}
 use Rattle.link.specs.Limit.{marked_row}
 use Rattle.link.specs.Roundtrip.{pinged, ponged}
@@ -34,10 +32,9 @@ use Rattle.engine.specs.Received.{RxTable, table_of}
 use Rattle.engine.specs.Cells.{is_repeat}
 use Rattle.engine.specs.Sizes.{PACKETS}
 use Rattle.engine.specs.Fields.{with_row, with_time}
-use Rattle.refusal.specs.declared.verdict.Verdict.TheVariants as verdicts
 
 pub data Call : Type 0 where
-  Add : (id roundtrip : ℕ) (max : MaxPing) (blocked unconfirmed : Bool) → Call
+  Add : (id roundtrip : ℕ) (max : Option ℕ) (blocked unconfirmed : Bool) → Call
   Remove Confirm Unconfirm : (slot : ℕ) → Call
   Block : (slot : ℕ) (blocked : Bool) → Call
   Mark : (slot : ℕ) (seq : Seq) → Call
@@ -71,9 +68,9 @@ verdict (Confirm slot) h = slot_verdict h.state slot
 verdict (Unconfirm slot) h = slot_verdict h.state slot
 verdict (Block slot blocked) h = slot_verdict h.state slot
 verdict (Mark slot seq) h = slot_verdict h.state slot
-verdict (Ping slot time) h = timed_verdict h.state slot time verdicts.Pass
-verdict (Pong slot time) h = timed_verdict h.state slot time verdicts.Pass
-verdict (Flush slot time) h = timed_verdict h.state slot time verdicts.Pass
+verdict (Ping slot time) h = timed_verdict h.state slot time (Ok tt)
+verdict (Pong slot time) h = timed_verdict h.state slot time (Ok tt)
+verdict (Flush slot time) h = timed_verdict h.state slot time (Ok tt)
 verdict (Send slot time msg bytes) h = send_verdict h.state (length h.sent) slot time msg (length bytes)
 verdict (Resend slot time n) h = resend_verdict h.state slot time n
 verdict (Ack slot time n) h = ack_verdict h.state slot time n
@@ -207,7 +204,7 @@ done (Remove slot) h = with_state h (removed_state h.state slot)
 done (Confirm slot) h = with_state h (with_row h.state slot (confirmed (row_of h.state slot)))
 done (Unconfirm slot) h = with_state h (unconfirmed_state h.state slot)
 done (Block slot blocked) h = with_state h (with_row h.state slot (blocked_row (row_of h.state slot) blocked))
-done (Mark slot seq) h = with_state h (with_row h.state slot (marked_row (row_of h.state slot) (At seq)))
+done (Mark slot seq) h = with_state h (with_row h.state slot (marked_row (row_of h.state slot) (Some seq)))
 done (Ping slot time) h = with_state h (with_time (with_row h.state slot (pinged (row_of h.state slot) time)) time)
 done (Pong slot time) h = with_state h (with_time (with_row h.state slot (ponged (row_of h.state slot) time)) time)
 done (Flush slot time) h = with_state h (flushed_state h.state slot time)

@@ -1,7 +1,8 @@
 -- What Receive and taking a message do to the receive table, cell by cell, over the cell count N. A cell is named by how many numbers it is past the number
 -- that was the oldest before the call, 0 to N − 1: so none is named twice while the oldest moves on. And such a call leaves a good state good, with sound
 -- records. Assumes nothing.
-use Rattle.std.specs.Prelude.{◌≡◌, Bool, cond, ◌||◌, List, [], ◌∷◌, eqb, ltb, length, get_or, replicate}
+use Rattle.std.specs.Prelude.{◌≡◌, Bool, cond, ◌||◌, List, [], ◌∷◌, eqb, ltb, length, get_or, replicate, Some, None}
+use Rattle.engine.specs.Held.{Held}
 use Rattle.std.proofs.Math.Path.{refl, sym, ap, ap₂}
 use Rattle.std.proofs.Common.{◌∙◌, mod-lt, add-zero, zero-add, suc-add, get_or-set_same, get_or-set_other}
 use Rattle.std.proofs.Math.Bool.{true, false, ◌&&◌, not}
@@ -18,8 +19,6 @@ use Rattle.seq.specs.Distance.{past, past_near, past-ahead, past-counted, past-p
 use Rattle.refusal.specs.Tests.{false-true, split, same_test}
 use Rattle.msg.specs.declared.reliable.ReliableMsg.{ReliableMsg}
 use Rattle.msg.specs.Reliable.{is_kind, MSG_DATA, MSG_SEND_FINISH}
-use Rattle.engine.specs.declared.state.Held.{Held}
-use Rattle.engine.specs.declared.state.Held.TheVariants.{Nothing, Message}
 use Rattle.engine.specs.declared.state.Receiving.{Receiving}
 use Rattle.engine.specs.declared.state.State.{State}
 use Rattle.engine.specs.CellCount.{CellCount, cell-count}
@@ -61,10 +60,10 @@ pub record Passes (N : ℕ) (old new : RxTable) (c : ℕ → Held) : Type 0 wher
   pub full : (k : ℕ) → expected_at old.rx ≤ k → k < expected_at old.rx + passed → is_full (c k) ≡ true
   pub stops : expected_at old.rx + passed < N → is_full (c (expected_at old.rx + passed)) ≡ false
   -- the oldest is the first that is ready
-  pub emptied : (k : ℕ) → k < gone → held_past N new old.rx.rx_oldest.0 k ≡ Nothing
+  pub emptied : (k : ℕ) → k < gone → held_past N new old.rx.rx_oldest.0 k ≡ None
   pub stands : gone < expected_at old.rx + passed → is_full (held_past N new old.rx.rx_oldest.0 gone) ≡ true
   -- nothing is held from the end on, also where the cells come round, and the last before it holds something
-  pub beyond : (k : ℕ) → end ≤ k → k < gone + 2 ^ 30 → held_past N new old.rx.rx_oldest.0 k ≡ Nothing
+  pub beyond : (k : ℕ) → end ≤ k → k < gone + 2 ^ 30 → held_past N new old.rx.rx_oldest.0 k ≡ None
   pub newest : (k : ℕ) → expected_at old.rx + passed ≤ k → suc k ≡ end → is_full (c k) ≡ true
   -- each word in use is a record
   pub recorded : (k : ℕ) → gone ≤ k → k < end → is_record (get_or new.records (plus old.rx.rx_oldest.0 k % N) 0) ≡ true
@@ -79,7 +78,7 @@ pub record Table (N : ℕ) (t : RxTable) : Type 0 where
   pub near : expected_at t.rx ≤ in_use t.rx
   pub used : in_use t.rx ≤ N
   pub oldest : 0 < expected_at t.rx → is_full (held_past N t t.rx.rx_oldest.0 0) ≡ true
-  pub held : held_past N t t.rx.rx_oldest.0 (expected_at t.rx) ≡ Nothing
+  pub held : held_past N t t.rx.rx_oldest.0 (expected_at t.rx) ≡ None
   pub newest : (k : ℕ) → expected_at t.rx ≤ k → suc k ≡ in_use t.rx → is_full (held_past N t t.rx.rx_oldest.0 k) ≡ true
   pub recorded : (k : ℕ) → k < in_use t.rx → is_record (get_or t.records (plus t.rx.rx_oldest.0 k % N) 0) ≡ true
 
@@ -134,9 +133,9 @@ one_more P n old new k l = cases (eqb k n) (λ t. rw (eqb-true k n t) new) (λ t
 -- ---- a message
 
 -- what is not full holds nothing
-pub not_full : (h : Held) → is_full h ≡ false → h ≡ Nothing
-not_full Nothing e = refl
-not_full (Message msg len) e = false-true (sym e)
+pub not_full : (h : Held) → is_full h ≡ false → h ≡ None
+not_full None e = refl
+not_full (Some (msg, len)) e = false-true (sym e)
 
 -- of two tests, neither holds
 pub neither : (a b : Bool) → (a || b) ≡ false → (a ≡ false) × (b ≡ false)
@@ -145,8 +144,8 @@ neither false b e = (refl, e)
 
 -- what stays in a passed cell is ready, fits, and has the bytes that were there
 stays : (h : Held) → LengthWithin h → ReadyKind (kept_of h) × LengthWithin (kept_of h) × (held_bytes (kept_of h) ≡ held_bytes h)
-stays Nothing w = (tt, tt, refl)
-stays (Message msg len) w =
+stays None w = (tt, tt, refl)
+stays (Some (msg, len)) w =
     cases (is_ready_kind msg) (λ t. simp t (refl, w, refl))
     (λ f. simp f (tt, tt, sym (length_none msg len (neither (is_kind MSG_DATA msg) (is_kind MSG_SEND_FINISH msg) f).0 w)))
 
@@ -187,7 +186,7 @@ sum-but f g zero at l e = absurd (omega arith)
 sum-but f g (suc n) zero l e = omega (arith, sum_same (λ k. f (suc k)) (λ k. g (suc k)) n (λ k u. e (suc k) (λ q. omega arith)))
 sum-but f g (suc n) (suc at) l e = omega (arith, e 0 (λ q. omega arith), sum-but (λ k. f (suc k)) (λ k. g (suc k)) n at (omega arith) (λ k ne. e (suc k) (λ q. ne (omega arith))))
 
-bytes-sum : (hs : List Held) → bytes_in hs ≡ sum_over (λ k. held_bytes (get_or hs k Nothing)) (length hs)
+bytes-sum : (hs : List Held) → bytes_in hs ≡ sum_over (λ k. held_bytes (get_or hs k None)) (length hs)
 unfolding bytes_in sum_over
 bytes-sum [] = refl
 bytes-sum (h ∷ hs) = omega (arith, bytes-sum hs)
@@ -349,7 +348,7 @@ module _ (N : ℕ) (count : CellCount N) (old : RxTable) (table : Table N old) w
         let none = not_full _ (was.emptied k (omega (arith, ltb-false g (suc k) b))) in
         cases (ltb (past (plus o k) t.rx.rx_oldest.0) (in_use t.rx)) (λ d. simp d) (λ d. simp d (sym none)))
 
-    held_out : (k : ℕ) → U ≤ k → k < g + 2 ^ 30 → held_past N t o k ≡ Nothing
+    held_out : (k : ℕ) → U ≤ k → k < g + 2 ^ 30 → held_past N t o k ≡ None
     unfolding cell_of is_used
     held_out k l u =
         let low : g ≤ U = omega (arith, was.behind, was.over.within) in
@@ -530,7 +529,7 @@ module _ (N : ℕ) (count : CellCount N) (old : RxTable) (table : Table N old) w
     at = past n o
 
     abbrev x : ℕ
-    x = record_of (Message msg len)
+    x = record_of (Some (msg, len))
 
     at-few : at < N
     unfolding near_oldest
@@ -591,12 +590,12 @@ module _ (N : ℕ) (count : CellCount N) (old : RxTable) (table : Table N old) w
           simp b (ap is_full (held-past k (omega (arith, last, table.used, count.few))) ∙ table.newest k l last));
     }
 
-    pub stored-passes : Passes N old (stored_in N old msg n len) (held_but N old at (Message msg len))
+    pub stored-passes : Passes N old (stored_in N old msg n len) (held_but N old at (Some (msg, len)))
     unfolding held_at
     stored-passes =
-        let said = held-but at x (Message msg len) (held-record msg len short) in
-        let oldest : 0 < E → is_full (held_but N old at (Message msg len) 0) ≡ true = λ l. cases (eqb 0 at) (λ b. simp b) (λ b. simp b (table.oldest l)) in
-        passes_same _ (λ k. held_of (w k)) (held_but N old at (Message msg len)) said
+        let said = held-but at x (Some (msg, len)) (held-record msg len short) in
+        let oldest : 0 < E → is_full (held_but N old at (Some (msg, len)) 0) ≡ true = λ l. cases (eqb 0 at) (λ b. simp b) (λ b. simp b (table.oldest l)) in
+        passes_same _ (λ k. held_of (w k)) (held_but N old at (Some (msg, len))) said
         (advances w U stored-words.1 words (put_in N old msg n len)
         (0, 0, start, omega (arith, stored-words.1), λ l. ap (λ v. is_full (held_of v)) (start.over.other 0 (omega (arith, stored-words.4)) (λ a. omega arith)) ∙ ap is_full (said 0 (omega arith)) ∙ oldest (omega arith)))
 
@@ -606,7 +605,7 @@ module _ (N : ℕ) (count : CellCount N) (old : RxTable) (table : Table N old) w
   empty-first records e = ap (λ v. is_full (held_of v)) e ∙ ap is_full held_none
 
   -- the oldest ready message is taken
-  pub taken-passes : (bytes : ℕ) → 0 < expected_at old.rx → Passes N old (taken_in N old bytes) (held_but N old 0 Nothing)
+  pub taken-passes : (bytes : ℕ) → 0 < expected_at old.rx → Passes N old (taken_in N old bytes) (held_but N old 0 None)
   unfolding taken_in passed_by
   taken-passes bytes some =
       let U = in_use old.rx in
@@ -627,9 +626,9 @@ module _ (N : ℕ) (count : CellCount N) (old : RxTable) (table : Table N old) w
       moved-not w U (table_of old.rx emptied) low refl refl end-at (length-set old.records _ _ ∙ table.cells-N)
       (λ k l. seen k (omega arith) ∙ cases (eqb k 0) (λ b. simp b) (λ b. simp (b, lt-ltb k U l))) in
       let on = by_one w U few words 0 0 (table_of old.rx emptied) start (omega arith) (empty-first emptied (start.over.other 0 (omega arith) (λ a. omega arith))) in
-      let said = held-but 0 0 Nothing held_none in
+      let said = held-but 0 0 None held_none in
       let z : E + 0 ≡ E = omega arith in
-      passes_same _ (λ k. held_of (w k)) (held_but N old 0 Nothing) said
+      passes_same _ (λ k. held_of (w k)) (held_but N old 0 None) said
       (skips w U few words emptied (with_bytes (passed_by old.rx) (old.rx.rxed_reliable_size - bytes) (old.rx.rxed_reliable_consumed + bytes)) 1
       (record { over = on.over; oldest-is = on.oldest-is; end_is = on.end_is; behind = on.behind; emptied = on.emptied })
       (λ l. ap is_full (said (E + 0) (omega (arith, near-expected))) ∙ simp (z, ne_eqb E 0 (λ q. omega arith)) (ap is_full table.held)))
@@ -666,7 +665,7 @@ module _ (N : ℕ) (count : CellCount N) (old : RxTable) (table : Table N old) w
     oldest-then : new.rx.rx_oldest.0 < 2 ^ 32
     oldest-then = rw (ap (λ q. q.0) pass.oldest-is) (plus-lt o pass.gone)
 
-    view_then : (k : ℕ) → k < 2 ^ 30 → get_or (cell_view N new) k Nothing ≡ held_past N new o (pass.gone + k)
+    view_then : (k : ℕ) → k < 2 ^ 30 → get_or (cell_view N new) k None ≡ held_past N new o (pass.gone + k)
     view_then k l = view-cell N count new oldest-then k l ∙ ap (cell_of N new) (ap (λ q. plus q.0 k) pass.oldest-is ∙ plus-plus o pass.gone k)
 
     -- the changed cell's bytes go, and others come
@@ -676,7 +675,7 @@ module _ (N : ℕ) (count : CellCount N) (old : RxTable) (table : Table N old) w
         let gone-le : pass.gone + (pass.end - pass.gone) ≡ pass.end = omega (arith, pass.behind, pass.within) in
         let long-new : length (cell_view N new) ≡ pass.end - pass.gone = length-map (record_view N new) held_of ∙ window-length N 0 new.records _ (in_use new.rx) ∙ used-then in
         let a : bytes_in (cell_view N new) ≡ sum_over (λ k. hb new (pass.gone + k)) (pass.end - pass.gone) =
-        bytes-sum (cell_view N new) ∙ ap (sum_over (λ k. held_bytes (get_or (cell_view N new) k Nothing))) long-new
+        bytes-sum (cell_view N new) ∙ ap (sum_over (λ k. held_bytes (get_or (cell_view N new) k None))) long-new
         ∙ sum_same _ (λ k. hb new (pass.gone + k)) (pass.end - pass.gone) (λ k lk. ap held_bytes (view_then k (omega (arith, pass.used, count.few)))) in
         let b : sum_over (hb new) pass.end ≡ sum_over (hb new) pass.gone + sum_over (λ k. hb new (pass.gone + k)) (pass.end - pass.gone) =
         ap (sum_over (hb new)) (sym gone-le) ∙ sum-split (hb new) pass.gone (pass.end - pass.gone) in
@@ -695,7 +694,7 @@ module _ (N : ℕ) (count : CellCount N) (old : RxTable) (table : Table N old) w
             let f : ℕ → ℕ = λ k. held_bytes (held_past N old o k) in
             let whole : in_use old.rx + (m - in_use old.rx) ≡ m = omega arith in
             let a : bytes_in (cell_view N old) ≡ sum_over f (in_use old.rx) =
-            bytes-sum (cell_view N old) ∙ ap (sum_over (λ k. held_bytes (get_or (cell_view N old) k Nothing))) long
+            bytes-sum (cell_view N old) ∙ ap (sum_over (λ k. held_bytes (get_or (cell_view N old) k None))) long
             ∙ sum_same _ f (in_use old.rx) (λ k lk. ap held_bytes (view-cell N count old table.oldest-u32 k (omega arith))) in
             let none : sum_over (λ k. f (in_use old.rx + k)) (m - in_use old.rx) ≡ 0 =
             sum-none _ (m - in_use old.rx) (λ k lk. ap held_bytes (sym (view-cell N count old table.oldest-u32 (in_use old.rx + k) (omega arith)) ∙ view-none N count old (in_use old.rx + k) (omega arith))) in
@@ -714,7 +713,7 @@ module _ (N : ℕ) (count : CellCount N) (old : RxTable) (table : Table N old) w
       recorded = λ k lk. rw (same, view-record N count new k lk, ap (λ q. plus q.0 k) pass.oldest-is ∙ plus-plus o pass.gone k) (pass.recorded (pass.gone + k) (omega arith) (omega (arith, used-then)));
     }
       where
-        none_then : get_or (cell_view N new) (expected_at new.rx) Nothing ≡ Nothing
+        none_then : get_or (cell_view N new) (expected_at new.rx) None ≡ None
         none_then =
             let at : pass.gone + expected_at new.rx ≡ on = omega (arith, expected-then, pass.behind) in
             view_then (expected_at new.rx) (omega (arith, expected-then, pass.within, pass.used, count.few)) ∙ ap (held_past N new o) at

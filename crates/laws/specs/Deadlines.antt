@@ -1,11 +1,10 @@
 -- Document 02, [1], what holds of a deadline and of the packet that is named: the deadline lies between the bounds and grows with
 -- the round trip; a state without a Sent packet names none, one with a Sent packet names the oldest; and which is named after a call that
 -- changes packets, by one law over the packets (`first-changed`). Assumes nothing.
-use Rattle.std.specs.Prelude.{◌≡◌, refl, Bool, true, false, cond, List, [], ◌∷◌, map, ℕ, zero, suc, ◌+◌, ◌^◌, ◌≤◌, ◌<◌, length, get_or}
+use Rattle.std.specs.Prelude.{◌≡◌, refl, Bool, true, false, cond, List, [], ◌∷◌, map, ℕ, zero, suc, ◌+◌, ◌^◌, ◌≤◌, ◌<◌, length, get_or, Some, None, Option, Ok}
 use Rattle.std.proofs.Common.{sym, ◌∙◌, arith}
 use Rattle.std.proofs.Math.Path.{ap}
 use borrow.Table.Steps.{cases}
-use Rattle.refusal.specs.declared.verdict.Verdict.TheVariants.{Pass}
 use Rattle.refusal.specs.Tests.{false-true}
 use Rattle.link.specs.declared.timeout.AckTimeout.{AckTimeout}
 use Rattle.link.specs.Timeout.{duration-between, duration-grows, bounded}
@@ -14,9 +13,6 @@ use Rattle.engine.specs.declared.state.SentReliableStatus.{SentReliableStatus}
 use Rattle.engine.specs.declared.state.SentReliableStatus.TheVariants.{Sent, Received, ResendQueued}
 use Rattle.engine.specs.declared.state.SentReliable.{SentReliable}
 use Rattle.engine.specs.declared.state.State.{State}
-use Rattle.engine.specs.declared.deadlines.FirstSent.{FirstSent}
-use Rattle.engine.specs.declared.deadlines.FirstSent.TheVariants.{Nothing, Is}
-use Rattle.engine.specs.declared.deadlines.ConfirmTimeout.TheVariants as timeouts
 use Rattle.engine.specs.Answer.{changed_by}
 use Rattle.engine.specs.Gates.{slot_verdict, timed_verdict}
 use Rattle.engine.specs.Packets.{no_packet, packets, is_sent}
@@ -33,7 +29,7 @@ use Rattle.laws.specs.PacketEffects.{change_at, swept, sweep-keeps, resent_statu
 
 -- ---- the deadline
 
-module _ (s : State) (flight : InFlight) (timeout : AckTimeout) (unreliable : Bool) (passed : confirm_timeout_verdict s timeout ≡ Pass) where
+module _ (s : State) (flight : InFlight) (timeout : AckTimeout) (unreliable : Bool) (passed : confirm_timeout_verdict s timeout ≡ Ok tt) where
   -- it lies between the minimum and the maximum past the time that the packet was definitely sent ..
   pub deadline-between : (definitely_sent flight + timeout.min ≤ deadline_of s flight timeout unreliable)
       × (deadline_of s flight timeout unreliable ≤ definitely_sent flight + timeout.max)
@@ -54,13 +50,13 @@ module _ (s : State) (flight : InFlight) (timeout : AckTimeout) (unreliable : Bo
 -- ---- the packet that is named, over a list of packets
 
 -- no packet is Sent: none is found
-pub none_found : (ps : List SentReliable) → ((i : ℕ) → i < length ps → is_sent (get_or ps i no_packet).status ≡ false) → first_sent ps ≡ Nothing
+pub none_found : (ps : List SentReliable) → ((i : ℕ) → i < length ps → is_sent (get_or ps i no_packet).status ≡ false) → first_sent ps ≡ None
 unfolding first_sent
 none_found [] none = refl
 none_found (p ∷ ps) none = simp (none 0 (omega arith), none_found ps (λ i l. none (suc i) (omega arith)))
 
 -- the oldest is found
-pub oldest-found : (ps : List SentReliable) (i : ℕ) (flight : InFlight) → Oldest ps i flight → first_sent ps ≡ Is flight
+pub oldest-found : (ps : List SentReliable) (i : ℕ) (flight : InFlight) → Oldest ps i flight → first_sent ps ≡ Some flight
 unfolding first_sent
 oldest-found [] i flight o = absurd (omega (arith, o.inside))
 oldest-found (p ∷ ps) zero flight o = simp o.here
@@ -92,20 +88,20 @@ oldest-of (p ∷ ps) (suc i) h sent =
 
 -- ---- the call
 
-module _ (s : State) (timeout : AckTimeout) (unreliable : Bool) (passed : confirm_timeout_verdict s timeout ≡ Pass) where
+module _ (s : State) (timeout : AckTimeout) (unreliable : Bool) (passed : confirm_timeout_verdict s timeout ≡ Ok tt) where
   pub names : earliest_confirm_timeout_of s timeout unreliable ≡ named_by (first_sent (packets s.tx)) s timeout unreliable
   unfolding earliest_confirm_timeout_of
   names = ap (λ v. confirm_timeout_by v (named_by (first_sent (packets s.tx)) s timeout unreliable)) passed
 
   -- "No Sent packet: none is named."
-  pub names-none : ((i : ℕ) → i < s.tx.txed_count → is_sent (packet_at s i).status ≡ false) → earliest_confirm_timeout_of s timeout unreliable ≡ timeouts.Nothing
+  pub names-none : ((i : ℕ) → i < s.tx.txed_count → is_sent (packet_at s i).status ≡ false) → earliest_confirm_timeout_of s timeout unreliable ≡ Ok None
   names-none none =
       names ∙ ap (λ f. named_by f s timeout unreliable) (none_found (packets s.tx) (λ i h. none i (omega (arith, packets-count s.tx))))
 
   -- "the first packet in table order that is Sent": of a Sent packet's place and those before it
   pub names-oldest : (i : ℕ) → i < s.tx.txed_count → is_sent (packet_at s i).status ≡ true
       → (j : ℕ) × (flight : InFlight) × (j ≤ i) × Oldest (packets s.tx) j flight
-      × (earliest_confirm_timeout_of s timeout unreliable ≡ timeouts.Packet flight.slot (was_flushed flight.flushed) (deadline_of s flight timeout unreliable))
+      × (earliest_confirm_timeout_of s timeout unreliable ≡ Ok (Some (flight.slot, (was_flushed flight.flushed), (deadline_of s flight timeout unreliable))))
   names-oldest i h sent =
       let o = oldest-of (packets s.tx) i (omega (arith, packets-count s.tx)) sent in
       (o.0, o.1, o.2, o.3, names ∙ ap (λ f. named_by f s timeout unreliable) (oldest-found (packets s.tx) o.0 o.1 o.3))
@@ -113,8 +109,8 @@ module _ (s : State) (timeout : AckTimeout) (unreliable : Bool) (passed : confir
 -- ---- after a change of statuses
 
 -- the first packet that is Sent once each has the status that a change gives it
-unfoldable pub first_left : (SentReliable → SentReliableStatus) → List SentReliable → FirstSent
-first_left change [] = Nothing
+unfoldable pub first_left : (SentReliable → SentReliableStatus) → List SentReliable → Option InFlight
+first_left change [] = None
 first_left change (p ∷ ps) = cond (is_sent (change p)) (in_flight (change p)) (first_left change ps)
 
 -- the law over the packets: where every place has the status that the change gives it, the packet named is the first that is left Sent
@@ -138,19 +134,19 @@ sweep-sent ps = sweep-keeps (λ ps qs. first_sent qs ≡ first_sent ps) (λ ps. 
 -- ---- the calls, accepted; a refused one changes nothing
 
 module _ (s : State) (good : Good s) where
-  pub flush-names : (slot time : ℕ) → timed_verdict s slot time Pass ≡ Pass
+  pub flush-names : (slot time : ℕ) → timed_verdict s slot time (Ok tt) ≡ Ok tt
       → first_sent (packets (flush_of s slot time).state.tx) ≡ first_left (λ p. (flushed_packet slot time p).status) (packets s.tx)
   unfolding flush_of
   flush-names slot time e =
       ap (λ v. first_sent (packets (changed_by v s (flushed_state s slot time)).state.tx)) e ∙ ap first_sent (flushed-packets s good slot time) ∙ first-mapped _ (packets s.tx)
 
-  pub unconfirm-names : (slot : ℕ) → slot_verdict s slot ≡ Pass
+  pub unconfirm-names : (slot : ℕ) → slot_verdict s slot ≡ Ok tt
       → first_sent (packets (unconfirm_of s slot).state.tx) ≡ first_left (λ p. (unconfirmed_packet slot p).status) (packets s.tx)
   unfolding unconfirm_of
   unconfirm-names slot e =
       ap (λ v. first_sent (packets (changed_by v s (unconfirmed_state s slot)).state.tx)) e ∙ ap first_sent (unconfirmed-packets s good slot) ∙ first-mapped _ (packets s.tx)
 
-  pub resend-names : (slot time n : ℕ) → n < 2 ^ 32 → resend_verdict s slot time n ≡ Pass
+  pub resend-names : (slot time n : ℕ) → n < 2 ^ 32 → resend_verdict s slot time n ≡ Ok tt
       → first_sent (packets (resend_of s slot time n).state.tx) ≡ first_left (change_at n (resent_status s slot time)) (packets s.tx)
   unfolding resend_of
   resend-names slot time n u32 e =
@@ -158,7 +154,7 @@ module _ (s : State) (good : Good s) where
       ∙ ap first_sent (resent-packets s good slot time n u32 (resend-passed s slot time n good.shaped u32 e).held)
       ∙ first-mapped _ (packets s.tx)
 
-  pub ack-names : (slot time a : ℕ) → a < 2 ^ 32 → ack_verdict s slot time a ≡ Pass
+  pub ack-names : (slot time a : ℕ) → a < 2 ^ 32 → ack_verdict s slot time a ≡ Ok tt
       → first_sent (packets (ack_of s slot time a).state.tx) ≡ first_left (change_at a (settled slot)) (packets s.tx)
   unfolding ack_of
   ack-names slot time a u32 e =

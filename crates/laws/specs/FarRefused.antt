@@ -1,17 +1,15 @@
 -- Document 02 [5]: "22 Far, for receive and ack, checked after 7 and before 11". It is given exactly where what is checked before it passes and the
 -- number is far. Assumes nothing.
-use Rattle.std.specs.Prelude.{◌≡◌, refl, ◌≢◌, Bool, true, false, ◌||◌, List, [], ℕ, ltb, length}
+use Rattle.std.specs.Prelude.{◌≡◌, refl, ◌≢◌, Bool, true, false, ◌||◌, List, [], ℕ, ltb, length, Ok, Err}
 use Rattle.std.proofs.Common.{arith}
 use Rattle.std.proofs.Math.Dec.{leb}
 use Rattle.seq.specs.Numbers.{USABLE_INTERVAL}
 use Rattle.seq.specs.Distance.{near, past}
 use Rattle.msg.specs.declared.reliable.ReliableMsg.{ReliableMsg}
 use Rattle.refusal.specs.declared.Refusal.{Refusal}
-use Rattle.refusal.specs.declared.verdict.Verdict.{Verdict}
-use Rattle.refusal.specs.declared.verdict.Verdict.TheVariants.{Pass, No}
 use Rattle.refusal.specs.Refusals.{number_of, refuse}
 use Rattle.refusal.specs.Answers.{told_by}
-use Rattle.refusal.specs.Verdicts.{gate_by}
+use Rattle.refusal.specs.Verdicts.{Verdict, gate_by}
 use Rattle.link.specs.Sizes.{ACKS}
 use Rattle.engine.specs.declared.state.State.{State}
 use Rattle.engine.specs.Decide.{soundb, sound_withb}
@@ -39,7 +37,7 @@ shut : (ok : Bool) (e : Refusal) (rest : Verdict) → (Says22 rest → ⊥) → 
 shut true e rest none h = absurd (none h)
 shut false e rest none h = refl
 
-passes : Says22 Pass → ⊥
+passes : Says22 (Ok tt) → ⊥
 passes h = omega (arith, h.number)
 
 -- ---- receive
@@ -53,7 +51,7 @@ module _ (s : State) (store : ℕ) (records : List ℕ) (slot : ℕ) (msg : Reli
     pub within : length_ok msg len ≡ true
     pub far : near n s.rx.rx_seq.0 ≡ false
 
-  pub receive-far : FarReceived → receive_verdict s store records slot msg n len ≡ No (refuse 22 tt)
+  pub receive-far : FarReceived → receive_verdict s store records slot msg n len ≡ Err (refuse 22 tt)
   unfolding receive_verdict message_verdict
   receive-far h = simp (h.lent, h.sound, h.linked, h.within, h.far)
 
@@ -75,7 +73,7 @@ module _ (s : State) (store : ℕ) (records : List ℕ) (slot : ℕ) (msg : Reli
             let e12 = passed-by (again || near_oldest s.rx.cells s.rx n) (refuse 12 tt) _ (λ z. omega (arith, z)) e11.1 in
             let e13 = passed-by (ltb (row_of s slot).ack_count ACKS) (refuse 13 tt) _ (λ z. omega (arith, z)) e12.1 in
             let e14 = passed-by (again || fits s.rx.rxed_reliable_size len s.rx.recv_buffer) (refuse 14 tt) _ (λ z. omega (arith, z)) e13.1 in
-            let e15 = passed-by (again || consumed_ok msg s.tx.txed_unconsumed) (refuse 15 tt) Pass (λ z. omega (arith, z)) e14.1 in
+            let e15 = passed-by (again || consumed_ok msg s.tx.txed_unconsumed) (refuse 15 tt) (Ok tt) (λ z. omega (arith, z)) e14.1 in
             passes e15.1) e7.1;
       }
 
@@ -88,7 +86,7 @@ module _ (s : State) (slot time n : ℕ) where
     pub linked : slot_ok s slot ≡ true
     pub far : near n s.tx.tx_seq.0 ≡ false
 
-  pub ack-far : FarAcked → ack_verdict s slot time n ≡ No (refuse 22 tt)
+  pub ack-far : FarAcked → ack_verdict s slot time n ≡ Err (refuse 22 tt)
   unfolding ack_verdict timed_verdict
   ack-far h = simp (h.sound, h.timed, h.linked, h.far)
 
@@ -98,4 +96,4 @@ module _ (s : State) (slot time n : ℕ) where
       let e1 = passed-by (soundb s) (refuse 1 tt) _ (λ z. omega (arith, z)) (record { number = e }) in
       let e3 = passed-by (time_ok s time) (refuse 3 tt) _ (λ z. omega (arith, z)) e1.1 in
       let e4 = passed-by (slot_ok s slot) (refuse 4 tt) _ (λ z. omega (arith, z)) e3.1 in
-      record { sound = e1.0; timed = e3.0; linked = e4.0; far = shut (near n s.tx.tx_seq.0) (refuse 22 tt) Pass passes e4.1 }
+      record { sound = e1.0; timed = e3.0; linked = e4.0; far = shut (near n s.tx.tx_seq.0) (refuse 22 tt) (Ok tt) passes e4.1 }

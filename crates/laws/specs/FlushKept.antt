@@ -1,10 +1,8 @@
 -- Document 01, "Calls keep a sound state sound.": flush. Assumes nothing.
-use Rattle.std.specs.Prelude.{◌≡◌, refl, false, ℕ, ◌≤◌}
+use Rattle.std.specs.Prelude.{◌≡◌, refl, false, ℕ, ◌≤◌, Some, None, Option}
 use Rattle.std.proofs.Common.{sym, ap, ◌∙◌, arith}
 use Rattle.std.proofs.lemmas.List.{set-get_or}
 use Rattle.link.specs.Row.{no_row}
-use Rattle.engine.specs.declared.state.Flushed.{Flushed}
-use Rattle.engine.specs.declared.state.Flushed.TheVariants.{Unflushed, FlushedAt}
 use Rattle.engine.specs.declared.state.SentReliableStatus.TheVariants.{Sent}
 use Rattle.engine.specs.declared.state.State.{State}
 use Rattle.engine.specs.Ring.{refill-length}
@@ -22,9 +20,9 @@ use Rattle.laws.specs.PacketsKept.{queued-mapped}
 use Rattle.laws.specs.PacketEffects.{flushed-packets}
 
 -- a flush time that is there was before now, and else it is now
-flushed-in : (f : Flushed) (time later : ℕ) → time ≤ later → FlushedBy time f → FlushedBy later (flush_time f later)
-flushed-in Unflushed time later h b = omega arith
-flushed-in (FlushedAt at) time later h b = omega arith
+flushed-in : (f : Option ℕ) (time later : ℕ) → time ≤ later → FlushedBy time f → FlushedBy later (flush_time f later)
+flushed-in None time later h b = omega arith
+flushed-in (Some at) time later h b = omega arith
 
 -- the rows, the queue and every sum stay
 pub flushed-good : (s : State) → Good s → (slot time : ℕ) → AtTime s slot time → Good (flushed_state s slot time)

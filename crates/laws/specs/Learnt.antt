@@ -2,7 +2,9 @@
 -- checker makes of the source, and whatever meets it tells what `told` says and leaves the state and the stores that `next` says.
 -- So what `refused`, `kept` and `always-good` say of them holds of the calls, and a promise that comes to cite another definition
 -- is refused here. Assumes nothing.
-use Rattle.std.specs.Prelude.{◌≡◌, refl, Bool, List, [], ◌≢◌, ℕ, length}
+use Rattle.std.specs.Prelude.{◌≡◌, refl, Bool, List, [], ◌≢◌, ℕ, length, Option, Result}
+use Rattle.refusal.specs.declared.Refusal.{Refusal}
+use Rattle.engine.specs.Held.{ConfirmTimeout, HandOut}
 use Rattle.std.proofs.Common.{ap, sym, subst, ◌∙◌}
 use contract.Lifetimes.{Lfts}
 use Rattle.std.specs.Borrow.{Bor}
@@ -14,11 +16,8 @@ use Rattle.engine.specs.declared.answer.Changed.{Changed}
 use Rattle.engine.specs.declared.links.Added.{Added}
 use Rattle.engine.specs.declared.sending.SendResult.{SendResult}
 use Rattle.engine.specs.declared.resending.ResendResult.{ResendResult}
-use Rattle.engine.specs.declared.handing_out.HandOut.{HandOut}
 use Rattle.engine.specs.declared.handing_out.TakeResult.{TakeResult}
 use Rattle.engine.specs.declared.handing_out.TakeAckResult.{TakeAckResult}
-use Rattle.engine.specs.declared.handing_out.Due.{Due as DueAnswer}
-use Rattle.engine.specs.declared.deadlines.ConfirmTimeout.{ConfirmTimeout}
 use Rattle.engine.specs.Answer.{outcome_told}
 use Rattle.engine.specs.Decide.{soundb, sound_withb}
 use Rattle.engine.specs.Starting.{fresh_verdict, fresh_of, fresh_records, RefusedUnsound}
@@ -73,7 +72,7 @@ Tied Show h = (κs : Lfts 2) (i j : Place) (r : HandOut) (e : _)
 Tied Take h = (κs : Lfts 1) (i : Place) (r : TakeResult) (e : _)
     → engine.handing_out.take.Reads.Learnt κs (h.state, (lent_mut i h.records, tt)) r e
     → Says Take h (hand_out_told r.answer) (record { state = r.state; sent = h.sent; received = h.received; records = e.1.0.now })
-Tied Due h = (κs : _) (r : DueAnswer) (e : _) → engine.handing_out.is_consume_ack_required.Reads.Learnt κs (h.state, tt) r e → Says Due h (due_told r) h
+Tied Due h = (κs : _) (r : Result Bool Refusal) (e : _) → engine.handing_out.is_consume_ack_required.Reads.Learnt κs (h.state, tt) r e → Says Due h (due_told r) h
 Tied Close h = (κs : _) (r : Changed) (e : _) → engine.closing.close_reader.Reads.Learnt κs (h.state, tt) r e → SaysChanged Close h r
 Tied (TakeAck slot) h = (κs : _) (r : TakeAckResult) (e : _) → engine.handing_out.take_ack.Reads.Learnt κs (h.state, (slot, tt)) r e → Says (TakeAck slot) h (take_ack_told r.answer) (with_state h r.state)
 Tied (EarliestConfirmTimeout timeout unreliable) h = (κs : _) (r : ConfirmTimeout) (e : _)

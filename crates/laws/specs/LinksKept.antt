@@ -1,6 +1,7 @@
 -- Document 01: "Calls keep a sound state sound." The fresh state is sound, and confirm, block, mark, ping, pong and add keep a
 -- sound state sound and a shaped one shaped. Assumes nothing.
-use Rattle.std.specs.Prelude.{◌≡◌, refl, Bool, true, ◌&&◌, ℕ, ◌-◌, ◌*◌, ◌%◌, ◌^◌, ◌≤◌, ◌<◌, eqb, set}
+use Rattle.std.specs.Prelude.{◌≡◌, refl, Bool, true, ◌&&◌, ℕ, ◌-◌, ◌*◌, ◌%◌, ◌^◌, ◌≤◌, ◌<◌, eqb, set, Some, None, Option, Ok}
+use Rattle.seq.specs.declared.Seq.{Seq}
 use Rattle.std.proofs.Math.Path.{sym, ap, subst}
 use Rattle.std.proofs.Common.{◌∙◌, arith}
 use Rattle.std.proofs.Math.Bool.{false}
@@ -11,16 +12,10 @@ use borrow.Author.Tests.{leb-true, le-leb, eqb-true}
 use Rattle.seq.specs.Numbers.{seq_of, minus}
 use Rattle.seq.specs.Laws.{minus-lt}
 use Rattle.seq.specs.Distance.{past, past-ahead}
-use Rattle.refusal.specs.declared.verdict.Verdict.{Verdict}
-use Rattle.refusal.specs.declared.verdict.Verdict.TheVariants.{Pass}
 use Rattle.refusal.specs.Refusals.{refuse}
-use Rattle.refusal.specs.Verdicts.{gate-pass}
+use Rattle.refusal.specs.Verdicts.{Verdict, gate-pass}
 use Rattle.refusal.specs.Tests.{split, false-true}
 use Rattle.link.specs.declared.row.LinkRow.{LinkRow}
-use Rattle.link.specs.declared.row.MaxPing.{MaxPing}
-use Rattle.link.specs.declared.row.Limit.{Limit}
-use Rattle.link.specs.declared.row.Ping.{Ping}
-use Rattle.link.specs.declared.row.Ping.TheVariants.{Idle, Since}
 use Rattle.link.specs.Fields.{with_flags}
 use Rattle.link.specs.Sizes.{max_ping_within, ping_within, MAX_TIME}
 use Rattle.link.specs.Row.{empty_row, fresh_row, confirmed, blocked_row, no_row}
@@ -49,21 +44,21 @@ use Rattle.laws.specs.Good.{Good}
 -- ---- plain changes of a row
 
 -- a pong keeps who lives there, and its round trip is no longer than the time
-ponged-who : (p : Ping) (r : LinkRow) (time : ℕ) → ((ponged_as p r time).live ≡ r.live) × ((ponged_as p r time).link_id ≡ r.link_id)
+ponged-who : (p : Option ℕ) (r : LinkRow) (time : ℕ) → ((ponged_as p r time).live ≡ r.live) × ((ponged_as p r time).link_id ≡ r.link_id)
 unfolding ponged_as
-ponged-who Idle r time = (refl, refl)
-ponged-who (Since since) r time = (refl, refl)
+ponged-who None r time = (refl, refl)
+ponged-who (Some since) r time = (refl, refl)
 
-ponged-fine : (p : Ping) (r : LinkRow) (sum time : ℕ) → time ≤ MAX_TIME → RowFine r sum time → RowFine (ponged_as p r time) sum time
+ponged-fine : (p : Option ℕ) (r : LinkRow) (sum time : ℕ) → time ≤ MAX_TIME → RowFine r sum time → RowFine (ponged_as p r time) sum time
 unfolding ponged_as
-ponged-fine Idle r sum time top f = f
-ponged-fine (Since since) r sum time top f = record { sums = f.sums; trip = omega arith; limit = f.limit; pinged = refl; acks = f.acks }
+ponged-fine None r sum time top f = f
+ponged-fine (Some since) r sum time top f = record { sums = f.sums; trip = omega arith; limit = f.limit; pinged = refl; acks = f.acks }
 
 -- flags and mark are nothing that Sound asks of a row
 flags-fine : (r : LinkRow) (b u : Bool) (sum time : ℕ) → RowFine r sum time → RowFine (with_flags r b u) sum time
 flags-fine r b u sum time f = record { sums = f.sums; trip = f.trip; limit = f.limit; pinged = f.pinged; acks = f.acks }
 
-mark-fine : (r : LinkRow) (m : Limit) (sum time : ℕ) → RowFine r sum time → RowFine (marked_row r m) sum time
+mark-fine : (r : LinkRow) (m : Option Seq) (sum time : ℕ) → RowFine r sum time → RowFine (marked_row r m) sum time
 unfolding marked_row
 mark-fine r m sum time f = record { sums = f.sums; trip = f.trip; limit = f.limit; pinged = f.pinged; acks = f.acks }
 
@@ -89,7 +84,7 @@ module _ (s : State) (good : Good s) (slot : ℕ) where
   blocked-good blocked at =
       row-good (λ r. blocked_row r blocked) s.time (now at) (λ r. (refl, refl)) (λ r sum. flags-fine r blocked r.unconfirmed sum s.time) (block-acks (row_of s slot) blocked)
 
-  pub marked-good : (m : Limit) → AtSlot s slot → Good (with_row s slot (marked_row (row_of s slot) m))
+  pub marked-good : (m : Option Seq) → AtSlot s slot → Good (with_row s slot (marked_row (row_of s slot) m))
   unfolding marked_row
   marked-good m at = row-good (λ r. marked_row r m) s.time (now at) (λ r. (refl, refl)) (λ r sum. mark-fine r m sum s.time) (mark-acks (row_of s slot) m)
 
@@ -106,7 +101,7 @@ module _ (s : State) (good : Good s) (slot : ℕ) where
 
 -- ---- add
 
-pub added-good : (s : State) → Good s → (id roundtrip : ℕ) (max : MaxPing) (blocked unconfirmed : Bool) → AddPassed s id roundtrip max
+pub added-good : (s : State) → Good s → (id roundtrip : ℕ) (max : Option ℕ) (blocked unconfirmed : Bool) → AddPassed s id roundtrip max
     → Good (with_row s (lowest_in s) (fresh_row id roundtrip max blocked unconfirmed))
 unfolding fresh_row
 added-good s good id roundtrip max blocked unconfirmed p =
@@ -202,7 +197,7 @@ module _ (start buffer cells : ℕ) (number : start < 2 ^ 32) where
   }
 
   -- the fresh state, where it is not refused
-  module _ (records : List ℕ) (e : fresh_verdict buffer cells (length records) ≡ Pass) where
+  module _ (records : List ℕ) (e : fresh_verdict buffer cells (length records) ≡ Ok tt) where
     pub record FreshPassed : Type 0 where
       pub count : is_cell_count cells ≡ true
       pub low : 1 ≤ buffer
@@ -214,7 +209,7 @@ module _ (start buffer cells : ℕ) (number : start < 2 ^ 32) where
     fresh-passed =
         let setting = is_cell_count cells && (leb 1 buffer && leb buffer (cells * DATA_BYTES)) in
         let e21 = gate-pass setting (refuse 21 tt) _ e in
-        let e2 = gate-pass (eqb (length records) cells) (refuse 2 tt) Pass e21.1 in
+        let e2 = gate-pass (eqb (length records) cells) (refuse 2 tt) (Ok tt) e21.1 in
         let a = split (is_cell_count cells) (leb 1 buffer && leb buffer (cells * DATA_BYTES)) e21.0 in
         let b = split (leb 1 buffer) (leb buffer (cells * DATA_BYTES)) a.1 in
         record { count = a.0; low = leb-true 1 buffer b.0; high = leb-true buffer (cells * DATA_BYTES) b.1; lent = eqb-true (length records) cells e2.0 }
@@ -240,7 +235,7 @@ module _ (start buffer cells : ℕ) (number : start < 2 ^ 32) where
     fresh-recorded =
         let sound : Verdict → ℕ → Type 0 = λ v n. SoundRecords (table_of (fresh_state start buffer cells).rx (store_by v records (replicate n 0))) in
         subst (λ (s : State). SoundRecords (table_of s.rx (fresh_records buffer cells records))) (sym fresh-is)
-        (subst (λ (v : Verdict). sound v (length records)) (sym e) (subst (λ (n : ℕ). sound Pass n) (sym fresh-passed.lent) none-used))
+        (subst (λ (v : Verdict). sound v (length records)) (sym e) (subst (λ (n : ℕ). sound (Ok tt) n) (sym fresh-passed.lent) none-used))
       where
         none-used : SoundRecords (table_of (fresh_state start buffer cells).rx (replicate cells 0))
         none-used =

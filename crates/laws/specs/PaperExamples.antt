@@ -1,24 +1,20 @@
 -- Document 01, "Table of proved examples": "One statement covers these". Beside L2 stands what request [4] makes of it. Each is about the
 -- definition that a promise cites.
 -- Assumes nothing.
-use Rattle.std.specs.Prelude.{◌≡◌, refl, false, ◌&&◌, List, [], ◌∷◌, ℕ, ◌≤◌, ◌<◌, leb, length, get_or, set}
+use Rattle.std.specs.Prelude.{◌≡◌, refl, false, ◌&&◌, List, [], ◌∷◌, ℕ, ◌≤◌, ◌<◌, leb, length, get_or, set, Some, None, Ok}
 use Rattle.std.proofs.Math.Path.{ap}
 use Rattle.std.proofs.Common.{◌∙◌, arith}
 use Rattle.std.proofs.Math.Bool.{true}
-use Rattle.refusal.specs.declared.verdict.Verdict.TheVariants.{Pass}
 use Rattle.refusal.specs.Verdicts.{gate}
 use Rattle.seq.specs.declared.Seq.{Seq}
-use Rattle.seq.specs.declared.Apart.TheVariants.{Far}
 use Rattle.seq.specs.Numbers.{seq_of, plus, minus, signed}
 use Rattle.seq.specs.Distance.{distance_of, near, past}
 use Rattle.link.specs.declared.row.LinkRow.{LinkRow}
-use Rattle.link.specs.declared.row.MaxPing.TheVariants.{Unlimited, UpTo}
 use Rattle.link.specs.Row.{empty_row, fresh_row}
 use Rattle.link.specs.Limit.{mark_acked}
 use Rattle.link.specs.Roundtrip.{trip_after}
 use Rattle.link.specs.Slow.{confirmed_link, above_max_ping, slow_row}
 use Rattle.engine.specs.declared.answer.Changed.{Changed}
-use Rattle.engine.specs.declared.answer.Outcome.TheVariants.{Done}
 use Rattle.engine.specs.declared.state.SentReliable.{SentReliable}
 use Rattle.engine.specs.declared.state.Sending.{Sending}
 use Rattle.engine.specs.declared.state.State.{State}
@@ -32,7 +28,6 @@ use Rattle.engine.specs.Sizes.{PACKETS}
 use Rattle.engine.specs.Sound.{Sound, Shaped, packet_at}
 use Rattle.engine.specs.Table.{in_table, place, looked_at}
 use Rattle.engine.specs.Acking.{settled_row, settled_tx, sweep_from, sweep_of, swept_tx, acked_row, acked_tx, acked_state, ack_verdict, ack_of}
-use Rattle.engine.specs.declared.handing_out.Due.TheVariants.{Is}
 use Rattle.engine.specs.HandingOut.{due_of}
 use Rattle.engine.specs.Slowness.{all_slow, over_slots, slow_slots}
 use Rattle.laws.specs.PacketsKept.{packets-count}
@@ -40,24 +35,24 @@ use Rattle.laws.specs.PacketsKept.{packets-count}
 -- L1's links: 50 over 40 in one slot, in another any round trip without `max_ping`, and no more
 abbrev pub rows_of_l1 : ℕ → ℕ → ℕ → List LinkRow
 rows_of_l1 one other trip =
-    fresh_row one 50 (UpTo 40) false false
-    ∷ (fresh_row other trip Unlimited false false
+    fresh_row one 50 (Some 40) false false
+    ∷ (fresh_row other trip None false false
     ∷ (empty_row ∷ (empty_row ∷ (empty_row ∷ (empty_row ∷ (empty_row ∷ (empty_row ∷ [])))))))
 
 -- A1's and A2's state, where an ack is accepted: "next 5, packets 2, 3, 4", since a sound table of three ends before the next
 pub record NextIsFive (s : State) (slot time : ℕ) : Type 0 where
   pub shaped : Shaped s
-  pub passed : timed_verdict s slot time Pass ≡ Pass
+  pub passed : timed_verdict s slot time (Ok tt) ≡ Ok tt
   pub next : s.tx.tx_seq ≡ seq_of 5
   pub count : s.tx.txed_count ≡ 3
 
 -- the answer of an accepted ack, with the link's row and the sending half that it leaves: the time is taken, all else as it was
 abbrev pub acked : State → ℕ → ℕ → LinkRow → Sending → Changed
-acked s slot time row tx = record { outcome = Done; state = with_parts s (set s.links slot row) tx s.rx time }
+acked s slot time row tx = record { outcome = (Ok tt); state = with_parts s (set s.links slot row) tx s.rx time }
 
 pub record PaperExamples : Type 0 where
   -- "S3 0x80000000 is before 0."; request [5]: "S3 in the examples becomes far."
-  pub s3 : distance_of 2147483648 0 ≡ Far
+  pub s3 : distance_of 2147483648 0 ≡ None
   -- "R1 r 100, e 200: 175. R2 r 200, e 100: 199. R4 flag set, e 50: 50."
   pub r1 : trip_after false 100 200 ≡ 175
   pub r2 : trip_after false 200 100 ≡ 199
@@ -73,10 +68,10 @@ pub record PaperExamples : Type 0 where
   pub l1 : (one other trip : ℕ) → slow_slots (rows_of_l1 one other trip) ≡ []
   -- "L2 buffer 65,536: 6,553 taken, not due; 6,554, due", where the reader is open
   pub l2 : (s : State) → soundb s ≡ true → s.read_open ≡ true → s.rx.recv_buffer ≡ 65536
-      → (s.rx.rxed_reliable_consumed ≡ 6553 → due_of s ≡ Is false) × (s.rx.rxed_reliable_consumed ≡ 6554 → due_of s ≡ Is true)
+      → (s.rx.rxed_reliable_consumed ≡ 6553 → due_of s ≡ Ok false) × (s.rx.rxed_reliable_consumed ≡ 6554 → due_of s ≡ Ok true)
   -- where it has closed, request [4]: "one taken byte is enough, zero is not", of a buffer of any size
   pub l2-closed : (s : State) → soundb s ≡ true → s.read_open ≡ false
-      → (s.rx.rxed_reliable_consumed ≡ 0 → due_of s ≡ Is false) × (s.rx.rxed_reliable_consumed ≡ 1 → due_of s ≡ Is true)
+      → (s.rx.rxed_reliable_consumed ≡ 0 → due_of s ≡ Ok false) × (s.rx.rxed_reliable_consumed ≡ 1 → due_of s ≡ Ok true)
 
 -- ---- the sweep of a table whose first packet isn't Received
 
@@ -98,7 +93,7 @@ swept-whole tx fits some first =
 
 module _ (s : State) (slot time a : ℕ) (five : NextIsFive s slot time) where
   is-sound : Sound s
-  is-sound = (timed-passed s slot time Pass five.passed).0.at.fine
+  is-sound = (timed-passed s slot time (Ok tt) five.passed).0.at.fine
 
   back : past s.tx.tx_seq.0 a ≡ past 5 a
   back = ap (λ seq. past seq.0 a) five.next
@@ -116,7 +111,7 @@ module _ (s : State) (slot time a : ℕ) (five : NextIsFive s slot time) where
   unfolding ack_of ack_verdict acked_state
   whole close =
       let test : near a s.tx.tx_seq.0 ≡ true = ap (λ seq. near a seq.0) five.next ∙ close in
-      ap (λ v. changed_by v s (acked_state s slot time a)) (ap (λ b. timed_verdict s slot time (gate b 22 Pass)) test ∙ five.passed)
+      ap (λ v. changed_by v s (acked_state s slot time a)) (ap (λ b. timed_verdict s slot time (gate b 22 (Ok tt))) test ∙ five.passed)
 
 none_of : (s : State) (slot time : ℕ) → NextIsFive s slot time
     → ack_of s slot time 1 ≡ acked s slot time (mark_acked (row_of s slot) 1) (with_ends s.tx (seq_of 2) s.tx.send_finish_sent s.tx.write_closed)

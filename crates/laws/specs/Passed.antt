@@ -1,10 +1,9 @@
 -- What holds of every call by its verdict: a refused one leaves all as it came; one that passes tells 0, leaves `done`, says of its arguments what `Passed`
 -- says, and keeps a good state so. Assumes nothing.
-use Rattle.std.specs.Prelude.{◌≡◌, refl, ℕ, ◌^◌, ◌<◌, length, false}
+use Rattle.std.specs.Prelude.{◌≡◌, refl, ℕ, ◌^◌, ◌<◌, length, false, Some, Ok, Err}
+use Rattle.refusal.specs.Verdicts.{Verdict}
 use Rattle.std.proofs.Common.{sym, ap, subst}
 use Rattle.refusal.specs.declared.Refusal.{Refusal}
-use Rattle.refusal.specs.declared.verdict.Verdict.{Verdict}
-use Rattle.link.specs.declared.row.Limit.TheVariants.{At}
 use Rattle.link.specs.Row.{fresh_row}
 use Rattle.link.specs.Acks.{oldest_ack}
 use Rattle.engine.specs.declared.state.State.{State}
@@ -27,7 +26,6 @@ use Rattle.engine.specs.Closing.{close_of}
 use Rattle.refusal.specs.Answers.{told_by}
 use Rattle.laws.specs.ReaderKept.{read-good}
 use borrow.Table.Steps.{cases}
-use Rattle.refusal.specs.declared.verdict.Verdict.TheVariants.{Pass}
 use Rattle.laws.specs.LinksKept.{confirmed-good, blocked-good, marked-good, pinged-good, ponged-good, added-good}
 use Rattle.laws.specs.UnconfirmKept.{unconfirmed-good, removed-good}
 use Rattle.laws.specs.FlushKept.{flushed-good}
@@ -36,18 +34,17 @@ use Rattle.laws.specs.ResendKept.{resent-good}
 use Rattle.laws.specs.AckKept.{acked-good}
 use Rattle.laws.specs.ReceiveKept.{received-good, repeated-good}
 use Rattle.laws.specs.TakeKept.{taken-good, take-ack-good}
-use Rattle.refusal.specs.declared.verdict.Verdict.TheVariants as verdicts
 
 -- ---- a call does what it says
 
 -- of a verdict: what is left of h, where d is left by a call that passes
 abbrev Judges : Verdict → Holding → Holding → Holding → Type 0
-Judges verdicts.Pass left d h = left ≡ d
-Judges (verdicts.No e) left d h = left ≡ h
+Judges (Ok tt) left d h = left ≡ d
+Judges (Err e) left d h = left ≡ h
 
-by : (v : Verdict) (left : Verdict → Holding) {d h : Holding} → left verdicts.Pass ≡ d → ((e : Refusal) → left (verdicts.No e) ≡ h) → Judges v (left v) d h
-by verdicts.Pass left kept same = kept
-by (verdicts.No e) left kept same = same e
+by : (v : Verdict) (left : Verdict → Holding) {d h : Holding} → left (Ok tt) ≡ d → ((e : Refusal) → left (Err e) ≡ h) → Judges v (left v) d h
+by (Ok tt) left kept same = kept
+by (Err e) left kept same = same e
 
 by-changed : (h : Holding) (v : Verdict) (after : State) → Judges v (with_state h (changed_by v h.state after).state) (with_state h after) h
 by-changed h v after = by v (λ x. with_state h (changed_by x h.state after).state) refl (λ e. refl)
@@ -102,33 +99,33 @@ judged (TakeAck slot) h =
 judged (EarliestConfirmTimeout timeout unreliable) h = let c = EarliestConfirmTimeout timeout unreliable in by (verdict c h) (λ v. h) refl (λ e. refl)
 
 module _ (c : Call) (h : Holding) where
-  pub left_passed : verdict c h ≡ verdicts.Pass → next c h ≡ done c h
+  pub left_passed : verdict c h ≡ Ok tt → next c h ≡ done c h
   left_passed e = subst (λ (v : Verdict). Judges v (next c h) (done c h) h) e (judged c h)
 
-  pub left-refused : (e : Refusal) → verdict c h ≡ verdicts.No e → next c h ≡ h
+  pub left-refused : (e : Refusal) → verdict c h ≡ Err e → next c h ≡ h
   left-refused r e = subst (λ (v : Verdict). Judges v (next c h) (done c h) h) e (judged c h)
 
-  pub number_passed : verdict c h ≡ verdicts.Pass → number c h ≡ 0
+  pub number_passed : verdict c h ≡ Ok tt → number c h ≡ 0
   number_passed e = ap (λ (v : Verdict). (told_by v (values c h)).number) e
 
   -- what holds before a call and after an accepted one, holds after it
-  pub next-keeps : (P : Holding → Type 0) → P h → (verdict c h ≡ verdicts.Pass → P (done c h)) → P (next c h)
+  pub next-keeps : (P : Holding → Type 0) → P h → (verdict c h ≡ Ok tt → P (done c h)) → P (next c h)
   next-keeps P old new = go (verdict c h) refl
     where
       go : (v : Verdict) → verdict c h ≡ v → P (next c h)
-      go verdicts.Pass e = subst P (sym (left_passed e)) (new e)
-      go (verdicts.No r) e = subst P (sym (left-refused r e)) old
+      go (Ok tt) e = subst P (sym (left_passed e)) (new e)
+      go (Err r) e = subst P (sym (left-refused r e)) old
 
   -- .. with the answer that the verdict makes
-  pub answer_keeps : {A : Type 0} (answer : Verdict → A) (P : A → Holding → Type 0) → (verdict c h ≡ verdicts.Pass → P (answer verdicts.Pass) (done c h))
-      → ((e : Refusal) → P (answer (verdicts.No e)) h) → P (answer (verdict c h)) (next c h)
+  pub answer_keeps : {A : Type 0} (answer : Verdict → A) (P : A → Holding → Type 0) → (verdict c h ≡ Ok tt → P (answer (Ok tt)) (done c h))
+      → ((e : Refusal) → P (answer (Err e)) h) → P (answer (verdict c h)) (next c h)
   answer_keeps answer P took left = go (verdict c h) refl
     where
       go : (v : Verdict) → verdict c h ≡ v → P (answer (verdict c h)) (next c h)
-      go verdicts.Pass e = subst (P (answer (verdict c h))) (sym (left_passed e)) (subst (λ (v : Verdict). P (answer v) (done c h)) (sym e) (took e))
-      go (verdicts.No r) e = subst (P (answer (verdict c h))) (sym (left-refused r e)) (subst (λ (v : Verdict). P (answer v) h) (sym e) (left r))
+      go (Ok tt) e = subst (P (answer (verdict c h))) (sym (left_passed e)) (subst (λ (v : Verdict). P (answer v) (done c h)) (sym e) (took e))
+      go (Err r) e = subst (P (answer (verdict c h))) (sym (left-refused r e)) (subst (λ (v : Verdict). P (answer v) h) (sym e) (left r))
 
-pub passed : (c : Call) (h : Holding) → Typed c → Good h.state → verdict c h ≡ verdicts.Pass → Passed c h
+pub passed : (c : Call) (h : Holding) → Typed c → Good h.state → verdict c h ≡ Ok tt → Passed c h
 unfolding hand_out_by
 passed (Add id roundtrip max blocked unconfirmed) h t g e = add-passed h.state id roundtrip max e
 passed (Remove slot) h t g e = slot-passed h.state slot e
@@ -136,9 +133,9 @@ passed (Confirm slot) h t g e = slot-passed h.state slot e
 passed (Unconfirm slot) h t g e = slot-passed h.state slot e
 passed (Block slot blocked) h t g e = slot-passed h.state slot e
 passed (Mark slot seq) h t g e = slot-passed h.state slot e
-passed (Ping slot time) h t g e = (timed-passed h.state slot time verdicts.Pass e).0
-passed (Pong slot time) h t g e = (timed-passed h.state slot time verdicts.Pass e).0
-passed (Flush slot time) h t g e = (timed-passed h.state slot time verdicts.Pass e).0
+passed (Ping slot time) h t g e = (timed-passed h.state slot time (Ok tt) e).0
+passed (Pong slot time) h t g e = (timed-passed h.state slot time (Ok tt) e).0
+passed (Flush slot time) h t g e = (timed-passed h.state slot time (Ok tt) e).0
 passed (Send slot time msg bytes) h t g e = send-passed h.state (length h.sent) slot time msg (length bytes) e
 passed (Resend slot time n) h t g e = resend-passed h.state slot time n g.shaped t e
 passed (Ack slot time n) h t g e = ack-passed h.state slot time n e
@@ -162,7 +159,7 @@ done-good-by acked (Remove slot) h t g p = removed-good h.state g slot p
 done-good-by acked (Confirm slot) h t g p = confirmed-good h.state g slot p
 done-good-by acked (Unconfirm slot) h t g p = unconfirmed-good h.state g slot p
 done-good-by acked (Block slot blocked) h t g p = blocked-good h.state g slot blocked p
-done-good-by acked (Mark slot seq) h t g p = marked-good h.state g slot (At seq) p
+done-good-by acked (Mark slot seq) h t g p = marked-good h.state g slot (Some seq) p
 done-good-by acked (Ping slot time) h t g p = pinged-good h.state g slot time p
 done-good-by acked (Pong slot time) h t g p = ponged-good h.state g slot time p
 done-good-by acked (Flush slot time) h t g p = flushed-good h.state g slot time p

@@ -1,18 +1,15 @@
 -- Request [4]: "a call that closes it for good; closing twice is accepted and changes nothing. With the reader closed, messages are still
 -- received, acked and taken as before." No call's answer but that of `is_consume_ack_required` goes by the reader, nothing that a call leaves does,
 -- and only the closing call changes it. Assumes nothing.
-use Rattle.std.specs.Prelude.{◌≡◌, refl, ◌≢◌, Bool, true, false, cond, ◌&&◌, ℕ, eqb, length}
+use Rattle.std.specs.Prelude.{◌≡◌, refl, ◌≢◌, Bool, true, false, cond, ◌&&◌, ℕ, eqb, length, Some, None, Option, Ok, Err}
+use Rattle.engine.specs.declared.state.InFlight.{InFlight}
 use Rattle.std.proofs.Common.{sym, ◌∙◌}
 use Rattle.std.proofs.Math.Path.{ap}
 use borrow.Table.Steps.{cases}
-use Rattle.refusal.specs.declared.verdict.Verdict.{Verdict}
-use Rattle.refusal.specs.declared.verdict.Verdict.TheVariants.{Pass, No}
-use Rattle.refusal.specs.Verdicts.{gate}
+use Rattle.refusal.specs.Verdicts.{Verdict, gate}
 use Rattle.link.specs.declared.timeout.AckTimeout.{AckTimeout}
 use Rattle.engine.specs.declared.state.State.{State}
 use Rattle.engine.specs.declared.answer.Changed.{Changed}
-use Rattle.engine.specs.declared.deadlines.FirstSent.{FirstSent}
-use Rattle.engine.specs.declared.deadlines.FirstSent.TheVariants as firsts
 use Rattle.engine.specs.Decide.{soundb, sound, sound-true, recordsb, sound_withb}
 use Rattle.engine.specs.Answer.{changed_by}
 use Rattle.engine.specs.Gates.{slot_verdict, timed_verdict, state_verdict}
@@ -50,10 +47,10 @@ pub reader-row : (s : State) (reads : Bool) (slot : ℕ) → row_of (with_reader
 unfolding row_of
 reader-row s reads slot = refl
 
-named-reading : (found : FirstSent) (s : State) (reads : Bool) (timeout : AckTimeout) (unreliable : Bool) → named_values found (with_reader s reads) timeout unreliable ≡ named_values found s timeout unreliable
+named-reading : (found : Option InFlight) (s : State) (reads : Bool) (timeout : AckTimeout) (unreliable : Bool) → named_values found (with_reader s reads) timeout unreliable ≡ named_values found s timeout unreliable
 unfolding deadline_of row_of
-named-reading firsts.Nothing s reads timeout unreliable = refl
-named-reading (firsts.Is flight) s reads timeout unreliable = refl
+named-reading None s reads timeout unreliable = refl
+named-reading (Some flight) s reads timeout unreliable = refl
 
 -- of one state or the other
 one_of : (first : Bool) (s t : State) (reads : Bool) → cond first (with_reader s reads) (with_reader t reads) ≡ with_reader (cond first s t) reads
@@ -108,8 +105,8 @@ unfolding close_of
 closed-twice s = go (state_verdict s) refl
   where
     go : (v : Verdict) → state_verdict s ≡ v → close_of (close_of s).state ≡ close_of s
-    go Pass e =
+    go (Ok tt) e =
         let once = ap (λ x. changed_by x s (closed_state s)) e in
-        let again : state_verdict (closed_state s) ≡ Pass = ap (λ ok. gate ok 1 Pass) (reader-sound s false) ∙ e in
+        let again : state_verdict (closed_state s) ≡ Ok tt = ap (λ ok. gate ok 1 (Ok tt)) (reader-sound s false) ∙ e in
         ap (λ (x : Changed). close_of x.state) once ∙ ap (λ x. changed_by x (closed_state s) (closed_state s)) again ∙ sym once
-    go (No r) e = ap (λ (x : Changed). close_of x.state) (ap (λ x. changed_by x s (closed_state s)) e)
+    go (Err r) e = ap (λ (x : Changed). close_of x.state) (ap (λ x. changed_by x s (closed_state s)) e)

@@ -1,6 +1,6 @@
 -- Receive keeps a good state good: a repeat adds an ack; a new number adds one, is stored, has its effect, and the next
 -- expected number advances. Assumes nothing.
-use Rattle.std.specs.Prelude.{◌≡◌, refl, false, List, ℕ, ◌+◌, ◌-◌, ◌^◌, ◌<◌, ltb}
+use Rattle.std.specs.Prelude.{◌≡◌, refl, false, List, ℕ, ◌+◌, ◌-◌, ◌^◌, ◌<◌, ltb, Some}
 use Rattle.std.proofs.Math.Path.{sym, ap}
 use Rattle.std.proofs.Common.{◌∙◌, arith}
 use borrow.Author.Tests.{ltb-true, ltb-false, eq-eqb}
@@ -10,7 +10,6 @@ use Rattle.seq.specs.Numbers.{seq_of, minus}
 use Rattle.seq.specs.Distance.{before, past, past_near, before-behind}
 use Rattle.msg.specs.declared.reliable.ReliableMsg.{ReliableMsg}
 use Rattle.msg.specs.Reliable.{count_of}
-use Rattle.engine.specs.declared.state.Held.TheVariants.{Message}
 use Rattle.engine.specs.declared.state.State.{State}
 use Rattle.engine.specs.CellCount.{CellCount, cell-count}
 use Rattle.engine.specs.Records.{is_full, held_bytes}
@@ -46,7 +45,7 @@ module _ (s : State) (good : Good s) (store : ℕ) (records : List ℕ) (slot : 
   count = cell-count N good.sound.cell-count
 
   -- what the advance does
-  pub received-passes : Passes N t (stored_table s records msg n len) (held_but N t (past n s.rx.rx_oldest.0) (Message msg len))
+  pub received-passes : Passes N t (stored_table s records msg n len) (held_but N t (past n s.rx.rx_oldest.0) (Some (msg, len)))
   received-passes = stored-passes N count t (table-of s good records passed.recorded) msg n len (passed.new new).near (omega (arith, passed.short))
 
   -- its cell comes into use: from the end on nothing is held
@@ -59,7 +58,7 @@ module _ (s : State) (good : Good s) (store : ℕ) (records : List ℕ) (slot : 
       cases (ltb at p.end) (λ b. ltb-true at p.end b)
       (λ b.
       let ge = ltb-false at p.end b in
-      let held : held_but N t at (Message msg len) at ≡ Message msg len = simp (eq-eqb at at refl) in
+      let held : held_but N t at (Some (msg, len)) at ≡ Some (msg, len) = simp (eq-eqb at at refl) in
       let none = sym (p.beyond at ge (omega (arith, close, count.few))) ∙ p.ahead at (omega (arith, p.within)) close ∙ held in
       false-true (ap is_full none))
 
@@ -85,7 +84,7 @@ module _ (s : State) (good : Good s) (store : ℕ) (records : List ℕ) (slot : 
       let table = stored_table s records msg n len in
       let same : sizes table.rx ≡ (rx.rxed_reliable_size + len, rx.rxed_reliable_consumed, rx.recv_buffer, rx.cells) =
       turns_same (can_advance N) (passed_over N) (λ (x : RxTable). sizes x.rx) (λ x. refl) N _ in
-      passed-good (repeated_state s slot n) (repeated-good s good slot n passed.at) records passed.recorded table (past n rx.rx_oldest.0) (Message msg len) received-passes
+      passed-good (repeated_state s slot n) (repeated-good s good slot n passed.at) records passed.recorded table (past n rx.rx_oldest.0) (Some (msg, len)) received-passes
       stored-inside passed.fits (λ l. absurd (was-empty.1 l))
       (omega (arith, ap (λ t. t.0) same, was-empty.0)) (omega (arith, ap (λ t. t.0) same, (passed.new new).within))
       (omega (arith, ap (λ t. t.1) same, good.shaped.untold-u32)) (ap (λ t. t.2) same) (ap (λ t. t.3) same)

@@ -1,8 +1,7 @@
 -- Document 02, [8]: the record space "counts as a store in demands 1 and 3". Records that are sound with the state stay so, whatever call is made, and those of a
 -- fresh state are. Receiving and taking a message change them; every other call leaves them, and all that they are judged by. Assumes nothing.
-use Rattle.std.specs.Prelude.{◌≡◌, List, [], ◌∷◌, ℕ, ◌^◌, ◌<◌, length}
+use Rattle.std.specs.Prelude.{◌≡◌, List, [], ◌∷◌, ℕ, ◌^◌, ◌<◌, length, Ok}
 use borrow.Table.Steps.{cases}
-use Rattle.refusal.specs.declared.verdict.Verdict.TheVariants.{Pass}
 use Rattle.engine.specs.declared.state.Receiving.{Receiving}
 use Rattle.engine.specs.Received.{table_of}
 use Rattle.engine.specs.Sound.{SoundRecords}
@@ -62,7 +61,7 @@ done-recorded (EarliestConfirmTimeout timeout unreliable) h g p r = r
 pub records-kept : (c : Call) (h : Holding) → Typed c → Good h.state → SoundRecords (table h) → SoundRecords (table (next c h))
 records-kept c h t g r = next-keeps c h (λ k. SoundRecords (table k)) r (λ e. done-recorded c h g (passed c h t g e) r)
 
-pub fresh-recorded : (start buffer cells : ℕ) → start < 2 ^ 32 → (records : List ℕ) → fresh_verdict buffer cells (length records) ≡ Pass
+pub fresh-recorded : (start buffer cells : ℕ) → start < 2 ^ 32 → (records : List ℕ) → fresh_verdict buffer cells (length records) ≡ Ok tt
     → SoundRecords (table_of (fresh_of start buffer cells (length records)).state.rx (fresh_records buffer cells records))
 fresh-recorded = links.fresh-recorded
 

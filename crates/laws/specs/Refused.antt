@@ -1,11 +1,10 @@
 -- Document 01: "Each returns its number alone; state and lent bytes stay as they came." One statement over all calls: where the
 -- answer's number is not 0, state and stores are those that came in. Assumes nothing.
-use Rattle.std.specs.Prelude.{◌≡◌, refl, ◌≢◌, List, ℕ, length, leb}
+use Rattle.std.specs.Prelude.{◌≡◌, refl, ◌≢◌, List, ℕ, length, leb, Ok, Err}
+use Rattle.refusal.specs.Verdicts.{Verdict}
 use Rattle.std.proofs.Common.{ap}
 use borrow.Table.Steps.{cases}
 use Rattle.refusal.specs.Answers.{told_by}
-use Rattle.refusal.specs.declared.verdict.Verdict.{Verdict}
-use Rattle.refusal.specs.declared.verdict.Verdict.TheVariants.{Pass, No}
 use Rattle.msg.specs.declared.link_msg.LinkMsg.{LinkMsg}
 use Rattle.msg.specs.Messages.{bytes_of}
 use Rattle.msg.specs.Writing.{writable, written_told, write_of, buffer_of}
@@ -28,8 +27,8 @@ pub refused-told : (c : Call) (h : Holding) → (told c h).number ≢ 0 → next
 refused-told c h some = go (verdict c h) refl
   where
     go : (v : Verdict) → verdict c h ≡ v → next c h ≡ h
-    go Pass e = absurd (some (ap (λ (v : Verdict). (told_by v (values c h)).number) e))
-    go (No r) e = left-refused c h r e
+    go (Ok tt) e = absurd (some (ap (λ (v : Verdict). (told_by v (values c h)).number) e))
+    go (Err r) e = left-refused c h r e
 
 -- of every call on a state
 pub refused : (c : Call) (h : Holding) → number c h ≢ 0 → next c h ≡ h

@@ -1,6 +1,6 @@
 -- A row's waiting acks after a change of the row: most changes keep them, and every change keeps the 64 places of their queue.
 -- Assumes nothing.
-use Rattle.std.specs.Prelude.{◌≡◌, Bool, ℕ, ◌-◌, eqb, ltb, length, drop}
+use Rattle.std.specs.Prelude.{◌≡◌, Bool, ℕ, ◌-◌, eqb, ltb, length, drop, Some, None, Option}
 use Rattle.std.proofs.Math.Path.{refl}
 use Rattle.std.proofs.Common.{ap, ◌∙◌, arith, length-set, length-append, length-drop, ltb-true}
 use Rattle.std.proofs.lemmas.List.{length-replicate}
@@ -9,11 +9,6 @@ use Rattle.seq.specs.declared.Seq.{Seq}
 use Rattle.seq.specs.Numbers.{seq_of}
 use Rattle.seq.specs.Distance.{before}
 use Rattle.link.specs.declared.row.LinkRow.{LinkRow}
-use Rattle.link.specs.declared.row.MaxPing.{MaxPing}
-use Rattle.link.specs.declared.row.Limit.{Limit}
-use Rattle.link.specs.declared.row.Limit.TheVariants.{Clear, At}
-use Rattle.link.specs.declared.row.Ping.{Ping}
-use Rattle.link.specs.declared.row.Ping.TheVariants.{Idle, Since}
 use Rattle.link.specs.Row.{empty_row, fresh_row, confirmed, blocked_row, unconfirmed_row, with_unacked}
 use Rattle.link.specs.Limit.{marked_row, mark_acked_as, mark_acked, mark_resent_as, mark_resent}
 use Rattle.link.specs.Roundtrip.{pinged, ponged_as, trip_moved}
@@ -55,7 +50,7 @@ module _ (r : LinkRow) where
   unfolding with_unacked
   unacked-acks n = record { queue = refl; count = refl }
 
-  pub mark-acks : (m : Limit) → SameAcks (marked_row r m) r
+  pub mark-acks : (m : Option Seq) → SameAcks (marked_row r m) r
   unfolding marked_row
   mark-acks m = record { queue = refl; count = refl }
 
@@ -63,25 +58,25 @@ module _ (r : LinkRow) where
   unfolding pinged
   ping-acks time = record { queue = refl; count = refl }
 
-  pub pong-acks : (p : Ping) (time : ℕ) → SameAcks (ponged_as p r time) r
+  pub pong-acks : (p : Option ℕ) (time : ℕ) → SameAcks (ponged_as p r time) r
   unfolding ponged_as
-  pong-acks Idle time = record { queue = refl; count = refl }
-  pong-acks (Since since) time = record { queue = refl; count = refl }
+  pong-acks None time = record { queue = refl; count = refl }
+  pong-acks (Some since) time = record { queue = refl; count = refl }
 
   trip-acks : (since time : ℕ) → SameAcks (trip_moved r since time) r
   unfolding trip_moved
   trip-acks since time = record { queue = refl; count = refl }
 
-  mark-acked-acks : (m : Limit) (a : ℕ) → SameAcks (mark_acked_as m r a) r
+  mark-acked-acks : (m : Option Seq) (a : ℕ) → SameAcks (mark_acked_as m r a) r
   unfolding mark_acked_as marked_row
-  mark-acked-acks Clear a = record { queue = refl; count = refl }
-  mark-acked-acks (At m) a =
+  mark-acked-acks None a = record { queue = refl; count = refl }
+  mark-acked-acks (Some m) a =
       either (λ q. SameAcks q r) (before a m.0) _ _ (record { queue = refl; count = refl }) (record { queue = refl; count = refl })
 
-  mark-resent-acks : (m : Limit) (n : ℕ) → SameAcks (mark_resent_as m r n) r
+  mark-resent-acks : (m : Option Seq) (n : ℕ) → SameAcks (mark_resent_as m r n) r
   unfolding mark_resent_as marked_row
-  mark-resent-acks Clear n = record { queue = refl; count = refl }
-  mark-resent-acks (At m) n =
+  mark-resent-acks None n = record { queue = refl; count = refl }
+  mark-resent-acks (Some m) n =
       either (λ q. SameAcks q r) (before n m.0) _ _ (record { queue = refl; count = refl }) (record { queue = refl; count = refl })
 
 -- the row that resending leaves
@@ -129,7 +124,7 @@ pub empty-full : length empty_row.tx_ack_queue ≡ ACKS
 unfolding empty_row
 empty-full = length-replicate ACKS (seq_of 0)
 
-pub fresh-full : (id roundtrip : ℕ) (max : MaxPing) (blocked unconfirmed : Bool) → length (fresh_row id roundtrip max blocked unconfirmed).tx_ack_queue ≡ ACKS
+pub fresh-full : (id roundtrip : ℕ) (max : Option ℕ) (blocked unconfirmed : Bool) → length (fresh_row id roundtrip max blocked unconfirmed).tx_ack_queue ≡ ACKS
 unfolding fresh_row
 fresh-full id roundtrip max blocked unconfirmed = length-replicate ACKS (seq_of 0)
 

@@ -1,10 +1,9 @@
 -- What the mark, the unacked bytes and the round trip change in a row: the rest of it stays as Sound asks. Assumes nothing.
-use Rattle.std.specs.Prelude.{◌≡◌, refl, Bool, true, false, cond, ℕ, ◌+◌, ◌-◌, ◌*◌, ◌/◌, ◌≤◌, ltb}
+use Rattle.std.specs.Prelude.{◌≡◌, refl, Bool, true, false, cond, ℕ, ◌+◌, ◌-◌, ◌*◌, ◌/◌, ◌≤◌, ltb, Some, None, Option}
+use Rattle.seq.specs.declared.Seq.{Seq}
 use Rattle.std.proofs.Common.{ap, ◌∙◌, arith}
 use Rattle.seq.specs.Distance.{before}
 use Rattle.link.specs.declared.row.LinkRow.{LinkRow}
-use Rattle.link.specs.declared.row.Limit.{Limit}
-use Rattle.link.specs.declared.row.Limit.TheVariants.{Clear, At}
 use Rattle.link.specs.Sizes.{max_ping_within, ping_within, MAX_TIME}
 use Rattle.link.specs.Row.{with_unacked}
 use Rattle.link.specs.Limit.{marked_row, mark_acked_as, mark_resent_as}
@@ -35,18 +34,18 @@ either P true x y h g = h
 either P false x y h g = g
 
 -- the mark
-pub mark-acked : (m : Limit) (r : LinkRow) (a : ℕ) → Like (mark_acked_as m r a) r
+pub mark-acked : (m : Option Seq) (r : LinkRow) (a : ℕ) → Like (mark_acked_as m r a) r
 unfolding mark_acked_as marked_row
-mark-acked Clear r a = record { live = refl; id = refl; bytes = refl; trip = refl; limit = refl; pinged = refl; acks = refl }
-mark-acked (At m) r a =
+mark-acked None r a = record { live = refl; id = refl; bytes = refl; trip = refl; limit = refl; pinged = refl; acks = refl }
+mark-acked (Some m) r a =
     either (λ q. Like q r) (before a m.0) _ _
     (record { live = refl; id = refl; bytes = refl; trip = refl; limit = refl; pinged = refl; acks = refl })
     (record { live = refl; id = refl; bytes = refl; trip = refl; limit = refl; pinged = refl; acks = refl })
 
-pub mark-resent : (m : Limit) (r : LinkRow) (n : ℕ) → Like (mark_resent_as m r n) r
+pub mark-resent : (m : Option Seq) (r : LinkRow) (n : ℕ) → Like (mark_resent_as m r n) r
 unfolding mark_resent_as marked_row
-mark-resent Clear r n = record { live = refl; id = refl; bytes = refl; trip = refl; limit = refl; pinged = refl; acks = refl }
-mark-resent (At m) r n =
+mark-resent None r n = record { live = refl; id = refl; bytes = refl; trip = refl; limit = refl; pinged = refl; acks = refl }
+mark-resent (Some m) r n =
     either (λ q. Like q r) (before n m.0) _ _
     (record { live = refl; id = refl; bytes = refl; trip = refl; limit = refl; pinged = refl; acks = refl })
     (record { live = refl; id = refl; bytes = refl; trip = refl; limit = refl; pinged = refl; acks = refl })

@@ -1,14 +1,10 @@
 -- One row of the links is replaced: what Sound asks of the rows, and of the packets that name them, is kept. Assumes nothing.
-use Rattle.std.specs.Prelude.{◌≡◌, refl, Bool, true, false, List, [], ◌∷◌, ℕ, suc, ◌^◌, ◌≤◌, ◌<◌, length, get_or, set}
+use Rattle.std.specs.Prelude.{◌≡◌, refl, Bool, true, false, List, [], ◌∷◌, ℕ, suc, ◌^◌, ◌≤◌, ◌<◌, length, get_or, set, Some, None, Option}
 use Rattle.std.proofs.Common.{sym, ap, ◌∙◌, arith, length-set, get_or-set_same, get_or-set_other, leb-true, le-leb, ne_eqb}
 use Rattle.std.proofs.Math.Decide.{ℕ_discrete}
 use Rattle.link.specs.declared.row.LinkRow.{LinkRow}
-use Rattle.link.specs.declared.row.Ping.{Ping}
-use Rattle.link.specs.declared.row.Ping.TheVariants.{Idle, Since}
 use Rattle.link.specs.Sizes.{ping_within, MAX_TIME, ACKS}
 use Rattle.link.specs.Row.{no_row}
-use Rattle.engine.specs.declared.state.Flushed.{Flushed}
-use Rattle.engine.specs.declared.state.Flushed.TheVariants.{Unflushed, FlushedAt}
 use Rattle.engine.specs.declared.state.SentReliableStatus.{SentReliableStatus}
 use Rattle.engine.specs.declared.state.SentReliableStatus.TheVariants.{Sent, Received, ResendQueued}
 use Rattle.engine.specs.declared.state.SentReliable.{SentReliable}
@@ -76,9 +72,9 @@ sum-elsewhere slot (p ∷ ps) f =
 
 -- ---- a later time
 
-pub ping-later : (p : Ping) (time later : ℕ) → time ≤ later → ping_within p time ≡ true → ping_within p later ≡ true
-ping-later Idle time later h e = refl
-ping-later (Since since) time later h e = le-leb since later (omega (arith, leb-true since time e))
+pub ping-later : (p : Option ℕ) (time later : ℕ) → time ≤ later → ping_within p time ≡ true → ping_within p later ≡ true
+ping-later None time later h e = refl
+ping-later (Some since) time later h e = le-leb since later (omega (arith, leb-true since time e))
 
 pub row-later : (row : LinkRow) (sum time later : ℕ) → time ≤ later → RowFine row sum time → RowFine row sum later
 row-later row sum time later h f = record {
@@ -89,9 +85,9 @@ row-later row sum time later h f = record {
   acks = f.acks;
 }
 
-flushed-later : (f : Flushed) (time later : ℕ) → time ≤ later → FlushedBy time f → FlushedBy later f
-flushed-later Unflushed time later h e = tt
-flushed-later (FlushedAt at) time later h e = omega arith
+flushed-later : (f : Option ℕ) (time later : ℕ) → time ≤ later → FlushedBy time f → FlushedBy later f
+flushed-later None time later h e = tt
+flushed-later (Some at) time later h e = omega arith
 
 pub sent-later : (st : SentReliableStatus) (time later : ℕ) → time ≤ later → SentBy time st → SentBy later st
 sent-later (Sent flight) time later h e = (omega (arith, e.0), flushed-later flight.flushed time later h e.1)

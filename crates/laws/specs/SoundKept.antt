@@ -1,7 +1,6 @@
 -- Document 01: "Calls keep a sound state sound." One theorem over all calls, from the definitions that their promises cite; those
 -- of the single calls are in the files *Kept. Assumes nothing.
-use Rattle.std.specs.Prelude.{◌≡◌, List, [], ◌∷◌, ℕ, ◌^◌, ◌<◌, length}
-use Rattle.refusal.specs.declared.verdict.Verdict.TheVariants.{Pass}
+use Rattle.std.specs.Prelude.{◌≡◌, List, [], ◌∷◌, ℕ, ◌^◌, ◌<◌, length, Ok}
 use Rattle.engine.specs.Starting.{fresh_verdict, fresh_of}
 use Rattle.laws.specs.Good.{Good}
 use Rattle.laws.specs.Calls.{Call, Holding, next, Typed}
@@ -15,7 +14,7 @@ pub kept : (c : Call) (h : Holding) → Typed c → Good h.state → Good (next 
 kept = kept-by (λ slot time n t. t)
 
 -- a fresh state is sound, and so is every state that calls make of it, in any order and with any arguments
-pub fresh-good : (start buffer cells : ℕ) → start < 2 ^ 32 → (records : List ℕ) → fresh_verdict buffer cells (length records) ≡ Pass
+pub fresh-good : (start buffer cells : ℕ) → start < 2 ^ 32 → (records : List ℕ) → fresh_verdict buffer cells (length records) ≡ Ok tt
     → Good (fresh_of start buffer cells (length records)).state
 fresh-good = links.fresh-good
 

@@ -1,6 +1,6 @@
 -- Taking keeps a good state good: the oldest ready message leaves its cell and the sum, and the oldest number moves on to the
 -- next ready message or to the next expected number; or a link's oldest ack is taken. Assumes nothing.
-use Rattle.std.specs.Prelude.{◌≡◌, refl, List, ℕ, ◌+◌, ◌-◌, ◌^◌, ◌<◌}
+use Rattle.std.specs.Prelude.{◌≡◌, refl, List, ℕ, ◌+◌, ◌-◌, ◌^◌, ◌<◌, Some, None}
 use Rattle.std.proofs.Common.{sym, ◌∙◌, arith}
 use Rattle.std.proofs.Math.Path.{ap}
 use Rattle.std.proofs.lemmas.Bool.{eqb-false}
@@ -8,7 +8,6 @@ use Rattle.seq.specs.declared.Seq.{Seq}
 use Rattle.seq.specs.Numbers.{minus}
 use Rattle.seq.specs.Distance.{past, past_near}
 use Rattle.msg.specs.declared.reliable.ReliableMsg.{ReliableMsg}
-use Rattle.engine.specs.declared.state.Held.TheVariants.{Nothing, Message}
 use Rattle.engine.specs.declared.state.State.{State}
 use Rattle.engine.specs.CellCount.{CellCount, cell-count}
 use Rattle.engine.specs.Received.{RxTable, table_of, expected_at, held_at, view-held, view-cell}
@@ -43,14 +42,14 @@ module _ (s : State) (good : Good s) (records : List ℕ) (msg : ReliableMsg) (s
   ready-past = expected-past _ _ good.shaped.expected-u32 good.shaped.oldest-u32 near (eqb-false _ _ (ready_held t msg len taking.ready).1)
 
   -- it is what the oldest number's cell holds
-  pub ready-here : held_past N t s.rx.rx_oldest.0 0 ≡ Message msg len
+  pub ready-here : held_past N t s.rx.rx_oldest.0 0 ≡ Some (msg, len)
   ready-here =
       let o = s.rx.rx_oldest.0 in
       sym (view-cell N count t good.shaped.oldest-u32 0 (omega arith)) ∙ view-held N count t 0 (omega (arith, ready-past, good.sound.near))
       ∙ ap (held_at N records) (plus-zero o good.shaped.oldest-u32) ∙ (ready_held t msg len taking.ready).0
 
   -- what the passing by does
-  pub taken-table-passes : Passes N t (taken_table s records (data_length msg len)) (held_but N t 0 Nothing)
+  pub taken-table-passes : Passes N t (taken_table s records (data_length msg len)) (held_but N t 0 None)
   taken-table-passes = taken-passes N count t (table-of s good records taking.recorded) (data_length msg len) ready-past
 
   -- all that its cell counts is data
@@ -68,7 +67,7 @@ module _ (s : State) (good : Good s) (records : List ℕ) (msg : ReliableMsg) (s
       let same : sizes table.rx ≡ (rx.rxed_reliable_size - bytes, rx.rxed_reliable_consumed + bytes, rx.recv_buffer, rx.cells) =
       turns_same (can_skip N table.records) passed_by sizes (λ x. refl) N _ in
       let inside : 0 < taken-table-passes.end = omega (arith, taken-table-passes.grows, ready-past, good.sound.near) in
-      passed-good s good records taking.recorded table 0 Nothing taken-table-passes inside tt (λ l. tt)
+      passed-good s good records taking.recorded table 0 None taken-table-passes inside tt (λ l. tt)
       (rw ready-here (omega (arith, ap (λ t. t.0) same, ready-data))) (omega (arith, ap (λ t. t.0) same, good.sound.untaken-within)) (omega (arith, ap (λ t. t.1) same, taking.total))
       (ap (λ t. t.2) same) (ap (λ t. t.3) same)
       s.tx.txed_unconsumed s.tx.send_finish_sent s.tx.write_closed (omega arith)

@@ -2,23 +2,22 @@
 -- call of every library crate has its line here under its path; docs/EXCEPTIONS.md has the exceptions, and .ci/unique holds both
 -- to the sources. `Reads.Learnt` of a call is its promise: what its `ensures` say of its arguments, its answer (with the next state
 -- in it) and what was lent to it at exit. The checker makes it of the source, so that no copy here can differ. Assumes nothing.
-use Rattle.std.specs.Prelude.{length, ◌≡◌, refl, List, ℕ, Bool}
+use Rattle.std.specs.Prelude.{length, ◌≡◌, refl, List, ℕ, Bool, Result}
+use Rattle.refusal.specs.declared.Refusal.{Refusal}
+use Rattle.engine.specs.declared.slowness.SlowLinks.{SlowLinks}
+use Rattle.engine.specs.Held.{HandOut}
 use Rattle.std.proofs.Common.{sym, ap, ◌∙◌}
 use Rattle.std.specs.Borrow.{GName, Bor, MutBor}
 use contract.Lifetimes.{Lfts}
 use Rattle.seq.specs.declared.Seq.{Seq}
 use Rattle.msg.specs.declared.link_msg.LinkMsg.{LinkMsg}
-use Rattle.msg.specs.declared.reading.Reading.{Reading}
 use Rattle.msg.specs.declared.reliable.ReliableMsg.{ReliableMsg}
-use Rattle.msg.specs.declared.writing.Written.{Written}
 use Rattle.link.specs.declared.row.LinkRow.{LinkRow}
 use Rattle.engine.specs.declared.state.State.{State}
 use Rattle.engine.specs.declared.answer.Changed.{Changed}
 use Rattle.engine.specs.declared.sending.SendResult.{SendResult}
-use Rattle.engine.specs.declared.handing_out.HandOut.{HandOut}
 use Rattle.engine.specs.declared.handing_out.TakeResult.{TakeResult}
 use Rattle.engine.specs.HandingOut.{shown_at}
-use Rattle.engine.specs.declared.slowness.SlowAnswer.{SlowAnswer}
 use Rattle.engine.specs.Slowness.{slow_slots, slow_verdict, slow_told, slow_links_of}
 use Rattle.refusal.specs.Answers.{told_by}
 use Rattle.refusal.proofs as refusal
@@ -48,10 +47,11 @@ refusal-lib = sole
 
 -- crates/refusal/src/verdict.rt
 pub refusal-verdict :
-    Unique refusal.verdict.gate.Reads.Learnt
+    Unique refusal.verdict.refuse_unless.Reads.Learnt
+    × Unique refusal.verdict.gate.Reads.Learnt
     × Unique refusal.verdict.both.Reads.Learnt
     × Unique refusal.verdict.either.Reads.Learnt
-refusal-verdict = (sole, sole, sole)
+refusal-verdict = (sole, sole, sole, sole)
 
 -- crates/seq/src/lib.rt
 pub seq-lib :
@@ -195,14 +195,14 @@ abbrev pub lent_mut : {X : Type 0} → Place → X → MutBor X
 lent_mut i x = record { ref_ptr = i.ptr; ghost_name = i.name; now = x }
 
 -- crates/msg/src/reading.rt
-pub msg-read : (κs κs' : Lfts 1) (bytes : List ℕ) (i i' : Place) (r r' : Reading) (e : _) (e' : _)
+pub msg-read : (κs κs' : Lfts 1) (bytes : List ℕ) (i i' : Place) (r r' : Result LinkMsg Refusal) (e : _) (e' : _)
     → msg.reading.read.Reads.Learnt κs (lent i bytes, tt) r e
     → msg.reading.read.Reads.Learnt κs' (lent i' bytes, tt) r' e'
     → r ≡ r'
 msg-read κs κs' bytes i i' r r' e e' p q = p.0 ∙ sym q.0
 
 -- crates/msg/src/writing.rt; `e.1.0` is the second parameter at exit, the buffer
-pub msg-write : (κs κs' : Lfts 1) (m : LinkMsg) (buffer : List ℕ) (i i' : Place) (r r' : Written) (e : _) (e' : _)
+pub msg-write : (κs κs' : Lfts 1) (m : LinkMsg) (buffer : List ℕ) (i i' : Place) (r r' : Result ℕ Refusal) (e : _) (e' : _)
     → msg.writing.write.Reads.Learnt κs (m, (lent_mut i buffer, tt)) r e
     → msg.writing.write.Reads.Learnt κs' (m, (lent_mut i' buffer, tt)) r' e'
     → (r ≡ r') × (e.1.0.now ≡ e'.1.0.now)
@@ -257,10 +257,10 @@ pub take : (κs κs' : Lfts 1) (s : State) (records : List ℕ) (i i' : Place) (
 take κs κs' s records i i' r r' e e' p q = (p.0 ∙ sym q.0, p.1.1 ∙ sym q.1.1)
 
 -- crates/engine/src/slowness.rt; what it promises, in one clause, is the definition and what that tells
-pub slow-says : (κs : Lfts 1) (rows : List LinkRow) (i : Place) (r : SlowAnswer) (e : _)
+pub slow-says : (κs : Lfts 1) (rows : List LinkRow) (i : Place) (r : Result SlowLinks Refusal) (e : _)
     → engine.slowness.slow.Reads.Learnt κs (lent i rows, tt) r e
     ≡ ((r ≡ slow_links_of rows) × (slow_told r ≡ told_by (slow_verdict rows) (slow_slots rows)))
 slow-says κs rows i r e = refl
 
-pub slow : (rows : List LinkRow) (r r' : SlowAnswer) → r ≡ slow_links_of rows → r' ≡ slow_links_of rows → r ≡ r'
+pub slow : (rows : List LinkRow) (r r' : Result SlowLinks Refusal) → r ≡ slow_links_of rows → r' ≡ slow_links_of rows → r ≡ r'
 slow rows r r' p q = p ∙ sym q

@@ -1,11 +1,9 @@
 -- Document 01, the acks that wait for a link: "adds an ack" (Receive) and "Taking an ack removes the link's oldest."
 -- Assumes nothing.
-use Rattle.std.specs.Prelude.{cond, List, ◌++◌, ◌+◌, ◌-◌, ltb, eqb, get_or, set, take, drop}
+use Rattle.std.specs.Prelude.{cond, List, ◌++◌, ◌+◌, ◌-◌, ltb, eqb, get_or, set, take, drop, Some, None, Option}
 use Rattle.seq.specs.declared.Seq.{Seq}
 use Rattle.seq.specs.Numbers.{seq_of}
 use Rattle.link.specs.declared.row.LinkRow.{LinkRow}
-use Rattle.link.specs.declared.acks.OldestAck.{OldestAck}
-use Rattle.link.specs.declared.acks.OldestAck.TheVariants.{Nothing, Number}
 use Rattle.link.specs.Fields.{with_acks}
 use Rattle.link.specs.Sizes.{ACKS}
 
@@ -17,8 +15,8 @@ waiting r = take r.ack_count r.tx_ack_queue
 unfoldable pub ack_queued : LinkRow → Seq → LinkRow
 ack_queued r seq = cond (ltb r.ack_count ACKS) (with_acks r (set r.tx_ack_queue r.ack_count seq) (r.ack_count + 1)) r
 
-unfoldable pub oldest_ack : LinkRow → OldestAck
-oldest_ack r = cond (eqb r.ack_count 0) Nothing (Number (get_or r.tx_ack_queue 0 (seq_of 0)))
+unfoldable pub oldest_ack : LinkRow → Option Seq
+oldest_ack r = cond (eqb r.ack_count 0) None (Some (get_or r.tx_ack_queue 0 (seq_of 0)))
 
 -- the places moved one to the front; what stands in the last is not looked at any more
 unfoldable pub shifted : List Seq → List Seq

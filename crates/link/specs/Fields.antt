@@ -1,9 +1,7 @@
 -- A row with some of its fields changed: antt has no update of a record. Assumes nothing.
-use Rattle.std.specs.Prelude.{Bool, List, ℕ}
+use Rattle.std.specs.Prelude.{Bool, List, ℕ, Option}
 use Rattle.seq.specs.declared.Seq.{Seq}
 use Rattle.link.specs.declared.row.LinkRow.{LinkRow}
-use Rattle.link.specs.declared.row.Limit.{Limit}
-use Rattle.link.specs.declared.row.Ping.{Ping}
 
 -- the flags
 abbrev pub with_flags : LinkRow → (blocked unconfirmed : Bool) → LinkRow
@@ -23,7 +21,7 @@ with_flags r b u = record {
 }
 
 -- the round trip, its flag and the outstanding ping
-abbrev pub with_trip : LinkRow → (roundtrip : ℕ) (zero : Bool) (ping : Ping) → LinkRow
+abbrev pub with_trip : LinkRow → (roundtrip : ℕ) (zero : Bool) (ping : Option ℕ) → LinkRow
 with_trip r t z p = record {
   live = r.live;
   link_id = r.link_id;
@@ -40,7 +38,7 @@ with_trip r t z p = record {
 }
 
 -- the mark and the unacked bytes
-abbrev pub with_sending : LinkRow → (mark : Limit) (unacked : ℕ) → LinkRow
+abbrev pub with_sending : LinkRow → (mark : Option Seq) (unacked : ℕ) → LinkRow
 with_sending r m n = record {
   live = r.live;
   link_id = r.link_id;

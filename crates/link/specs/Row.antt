@@ -1,18 +1,14 @@
 -- Document 01, "What each call does", "Links" and "Unconfirm": a link's row when it is added, removed, confirmed,
 -- unconfirmed and blocked. Assumes nothing.
-use Rattle.std.specs.Prelude.{Bool, true, false, ℕ, replicate, []}
+use Rattle.std.specs.Prelude.{Bool, true, false, ℕ, replicate, [], None, Option}
 use Rattle.seq.specs.Numbers.{seq_of}
 use Rattle.link.specs.declared.row.LinkRow.{LinkRow}
-use Rattle.link.specs.declared.row.MaxPing.{MaxPing}
-use Rattle.link.specs.declared.row.MaxPing.TheVariants.{Unlimited}
-use Rattle.link.specs.declared.row.Limit.TheVariants.{Clear}
-use Rattle.link.specs.declared.row.Ping.TheVariants.{Idle}
 use Rattle.link.specs.Fields.{with_flags, with_sending, with_acks}
 use Rattle.link.specs.Sizes.{ACKS}
 
 -- "Its round trip, `max_ping` or none, blocked and unconfirmed flags are given; all else starts empty, the zero-estimate
 -- flag false (P)."
-unfoldable pub fresh_row : ℕ → ℕ → MaxPing → Bool → Bool → LinkRow
+unfoldable pub fresh_row : ℕ → ℕ → Option ℕ → Bool → Bool → LinkRow
 fresh_row id roundtrip max blocked unconfirmed = record {
   live = true;
   link_id = id;
@@ -21,8 +17,8 @@ fresh_row id roundtrip max blocked unconfirmed = record {
   blocked = blocked;
   unconfirmed = unconfirmed;
   zero_estimate = false;
-  limit_increased = Clear;
-  current_ping_sent = Idle;
+  limit_increased = None;
+  current_ping_sent = None;
   txed_unacked_data = 0;
   tx_ack_queue = replicate ACKS (seq_of 0);
   ack_count = 0;
@@ -34,12 +30,12 @@ no_row = record {
   live = false;
   link_id = 0;
   roundtrip = 0;
-  max_ping = Unlimited;
+  max_ping = None;
   blocked = false;
   unconfirmed = false;
   zero_estimate = false;
-  limit_increased = Clear;
-  current_ping_sent = Idle;
+  limit_increased = None;
+  current_ping_sent = None;
   txed_unacked_data = 0;
   tx_ack_queue = [];
   ack_count = 0;
@@ -59,7 +55,7 @@ blocked_row r b = with_flags r b r.unconfirmed
 -- "The link becomes unconfirmed; its mark is cleared, its round trip and flag kept (P). Its Sent packets become
 -- ResendQueued", so that none of its bytes is unacked
 unfoldable pub unconfirmed_row : LinkRow → LinkRow
-unconfirmed_row r = with_flags (with_sending r Clear 0) r.blocked true
+unconfirmed_row r = with_flags (with_sending r None 0) r.blocked true
 
 -- the link's unacked bytes, which the engine counts
 unfoldable pub with_unacked : LinkRow → ℕ → LinkRow

@@ -1,11 +1,7 @@
 -- Document 01, Sound, of one row: "send, flush and ping times are at most the last accepted time; counts, lengths and times
 -- are within their sizes." Times are at most 2^56, and 64 acks wait at most. Assumes nothing.
-use Rattle.std.specs.Prelude.{Bool, true, ◌&&◌, ℕ, ◌^◌, leb}
+use Rattle.std.specs.Prelude.{Bool, true, ◌&&◌, ℕ, ◌^◌, leb, Some, None, Option}
 use Rattle.link.specs.declared.row.LinkRow.{LinkRow}
-use Rattle.link.specs.declared.row.MaxPing.{MaxPing}
-use Rattle.link.specs.declared.row.MaxPing.TheVariants.{Unlimited, UpTo}
-use Rattle.link.specs.declared.row.Ping.{Ping}
-use Rattle.link.specs.declared.row.Ping.TheVariants.{Idle, Since}
 
 -- "Times are nanoseconds, at most 2^56"; "64 waiting acks a link"
 abbrev pub MAX_TIME : ℕ
@@ -18,13 +14,13 @@ ACKS = 64
 abbrev pub MAX_FACTOR : ℕ
 MAX_FACTOR = 1000
 
-abbrev pub max_ping_within : MaxPing → Bool
-max_ping_within Unlimited = true
-max_ping_within (UpTo limit) = leb limit MAX_TIME
+abbrev pub max_ping_within : Option ℕ → Bool
+max_ping_within None = true
+max_ping_within (Some limit) = leb limit MAX_TIME
 
-abbrev pub ping_within : Ping → ℕ → Bool
-ping_within Idle time = true
-ping_within (Since since) time = leb since time
+abbrev pub ping_within : Option ℕ → ℕ → Bool
+ping_within None time = true
+ping_within (Some since) time = leb since time
 
 unfoldable pub row_within : LinkRow → ℕ → Bool
 row_within r time =

@@ -9,13 +9,6 @@ use seq::Seq;
 // The last place of the queue.
 const LAST: usize = ACKS - 1;
 
-// The oldest waiting ack.
-#[derive(Clone, Copy)]
-pub enum OldestAck {
-    Nothing,
-    Number(Seq),
-}
-
 // The numbers moved one place to the front: the first is gone, and the last stands twice.
 fn shift(acks: [Seq; ACKS]) -> [Seq; ACKS]
     ensures { result ≡ shifted acks }
@@ -45,14 +38,15 @@ impl LinkRow {
         out
     }
 
-    pub fn oldest_ack(self) -> OldestAck
+    // The oldest waiting ack.
+    pub fn oldest_ack(self) -> Option<Seq>
         ensures { result ≡ oldest_ack self }
     {
         if self.ack_count == 0 {
-            return OldestAck::Nothing;
+            return None;
         }
         let seq = self.tx_ack_queue[0];
-        OldestAck::Number(seq)
+        Some(seq)
     }
 
     // The row without its oldest ack; with none waiting it stays as it is.

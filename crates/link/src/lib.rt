@@ -9,5 +9,5 @@ pub mod sizes;
 pub mod slow;
 pub mod timeout;
 
-pub use row::{Limit, LinkRow, MaxPing, Ping};
+pub use row::LinkRow;
 pub use timeout::AckTimeout;

@@ -2,12 +2,12 @@
 ghost use Rattle.std.specs.Prelude.{◌≡◌};
 ghost use Rattle.link.specs.Limit.{marked_row, mark_acked, mark_resent};
 
-use crate::row::{Limit, LinkRow};
+use crate::row::LinkRow;
 use seq::Seq;
 
 impl LinkRow {
     // Sets the limit mark.
-    pub fn mark(self, limit: Limit) -> LinkRow
+    pub fn mark(self, limit: Option<Seq>) -> LinkRow
         ensures { result ≡ marked_row self limit }
     {
         let max_ping = self.max_ping;
@@ -35,14 +35,14 @@ impl LinkRow {
     {
         let limit = self.limit_increased;
         match limit {
-            Limit::Clear => self,
-            Limit::At(mark) => {
+            None => self,
+            Some(mark) => {
                 if received.is_before(mark) {
                     let mut out = self;
                     out.zero_estimate = true;
                     return out;
                 }
-                self.mark(Limit::Clear)
+                self.mark(None)
             }
         }
     }
@@ -53,10 +53,10 @@ impl LinkRow {
     {
         let limit = self.limit_increased;
         match limit {
-            Limit::Clear => self,
-            Limit::At(mark) => {
+            None => self,
+            Some(mark) => {
                 if seq.is_before(mark) {
-                    return self.mark(Limit::At(seq));
+                    return self.mark(Some(seq));
                 }
                 self
             }

@@ -2,7 +2,7 @@
 ghost use Rattle.std.specs.Prelude.{◌≡◌, ◌+◌, ◌-◌, ◌*◌, ◌/◌};
 ghost use Rattle.link.specs.Roundtrip.{trip_after, with_ping, pinged, ponged, trip_moved};
 
-use crate::row::{LinkRow, Ping};
+use crate::row::LinkRow;
 
 // a less b, or 0.
 fn less(a: u64, b: u64) -> u64
@@ -39,7 +39,7 @@ pub fn trip_after(zero_estimate: bool, r: u64, e: u64) -> u64
 }
 
 impl LinkRow {
-    fn with_ping(self, ping: Ping) -> LinkRow
+    fn with_ping(self, ping: Option<u64>) -> LinkRow
         ensures { result ≡ with_ping self ping }
     {
         let max_ping = self.max_ping;
@@ -65,7 +65,7 @@ impl LinkRow {
     pub fn ping(self, time: u64) -> LinkRow
         ensures { result ≡ pinged self time }
     {
-        self.with_ping(Ping::Since(time))
+        self.with_ping(Some(time))
     }
 
     // The outstanding ping is answered.
@@ -74,9 +74,9 @@ impl LinkRow {
     {
         let ping = self.current_ping_sent;
         match ping {
-            Ping::Idle => self,
-            Ping::Since(since) => {
-                let mut out = self.with_ping(Ping::Idle);
+            None => self,
+            Some(since) => {
+                let mut out = self.with_ping(None);
                 out.roundtrip = less(time, since);
                 out.zero_estimate = false;
                 out

@@ -5,29 +5,8 @@ ghost use Rattle.link.specs.Row.{empty_row, fresh_row, confirmed, unconfirmed_ro
 use crate::sizes::ACKS;
 use seq::Seq;
 
-// The longest round trip that a link may have, in nanoseconds.
-#[derive(Clone, Copy)]
-pub enum MaxPing {
-    Unlimited,
-    UpTo(u64),
-}
-
-// The limit mark: the number at which the link's send limit was last increased.
-#[derive(Clone, Copy)]
-pub enum Limit {
-    Clear,
-    At(Seq),
-}
-
-// The outstanding ping: when it was sent.
-#[derive(Clone, Copy)]
-pub enum Ping {
-    Idle,
-    Since(u64),
-}
-
 // A link slot. Times are nanoseconds.
-#[derive(Clone, Copy)]
+#[derive(Clone, Copy, PartialEq, Eq)]
 pub struct LinkRow {
     // whether the slot holds a link
     pub live: bool,
@@ -35,14 +14,17 @@ pub struct LinkRow {
     pub link_id: u64,
     // the round trip as last estimated
     pub roundtrip: u64,
-    pub max_ping: MaxPing,
+    // the longest round trip that the link may have, where there is one
+    pub max_ping: Option<u64>,
     pub blocked: bool,
     // not tested yet, or an acknowledgement timed out
     pub unconfirmed: bool,
     // the next acknowledgement replaces the round trip (the original's estimates are Some(0))
     pub zero_estimate: bool,
-    pub limit_increased: Limit,
-    pub current_ping_sent: Ping,
+    // the limit mark: the number at which the link's send limit was last increased
+    pub limit_increased: Option<Seq>,
+    // when the ping was sent that has no answer yet
+    pub current_ping_sent: Option<u64>,
     // the data bytes Sent over this link and not acknowledged
     pub txed_unacked_data: u32,
     // the waiting acks, oldest first: the first ack_count of these
@@ -59,12 +41,12 @@ impl LinkRow {
             live: false,
             link_id: 0,
             roundtrip: 0,
-            max_ping: MaxPing::Unlimited,
+            max_ping: None,
             blocked: false,
             unconfirmed: false,
             zero_estimate: false,
-            limit_increased: Limit::Clear,
-            current_ping_sent: Ping::Idle,
+            limit_increased: None,
+            current_ping_sent: None,
             txed_unacked_data: 0,
             tx_ack_queue: [Seq::ZERO; ACKS],
             ack_count: 0,
@@ -75,7 +57,7 @@ impl LinkRow {
     pub fn fresh(
         link_id: u64,
         roundtrip: u64,
-        max_ping: MaxPing,
+        max_ping: Option<u64>,
         blocked: bool,
         unconfirmed: bool,
     ) -> LinkRow
@@ -89,8 +71,8 @@ impl LinkRow {
             blocked,
             unconfirmed,
             zero_estimate: false,
-            limit_increased: Limit::Clear,
-            current_ping_sent: Ping::Idle,
+            limit_increased: None,
+            current_ping_sent: None,
             txed_unacked_data: 0,
             tx_ack_queue: [Seq::ZERO; ACKS],
             ack_count: 0,
@@ -120,7 +102,7 @@ impl LinkRow {
             blocked: self.blocked,
             unconfirmed: true,
             zero_estimate: self.zero_estimate,
-            limit_increased: Limit::Clear,
+            limit_increased: None,
             current_ping_sent,
             txed_unacked_data: 0,
             tx_ack_queue,

@@ -2,7 +2,7 @@
 ghost use Rattle.std.specs.Prelude.{◌≡◌};
 ghost use Rattle.link.specs.Sizes.{max_ping_within, ping_within, row_within};
 
-use crate::row::{LinkRow, MaxPing, Ping};
+use crate::row::LinkRow;
 use refusal::both;
 
 // Acks that may wait on a link.
@@ -14,21 +14,21 @@ pub const MAX_TIME: u64 = 0x100_0000_0000_0000;
 // The largest factor of a deadline.
 pub const MAX_FACTOR: u64 = 1000;
 
-pub fn max_ping_within(max_ping: MaxPing) -> bool
+pub fn max_ping_within(max_ping: Option<u64>) -> bool
     ensures { result ≡ max_ping_within max_ping }
 {
     match max_ping {
-        MaxPing::Unlimited => true,
-        MaxPing::UpTo(limit) => limit <= MAX_TIME,
+        None => true,
+        Some(limit) => limit <= MAX_TIME,
     }
 }
 
-fn ping_within(ping: Ping, time: u64) -> bool
+fn ping_within(ping: Option<u64>, time: u64) -> bool
     ensures { result ≡ ping_within ping time }
 {
     match ping {
-        Ping::Idle => true,
-        Ping::Since(since) => since <= time,
+        None => true,
+        Some(since) => since <= time,
     }
 }
 

@@ -2,7 +2,7 @@
 ghost use Rattle.std.specs.Prelude.{◌≡◌};
 ghost use Rattle.link.specs.Slow.{confirmed_link, above_max_ping, slow_row};
 
-use crate::row::{LinkRow, MaxPing};
+use crate::row::LinkRow;
 
 impl LinkRow {
     pub fn is_confirmed(self) -> bool
@@ -16,8 +16,8 @@ impl LinkRow {
     {
         let max = self.max_ping;
         match max {
-            MaxPing::Unlimited => false,
-            MaxPing::UpTo(limit) => limit < self.roundtrip,
+            None => false,
+            Some(limit) => limit < self.roundtrip,
         }
     }
 
@@ -29,8 +29,8 @@ impl LinkRow {
         }
         let max = self.max_ping;
         match max {
-            MaxPing::Unlimited => true,
-            MaxPing::UpTo(limit) => limit < self.roundtrip,
+            None => true,
+            Some(limit) => limit < self.roundtrip,
         }
     }
 }

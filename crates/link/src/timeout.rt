@@ -6,7 +6,7 @@ use crate::sizes::{MAX_FACTOR, MAX_TIME};
 use refusal::both;
 
 // A host's settings, by their names in the original without `ack_timeout`.
-#[derive(Clone, Copy)]
+#[derive(Clone, Copy, PartialEq, Eq)]
 pub struct AckTimeout {
     // of the round trip
     pub roundtrip_factor: u64,

@@ -1,5 +1,5 @@
 -- Taking an ack, in two steps: the acks move one to the front, and the row's count is one less. Assumes nothing.
-use Rattle.std.specs.Prelude.{◌≡◌, true, false, List, ℕ, ◌-◌, ◌<◌, eqb, length, get_or}
+use Rattle.std.specs.Prelude.{◌≡◌, true, false, List, ℕ, ◌-◌, ◌<◌, eqb, length, get_or, Ok, Err}
 use Rattle.std.proofs.Common.{ap, ◌∙◌, arith, get_or-set_same, set-set}
 use borrow.Author.Tests.{eq-eqb, ne_eqb}
 use Rattle.refusal.specs.declared.Refusal.TheVariants.{Slot, Nothing}
@@ -9,7 +9,6 @@ use Rattle.link.specs.Acks.{shifted, oldest_ack, ack_taken}
 use Rattle.link.specs.Fields.{with_acks}
 use Rattle.link.specs.Row.{no_row}
 use Rattle.engine.specs.declared.state.State.{State}
-use Rattle.engine.specs.declared.handing_out.TakeAck.TheVariants.{Number, No}
 use Rattle.engine.specs.Decide.{soundb}
 use Rattle.engine.specs.Fields.{with_row}
 use Rattle.engine.specs.HandingOut.{take_ack_verdict, ack_answer, taken_ack_state, take_ack_of}
@@ -51,7 +50,7 @@ acks-dropped s slot row h e pos =
     ∙ simp some
 
 module _ (s : State) (judged : soundb s ≡ true) (slot : ℕ) where
-  pub ack-no-slot : slot_ok s slot ≡ false → take_ack_of s slot ≡ record { answer = No Slot; state = s }
+  pub ack-no-slot : slot_ok s slot ≡ false → take_ack_of s slot ≡ record { answer = Err Slot; state = s }
   unfolding take_ack_of ack_answer take_ack_verdict
   ack-no-slot e = simp (judged, e)
 
@@ -59,11 +58,11 @@ module _ (s : State) (judged : soundb s ≡ true) (slot : ℕ) where
     at_row : row_of s slot ≡ row_at s slot
     at_row = row-of s slot (slot_small s judged slot here)
 
-    pub ack-none : (row_at s slot).ack_count ≡ 0 → take_ack_of s slot ≡ record { answer = No Nothing; state = s }
+    pub ack-none : (row_at s slot).ack_count ≡ 0 → take_ack_of s slot ≡ record { answer = Err Nothing; state = s }
     unfolding take_ack_of ack_answer take_ack_verdict oldest_ack
     ack-none e = simp (judged, here, at_row, eq-eqb _ _ e)
 
     pub ack-taken : ((row_at s slot).ack_count ≡ 0 → ⊥)
-        → take_ack_of s slot ≡ record { answer = Number (get_or (row_at s slot).tx_ack_queue 0 (seq_of 0)); state = with_row s slot (ack_taken (row_at s slot)) }
+        → take_ack_of s slot ≡ record { answer = Ok (get_or (row_at s slot).tx_ack_queue 0 (seq_of 0)); state = with_row s slot (ack_taken (row_at s slot)) }
     unfolding take_ack_of ack_answer take_ack_verdict oldest_ack taken_ack_state
     ack-taken ne = simp (judged, here, at_row, ne_eqb _ _ ne)

@@ -1,5 +1,5 @@
 -- Adding a link: what the identity words say, a slot's acks all 0, and what the call is refused by. Assumes nothing.
-use Rattle.std.specs.Prelude.{◌≡◌, refl, Bool, true, false, ◌&&◌, leb, take, drop}
+use Rattle.std.specs.Prelude.{◌≡◌, refl, Bool, true, false, ◌&&◌, leb, take, drop, Option, Ok, Err}
 use Rattle.std.proofs.Common.{sym, ◌∙◌}
 use Rattle.std.proofs.Math.Path.{ap}
 use mathlib.Core.List.{List, ◌∷◌, map}
@@ -11,12 +11,10 @@ use Rattle.refusal.specs.declared.Refusal.TheVariants.{Time, NoSlot, Identity}
 use Rattle.seq.specs.declared.Seq.{Seq}
 use Rattle.seq.specs.Numbers.{seq_of}
 use Rattle.link.specs.declared.row.LinkRow.{LinkRow}
-use Rattle.link.specs.declared.row.MaxPing.{MaxPing}
 use Rattle.link.specs.Fields.{with_acks}
 use Rattle.link.specs.Row.{fresh_row}
 use Rattle.link.specs.Sizes.{MAX_TIME, max_ping_within}
 use Rattle.engine.specs.declared.state.State.{State}
-use Rattle.engine.specs.declared.links.AddAnswer.TheVariants.{Slot, No}
 use Rattle.engine.specs.Decide.{soundb}
 use Rattle.engine.specs.Fields.{with_row}
 use Rattle.engine.specs.Links.{lowest_in, is_taken, add_verdict, add_of}
@@ -74,27 +72,27 @@ new_row s slot row h =
     ap (λ x. with_row (with_row s slot q) slot (over x row)) (row_put s slot h q) ∙ row-put-twice s slot h q (over q row)
 
 -- a row that was just added has no acks
-pub fresh-acks : (id roundtrip : ℕ) (max : MaxPing) (blocked unconfirmed : Bool)
+pub fresh-acks : (id roundtrip : ℕ) (max : Option ℕ) (blocked unconfirmed : Bool)
     → with_acks (fresh_row id roundtrip max blocked unconfirmed) no_acks (fresh_row id roundtrip max blocked unconfirmed).ack_count ≡ fresh_row id roundtrip max blocked unconfirmed
 unfolding fresh_row no_acks
 fresh-acks id roundtrip max blocked unconfirmed = refl
 
-module _ (s : State) (judged : soundb s ≡ true) (id roundtrip : ℕ) (max : MaxPing) (blocked unconfirmed : Bool) where
-  pub add-no-time : (leb roundtrip MAX_TIME && max_ping_within max) ≡ false → add_of s id roundtrip max blocked unconfirmed ≡ record { answer = No Time; state = s }
+module _ (s : State) (judged : soundb s ≡ true) (id roundtrip : ℕ) (max : Option ℕ) (blocked unconfirmed : Bool) where
+  pub add-no-time : (leb roundtrip MAX_TIME && max_ping_within max) ≡ false → add_of s id roundtrip max blocked unconfirmed ≡ record { answer = Err Time; state = s }
   unfolding add_of add_verdict
   add-no-time t = simp (judged, t)
 
   module _ (timed : (leb roundtrip MAX_TIME && max_ping_within max) ≡ true) where
-    pub add-no-slot : SLOTS ≤ lowest_in s → add_of s id roundtrip max blocked unconfirmed ≡ record { answer = No NoSlot; state = s }
+    pub add-no-slot : SLOTS ≤ lowest_in s → add_of s id roundtrip max blocked unconfirmed ≡ record { answer = Err NoSlot; state = s }
     unfolding add_of add_verdict
     add-no-slot h = simp (judged, timed, le-ltb _ _ h)
 
     module _ (room : lowest_in s < SLOTS) where
-      pub add-taken : is_taken s.links id ≡ true → add_of s id roundtrip max blocked unconfirmed ≡ record { answer = No Identity; state = s }
+      pub add-taken : is_taken s.links id ≡ true → add_of s id roundtrip max blocked unconfirmed ≡ record { answer = Err Identity; state = s }
       unfolding add_of add_verdict
       add-taken t = simp (judged, timed, lt-ltb _ _ room, t)
 
       pub add_done : is_taken s.links id ≡ false
-          → add_of s id roundtrip max blocked unconfirmed ≡ record { answer = Slot (lowest_in s); state = with_row s (lowest_in s) (fresh_row id roundtrip max blocked unconfirmed) }
+          → add_of s id roundtrip max blocked unconfirmed ≡ record { answer = Ok (lowest_in s); state = with_row s (lowest_in s) (fresh_row id roundtrip max blocked unconfirmed) }
       unfolding add_of add_verdict
       add_done t = simp (judged, timed, lt-ltb _ _ room, t)

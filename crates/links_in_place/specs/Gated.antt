@@ -1,8 +1,7 @@
 -- What a call is refused by where the words are those of a sound state: its tests, and never 1. Assumes nothing.
-use Rattle.std.specs.Prelude.{◌≡◌, true, false, ℕ, ◌<◌}
+use Rattle.std.specs.Prelude.{◌≡◌, true, false, ℕ, ◌<◌, Ok, Err}
+use Rattle.refusal.specs.Verdicts.{Verdict}
 use Rattle.refusal.specs.declared.Refusal.TheVariants.{Time, Slot}
-use Rattle.refusal.specs.declared.verdict.Verdict.{Verdict}
-use Rattle.refusal.specs.declared.verdict.Verdict.TheVariants.{Pass, No}
 use Rattle.engine.specs.declared.state.State.{State}
 use Rattle.engine.specs.Decide.{soundb}
 use Rattle.engine.specs.Gates.{slot_verdict, timed_verdict, slot-ok}
@@ -13,11 +12,11 @@ module _ (s : State) (judged : soundb s ≡ true) (slot : ℕ) where
   pub slot_small : slot_ok s slot ≡ true → slot < SLOTS
   slot_small e = (slot-ok s slot judged e).small
 
-  pub slot-here : slot_ok s slot ≡ true → slot_verdict s slot ≡ Pass
+  pub slot-here : slot_ok s slot ≡ true → slot_verdict s slot ≡ Ok tt
   unfolding slot_verdict
   slot-here e = simp (judged, e)
 
-  pub slot-not : slot_ok s slot ≡ false → slot_verdict s slot ≡ No Slot
+  pub slot-not : slot_ok s slot ≡ false → slot_verdict s slot ≡ Err Slot
   unfolding slot_verdict
   slot-not e = simp (judged, e)
 
@@ -26,10 +25,10 @@ module _ (s : State) (judged : soundb s ≡ true) (slot : ℕ) where
     unfolding timed_verdict
     timed-here t e = simp (judged, t, e)
 
-    pub timed-no-slot : time_ok s time ≡ true → slot_ok s slot ≡ false → timed_verdict s slot time rest ≡ No Slot
+    pub timed-no-slot : time_ok s time ≡ true → slot_ok s slot ≡ false → timed_verdict s slot time rest ≡ Err Slot
     unfolding timed_verdict
     timed-no-slot t e = simp (judged, t, e)
 
-    pub timed-no-time : time_ok s time ≡ false → timed_verdict s slot time rest ≡ No Time
+    pub timed-no-time : time_ok s time ≡ false → timed_verdict s slot time rest ≡ Err Time
     unfolding timed_verdict
     timed-no-time t = simp (judged, t)

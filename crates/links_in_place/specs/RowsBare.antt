@@ -1,15 +1,12 @@
 -- A row that is read from its words has none of its acks, and writing one leaves those that wait: each change of a row is the same change of the
 -- row with them. Assumes nothing.
-use Rattle.std.specs.Prelude.{◌≡◌, Bool, ℕ, ◌<◌}
+use Rattle.std.specs.Prelude.{◌≡◌, Bool, ℕ, ◌<◌, Some, None, Option}
+use Rattle.seq.specs.declared.Seq.{Seq}
 use Rattle.std.proofs.Math.Path.{refl}
 use Rattle.std.proofs.Common.{sym, ap, ◌∙◌}
 use borrow.Table.Steps.{cases}
 use Rattle.seq.specs.Distance.{before}
 use Rattle.link.specs.declared.row.LinkRow.{LinkRow}
-use Rattle.link.specs.declared.row.Limit.{Limit}
-use Rattle.link.specs.declared.row.Limit.TheVariants.{Clear, At}
-use Rattle.link.specs.declared.row.Ping.{Ping}
-use Rattle.link.specs.declared.row.Ping.TheVariants.{Idle, Since}
 use Rattle.link.specs.Fields.{with_acks}
 use Rattle.link.specs.Row.{confirmed, blocked_row, unconfirmed_row, with_unacked}
 use Rattle.link.specs.Limit.{marked_row, mark_acked_as, mark_acked, mark_resent_as, mark_resent}
@@ -42,7 +39,7 @@ module _ (r : LinkRow) where
   unfolding with_unacked
   bare-unacked n = refl
 
-  pub bare-marked : (m : Limit) → over r (marked_row (bare r) m) ≡ marked_row r m
+  pub bare-marked : (m : Option Seq) → over r (marked_row (bare r) m) ≡ marked_row r m
   unfolding marked_row
   bare-marked m = refl
 
@@ -54,26 +51,26 @@ module _ (r : LinkRow) where
   unfolding trip_moved
   bare-trip since t = refl
 
-  ponged-as : (p : Ping) (t : ℕ) → over r (ponged_as p (bare r) t) ≡ ponged_as p r t
+  ponged-as : (p : Option ℕ) (t : ℕ) → over r (ponged_as p (bare r) t) ≡ ponged_as p r t
   unfolding ponged_as
-  ponged-as Idle t = refl
-  ponged-as (Since since) t = refl
+  ponged-as None t = refl
+  ponged-as (Some since) t = refl
 
   pub bare-ponged : (t : ℕ) → over r (ponged (bare r) t) ≡ ponged r t
   bare-ponged t = ponged-as r.current_ping_sent t
 
-  pub acked-as : (m : Limit) (a : ℕ) → over r (mark_acked_as m (bare r) a) ≡ mark_acked_as m r a
+  pub acked-as : (m : Option Seq) (a : ℕ) → over r (mark_acked_as m (bare r) a) ≡ mark_acked_as m r a
   unfolding mark_acked_as
-  acked-as Clear a = refl
-  acked-as (At m) a = cases (before a m.0) (λ t. simp t) (λ t. simp t)
+  acked-as None a = refl
+  acked-as (Some m) a = cases (before a m.0) (λ t. simp t) (λ t. simp t)
 
   pub bare-acked : (a : ℕ) → over r (mark_acked (bare r) a) ≡ mark_acked r a
   bare-acked a = acked-as r.limit_increased a
 
-  pub resent-as : (m : Limit) (n : ℕ) → over r (mark_resent_as m (bare r) n) ≡ mark_resent_as m r n
+  pub resent-as : (m : Option Seq) (n : ℕ) → over r (mark_resent_as m (bare r) n) ≡ mark_resent_as m r n
   unfolding mark_resent_as
-  resent-as Clear n = refl
-  resent-as (At m) n = cases (before n m.0) (λ t. simp t) (λ t. simp t)
+  resent-as None n = refl
+  resent-as (Some m) n = cases (before n m.0) (λ t. simp t) (λ t. simp t)
 
   pub bare-resent : (n : ℕ) → over r (mark_resent (bare r) n) ≡ mark_resent r n
   bare-resent n = resent-as r.limit_increased n

@@ -10,9 +10,9 @@ ghost use Rattle.words.specs.Layout.{WORDS};
 ghost use Rattle.words.specs.Meaning.{state_of};
 ghost use Rattle.words.specs.Ready.{Ready, Left};
 
-use engine::TakeAck;
 use link::LinkRow;
 use refusal::Refusal;
+use seq::Seq;
 use words::gates::slot_ok;
 use words::queues::{first_ack, shift_acks};
 use words::row::{put_row, row_at};
@@ -37,21 +37,21 @@ fn drop_ack(words: &mut [u64], slot: usize, row: LinkRow)
 }
 
 // Takes the link's oldest ack.
-pub fn take_ack(words: &mut [u64], slot: u8) -> TakeAck
+pub fn take_ack(words: &mut [u64], slot: u8) -> Result<Seq, Refusal>
     requires { Ready words.old }
     ensures value { result ≡ (take_ack_of (state_of words.old) slot).answer }
     ensures words_after { state_of words.new ≡ (take_ack_of (state_of words.old) slot).state }
     ensures left { Left (take_ack_told result).number words.old words.new }
 {
     if !slot_ok(words, slot) {
-        return TakeAck::No(Refusal::Slot);
+        return Err(Refusal::Slot);
     }
     let j = slot as usize;
     let row = row_at(words, j);
     if row.ack_count == 0 {
-        return TakeAck::No(Refusal::Nothing);
+        return Err(Refusal::Nothing);
     }
     let seq = first_ack(words, j);
     drop_ack(words, j, row);
-    TakeAck::Number(seq)
+    Ok(seq)
 }

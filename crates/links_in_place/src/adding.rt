@@ -10,11 +10,10 @@ ghost use Rattle.words.specs.Layout.{WORDS};
 ghost use Rattle.words.specs.Meaning.{state_of};
 ghost use Rattle.words.specs.Ready.{Ready, Left};
 
-use engine::AddAnswer;
 use engine::sizes::SLOT_END;
 use engine::starting::empty_records;
+use link::LinkRow;
 use link::sizes::{ACKS, MAX_TIME, max_ping_within};
-use link::{LinkRow, MaxPing};
 use refusal::{Refusal, both};
 use words::gates::slot_ok;
 use words::layout::{ACKS_START, ROW, ROWS};
@@ -88,27 +87,27 @@ pub fn add(
     words: &mut [u64],
     link_id: u64,
     roundtrip: u64,
-    max_ping: MaxPing,
+    max_ping: Option<u64>,
     blocked: bool,
     unconfirmed: bool,
-) -> AddAnswer
+) -> Result<u8, Refusal>
     requires { Ready words.old }
     ensures value { result ≡ (add_of (state_of words.old) link_id roundtrip max_ping blocked unconfirmed).answer }
     ensures words_after { state_of words.new ≡ (add_of (state_of words.old) link_id roundtrip max_ping blocked unconfirmed).state }
     ensures left { Left (add_told result).number words.old words.new }
 {
     if !both(roundtrip <= MAX_TIME, max_ping_within(max_ping)) {
-        return AddAnswer::No(Refusal::Time);
+        return Err(Refusal::Time);
     }
     let slot = lowest_empty(words);
     if SLOT_END <= slot {
-        return AddAnswer::No(Refusal::NoSlot);
+        return Err(Refusal::NoSlot);
     }
     if is_taken(words, link_id) {
-        return AddAnswer::No(Refusal::Identity);
+        return Err(Refusal::Identity);
     }
     let j = slot as usize;
     let row = LinkRow::fresh(link_id, roundtrip, max_ping, blocked, unconfirmed);
     put_new(words, j, row);
-    AddAnswer::Slot(slot)
+    Ok(slot)
 }

@@ -5,96 +5,94 @@ ghost use Rattle.words.specs.Meaning.{state_of};
 ghost use Rattle.words.specs.Ready.{Ready, Left};
 ghost use Rattle.engine.specs.Answer.{outcome_told};
 
-use engine::Outcome;
-use link::Limit;
 use refusal::Refusal;
 use seq::Seq;
 use words::clock::put_time;
 use words::gates::{slot_ok, time_ok};
 use words::row::{put_row, row_at};
 
-pub fn confirm(words: &mut [u64], slot: u8) -> Outcome
+pub fn confirm(words: &mut [u64], slot: u8) -> Result<(), Refusal>
     requires { Ready words.old }
     ensures value { result ≡ (confirm_of (state_of words.old) slot).outcome }
     ensures words_after { state_of words.new ≡ (confirm_of (state_of words.old) slot).state }
     ensures left { Left (outcome_told result).number words.old words.new }
 {
     if !slot_ok(words, slot) {
-        return Outcome::No(Refusal::Slot);
+        return Err(Refusal::Slot);
     }
     let j = slot as usize;
     let row = row_at(words, j);
     put_row(words, j, row.confirm());
-    Outcome::Done
+    Ok(())
 }
 
-pub fn block(words: &mut [u64], slot: u8, blocked: bool) -> Outcome
+pub fn block(words: &mut [u64], slot: u8, blocked: bool) -> Result<(), Refusal>
     requires { Ready words.old }
     ensures value { result ≡ (block_of (state_of words.old) slot blocked).outcome }
     ensures words_after { state_of words.new ≡ (block_of (state_of words.old) slot blocked).state }
     ensures left { Left (outcome_told result).number words.old words.new }
 {
     if !slot_ok(words, slot) {
-        return Outcome::No(Refusal::Slot);
+        return Err(Refusal::Slot);
     }
     let j = slot as usize;
     let row = row_at(words, j);
     put_row(words, j, row.block(blocked));
-    Outcome::Done
+    Ok(())
 }
 
 // Sets the limit mark to any number.
-pub fn mark(words: &mut [u64], slot: u8, seq: Seq) -> Outcome
+pub fn mark(words: &mut [u64], slot: u8, seq: Seq) -> Result<(), Refusal>
     requires { Ready words.old }
     ensures value { result ≡ (mark_of (state_of words.old) slot seq).outcome }
     ensures words_after { state_of words.new ≡ (mark_of (state_of words.old) slot seq).state }
     ensures left { Left (outcome_told result).number words.old words.new }
 {
     if !slot_ok(words, slot) {
-        return Outcome::No(Refusal::Slot);
+        return Err(Refusal::Slot);
     }
     let j = slot as usize;
     let row = row_at(words, j);
-    put_row(words, j, row.mark(Limit::At(seq)));
-    Outcome::Done
+    put_row(words, j, row.mark(Some(seq)));
+    Ok(())
 }
 
 // Notes that a ping was sent.
-pub fn ping(words: &mut [u64], slot: u8, time: u64) -> Outcome
+pub fn ping(words: &mut [u64], slot: u8, time: u64) -> Result<(), Refusal>
     requires { Ready words.old }
     ensures value { result ≡ (ping_of (state_of words.old) slot time).outcome }
     ensures words_after { state_of words.new ≡ (ping_of (state_of words.old) slot time).state }
     ensures left { Left (outcome_told result).number words.old words.new }
 {
     if !time_ok(words, time) {
-        return Outcome::No(Refusal::Time);
+        return Err(Refusal::Time);
     }
     if !slot_ok(words, slot) {
-        return Outcome::No(Refusal::Slot);
+        return Err(Refusal::Slot);
     }
     let j = slot as usize;
     let row = row_at(words, j);
     put_row(words, j, row.ping(time));
     put_time(words, time);
-    Outcome::Done
+    Ok(())
 }
 
 // A pong arrived.
-pub fn pong(words: &mut [u64], slot: u8, time: u64) -> Outcome
+pub fn pong(words: &mut [u64], slot: u8, time: u64) -> Result<(), Refusal>
     requires { Ready words.old }
     ensures value { result ≡ (pong_of (state_of words.old) slot time).outcome }
     ensures words_after { state_of words.new ≡ (pong_of (state_of words.old) slot time).state }
     ensures left { Left (outcome_told result).number words.old words.new }
 {
     if !time_ok(words, time) {
-        return Outcome::No(Refusal::Time);
+        return Err(Refusal::Time);
     }
     if !slot_ok(words, slot) {
-        return Outcome::No(Refusal::Slot);
+        return Err(Refusal::Slot);
     }
     let j = slot as usize;
     let row = row_at(words, j);
     put_row(words, j, row.pong(time));
     put_time(words, time);
-    Outcome::Done
+    Ok(())
 }

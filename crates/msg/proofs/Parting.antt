@@ -1,5 +1,6 @@
 -- A message is its head and then its test data: what `write` lays down, piece by piece, is the buffer that `bufferOf` says.
 -- Assumes nothing.
+use Rattle.std.specs.Prelude.{Ok, Err}
 use mathlib.Core.Path.{◌≡◌, refl, sym, ap, ap₂, ◌∙◌}
 use mathlib.Core.Bool.{true, false}
 use mathlib.Core.List.{List, ◌++◌, append-nil, append_assoc}
@@ -11,7 +12,6 @@ use borrow.Author.Tests.{le-leb, lt-leb, leb-true}
 use Rattle.refusal.specs.Refusals.{refuse}
 use Rattle.msg.specs.declared.link_msg.LinkMsg.{LinkMsg}
 use Rattle.msg.specs.declared.link_msg.LinkMsg.TheVariants.{Welcome, Connect, Accepted, Refused, Ping, Pong, Data, Ack, Consumed, SendFinish, ReceiveClose, ReceiveFinish, TestData, SetBlock, Goodbye, Terminate}
-use Rattle.msg.specs.declared.writing.Written.TheVariants.{Bytes, No}
 use Rattle.msg.specs.declared.writing.Parts.{Parts}
 use Rattle.msg.specs.Messages.{pattern, bytes_of}
 use Rattle.msg.specs.RoundTrip.{length-pattern}
@@ -73,7 +73,7 @@ module _ (msg : LinkMsg) (parts : Parts) (p : Parted (writable msg) (head_of msg
 
   module _ (buffer : List ℕ) where
     -- a message that may not be written
-    pub write-refused : parts.ok ≡ false → (No (refuse 20 tt) ≡ write_of msg buffer) × (buffer ≡ buffer_of msg buffer)
+    pub write-refused : parts.ok ≡ false → (Err (refuse 20 tt) ≡ write_of msg buffer) × (buffer ≡ buffer_of msg buffer)
     unfolding write_of buffer_of
     write-refused w = let v : writable msg ≡ false = sym p.may ∙ w in (simp v, simp v)
 
@@ -88,7 +88,7 @@ module _ (msg : LinkMsg) (parts : Parts) (p : Parted (writable msg) (head_of msg
       end-small = omega (arith, p.test, size_small msg v)
 
       -- a buffer too short for it
-      pub write-short : length buffer < parts.len + parts.size → (No (refuse 7 tt) ≡ write_of msg buffer) × (buffer ≡ buffer_of msg buffer)
+      pub write-short : length buffer < parts.len + parts.size → (Err (refuse 7 tt) ≡ write_of msg buffer) × (buffer ≡ buffer_of msg buffer)
       unfolding write_of buffer_of
       write-short h =
           let e = lt-leb (length (bytes_of msg)) (length buffer) (omega (arith, whole)) in
@@ -100,7 +100,7 @@ module _ (msg : LinkMsg) (parts : Parts) (p : Parted (writable msg) (head_of msg
           → copied ≡ take parts.len parts.bytes
           → filled ≡ pattern (length (take k (drop parts.len (copied ++ drop parts.len buffer))))
           → k ≡ parts.size
-          → (Bytes (parts.len + parts.size) ≡ write_of msg buffer)
+          → (Ok (parts.len + parts.size) ≡ write_of msg buffer)
           × (take parts.len (copied ++ drop parts.len buffer) ++ (filled ++ drop k (drop parts.len (copied ++ drop parts.len buffer))) ≡ buffer_of msg buffer)
       unfolding write_of buffer_of
       write_done h copied filled k ec ef ek =
@@ -112,7 +112,7 @@ module _ (msg : LinkMsg) (parts : Parts) (p : Parted (writable msg) (head_of msg
           let part : length (take k (drop parts.len (copied ++ drop parts.len buffer))) ≡ size_of msg =
           simp (length-take, length-drop, length-append, head) (omega (arith, p.len-head, size))
           in (
-            simp (v, e) (ap Bytes whole),
+            simp (v, e) (ap Ok whole),
             simp (v, e)
                 (simp (ef ∙ ap pattern part, head, size) (laid (head_of msg) buffer parts.len (size_of msg) (sym p.len-head))
                 ∙ ap₂ (λ (bytes : List ℕ) (i : ℕ). bytes ++ drop i buffer) (sym (bytes-parted msg)) (ap (λ i. parts.len + i) (sym p.test) ∙ whole)),

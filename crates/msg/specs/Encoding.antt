@@ -1,6 +1,7 @@
 -- Document 02, [11]: "with that, each message of our list has exactly one encoding, for every kind but the handshake pair". So
 -- reading and writing are each other's inverse on what is accepted. Assumes nothing.
-use Rattle.std.specs.Prelude.{◌≡◌, refl, Bool, true, false, cond, ◌&&◌, List, [], ◌∷◌, ◌++◌, ℕ, zero, suc, ◌+◌, ◌*◌, ◌%◌, ◌^◌, ◌≤◌, ◌<◌, eqb, leb, length, drop, get_or}
+use Rattle.std.specs.Prelude.{◌≡◌, refl, Bool, true, false, cond, ◌&&◌, List, [], ◌∷◌, ◌++◌, ℕ, zero, suc, ◌+◌, ◌*◌, ◌%◌, ◌^◌, ◌≤◌, ◌<◌, eqb, leb, length, drop, get_or, Ok, Err, Result}
+use Rattle.refusal.specs.declared.Refusal.{Refusal}
 use Rattle.std.proofs.Common.{sym, ap, ap₂, subst, ◌∙◌, append-nil, arith, drop_of_length-le, drop-cons, eqb-true, le-leb}
 use Rattle.refusal.specs.Tests.{false-true, split}
 use Rattle.seq.specs.declared.Seq.{Seq}
@@ -9,9 +10,6 @@ use Rattle.msg.specs.declared.link_msg.RefusedReason.{RefusedReason}
 use Rattle.msg.specs.declared.link_msg.RefusedReason.TheVariants.{Closed, NotListening, ConnectionRefused, LinkRefused}
 use Rattle.msg.specs.declared.link_msg.LinkMsg.{LinkMsg}
 use Rattle.msg.specs.declared.link_msg.LinkMsg.TheVariants.{Welcome, Connect, Accepted, Refused, Ping, Pong, Data, Ack, Consumed, SendFinish, ReceiveClose, ReceiveFinish, TestData, SetBlock, Goodbye, Terminate}
-use Rattle.msg.specs.declared.reading.Reading.{Reading}
-use Rattle.msg.specs.declared.reading.Reading.TheVariants as reading
-use Rattle.msg.specs.declared.writing.Written.TheVariants as written
 use Rattle.msg.specs.Messages.{be32, pattern, kind_of, reason_byte, block_byte, body_of, bytes_of, handshake}
 use Rattle.msg.specs.Reading.{bad, number_at, exactly, opens_with, magic, reasons, blocks, read_handshake, read_alone, read_refused, read_numbered, read_consumed, read_test_data, read_set_block, read_none, readers, read_kind, read_of}
 use Rattle.msg.specs.Writing.{writable, write_of, buffer_of}
@@ -23,9 +21,9 @@ Bytes bytes = (k : ℕ) → get_or bytes k 0 < 256
 
 -- What an answer says of the bytes that it was given for: a refusal is 20; a message's numbers are u32, and, if it is none of the
 -- handshake pair, it may be written and its bytes are those that were read.
-abbrev pub Answers : List ℕ → Reading → Type 0
-Answers bytes (reading.No e) = reading.No e ≡ bad
-Answers bytes (reading.Message msg) = Bytes bytes → Ranged msg × (handshake msg ≡ false → (writable msg ≡ true) × (bytes_of msg ≡ bytes))
+abbrev pub Answers : List ℕ → Result LinkMsg Refusal → Type 0
+Answers bytes (Err e) = Err e ≡ bad
+Answers bytes (Ok msg) = Bytes bytes → Ranged msg × (handshake msg ≡ false → (writable msg ≡ true) × (bytes_of msg ≡ bytes))
 
 -- ---- four bytes and their number
 
@@ -71,11 +69,11 @@ opens-whole (x ∷ head) (y ∷ bytes) e o =
 
 -- ---- what each kind reads
 
-either : (bytes : List ℕ) (b : Bool) (x : Reading) → (b ≡ true → Answers bytes x) → Answers bytes (cond b x bad)
+either : (bytes : List ℕ) (b : Bool) (x : Result LinkMsg Refusal) → (b ≡ true → Answers bytes x) → Answers bytes (cond b x bad)
 either bytes true x f = f refl
 either bytes false x f = refl
 
-whole : (kind n : ℕ) (body : List ℕ) (x : Reading) → (length body ≡ n → Answers (kind ∷ body) x) → Answers (kind ∷ body) (exactly n body x)
+whole : (kind n : ℕ) (body : List ℕ) (x : Result LinkMsg Refusal) → (length body ≡ n → Answers (kind ∷ body) x) → Answers (kind ∷ body) (exactly n body x)
 unfolding exactly
 whole kind n body x f = either (kind ∷ body) (eqb (length body) n) x (λ e. f (eqb-true (length body) n e))
 
@@ -90,7 +88,7 @@ at_each P (x ∷ l) d zero all last = all.0
 at_each P (x ∷ l) d (suc i) all last = at_each (λ k. P (suc k)) l d i all.1 (λ k. last (suc k))
 
 -- how a kind's reader answers
-abbrev Reads : ℕ → (List ℕ → Reading) → Type 0
+abbrev Reads : ℕ → (List ℕ → Result LinkMsg Refusal) → Type 0
 Reads kind reader = (body : List ℕ) → Answers (kind ∷ body) (reader body)
 
 none : (kind : ℕ) → Reads kind read_none
@@ -99,16 +97,16 @@ none kind body = refl
 handshakes : (kind : ℕ) (msg : LinkMsg) → Ranged msg → handshake msg ≡ true → Reads kind (read_handshake msg)
 unfolding read_handshake
 handshakes kind msg r h body =
-    either (kind ∷ body) (opens_with magic body && eqb (get_or body 5 0) 4) (reading.Message msg) (λ e small. (r, λ other-kind. false-true (sym other-kind ∙ h)))
+    either (kind ∷ body) (opens_with magic body && eqb (get_or body 5 0) 4) (Ok msg) (λ e small. (r, λ other-kind. false-true (sym other-kind ∙ h)))
 
 alone : (kind : ℕ) (msg : LinkMsg) → Ranged msg → writable msg ≡ true → bytes_of msg ≡ kind ∷ [] → Reads kind (read_alone msg)
 unfolding read_alone
 alone kind msg r w b body =
-    whole kind 0 body (reading.Message msg)
+    whole kind 0 body (Ok msg)
     (λ e small. (r, λ other-kind. (w, b ∙ ap (λ (l : List ℕ). kind ∷ l) (sym (drop_of_length-le body {i = 0} (omega arith))))))
 
 -- one byte, read by a table
-one_byte : (kind : ℕ) (table : List Reading) → Each (λ b. Answers (kind ∷ b ∷ [])) table → Reads kind (λ body. exactly 1 body (get_or table (get_or body 0 0) bad))
+one_byte : (kind : ℕ) (table : List (Result LinkMsg Refusal)) → Each (λ b. Answers (kind ∷ b ∷ [])) table → Reads kind (λ body. exactly 1 body (get_or table (get_or body 0 0) bad))
 one_byte kind table all body =
     let b = get_or body 0 0 in
     whole kind 1 body (get_or table b bad)
@@ -128,7 +126,7 @@ numbered : (kind : ℕ) (msg : Seq → LinkMsg) → ((n : ℕ) → n < 2 ^ 32 �
 unfolding read_numbered
 numbered kind msg says body =
     let n = number_at body 0 in
-    whole kind 4 body (reading.Message (msg (seq_of n)))
+    whole kind 4 body (Ok (msg (seq_of n)))
     (λ e small.
     let bytes : Bytes body = λ k. small (suc k) in
     let said = says n (number_small body 0 bytes) in
@@ -137,7 +135,7 @@ numbered kind msg says body =
 consumed : Reads 9 read_consumed
 unfolding read_consumed
 consumed body =
-    whole 9 8 body (reading.Message (Consumed (seq_of (number_at body 0)) (number_at body 4)))
+    whole 9 8 body (Ok (Consumed (seq_of (number_at body 0)) (number_at body 4)))
     (λ e small.
     let bytes : Bytes body = λ k. small (suc k) in
     let back = ap (λ (l : List ℕ). be32 (number_at body 0) ++ l) (last-number body 4 bytes e) ∙ number-back body 0 bytes (omega arith) in
@@ -146,8 +144,8 @@ consumed body =
 tested : Reads 13 read_test_data
 unfolding read_test_data
 tested body =
-    either (13 ∷ body) (leb (length body) 1024) (cond (opens_with (pattern (length body)) body) (reading.Message (TestData (length body))) bad)
-    (λ fits. either (13 ∷ body) (opens_with (pattern (length body)) body) (reading.Message (TestData (length body)))
+    either (13 ∷ body) (leb (length body) 1024) (cond (opens_with (pattern (length body)) body) (Ok (TestData (length body))) bad)
+    (λ fits. either (13 ∷ body) (opens_with (pattern (length body)) body) (Ok (TestData (length body)))
     (λ on small. (tt, λ other-kind. (fits, ap (λ (l : List ℕ). 13 ∷ l) (opens-whole (pattern (length body)) body (length-pattern (length body)) on)))))
 
 each-reader : Each Reads readers
@@ -220,14 +218,14 @@ bytes-of Terminate = of-kind Terminate (omega arith) bytes-nil
 -- ---- the statements
 
 -- what is read may be written, and its bytes are those that were read
-pub read-is-written : (msg : LinkMsg) (bytes : List ℕ) → Bytes bytes → handshake msg ≡ false → read_of bytes ≡ reading.Message msg → (writable msg ≡ true) × (bytes_of msg ≡ bytes)
-read-is-written msg bytes small other-kind e = (subst (λ (r : Reading). Answers bytes r) e (answers bytes) small).1 other-kind
+pub read-is-written : (msg : LinkMsg) (bytes : List ℕ) → Bytes bytes → handshake msg ≡ false → read_of bytes ≡ Ok msg → (writable msg ≡ true) × (bytes_of msg ≡ bytes)
+read-is-written msg bytes small other-kind e = (subst (λ (r : Result LinkMsg Refusal). Answers bytes r) e (answers bytes) small).1 other-kind
 
 -- "exactly one encoding": the message's bytes read as it, and no others do
 pub record OneEncoding (msg : LinkMsg) : Type 0 where
   pub are-bytes : Bytes (bytes_of msg)
-  pub read-so : read_of (bytes_of msg) ≡ reading.Message msg
-  pub no-others : (bytes : List ℕ) → Bytes bytes → read_of bytes ≡ reading.Message msg → bytes ≡ bytes_of msg
+  pub read-so : read_of (bytes_of msg) ≡ Ok msg
+  pub no-others : (bytes : List ℕ) → Bytes bytes → read_of bytes ≡ Ok msg → bytes ≡ bytes_of msg
 
 -- "each message of our list has exactly one encoding, for every kind but the handshake pair" (a TestData above 1,024 is no message
 -- of the list)
@@ -240,17 +238,17 @@ one-encoding msg other-kind r w = record {
 
 -- two runs of bytes that read as the same message are equal
 pub read_alike : (msg : LinkMsg) (bytes other : List ℕ) → Bytes bytes → Bytes other → handshake msg ≡ false
-    → read_of bytes ≡ reading.Message msg → read_of other ≡ reading.Message msg → bytes ≡ other
+    → read_of bytes ≡ Ok msg → read_of other ≡ Ok msg → bytes ≡ other
 read_alike msg bytes other small small-other other-kind e e-other = sym (read-is-written msg bytes small other-kind e).1 ∙ (read-is-written msg other small-other other-kind e-other).1
 
 -- what is read, written again into a buffer that has room for it, gives the same bytes; `written-reads-back` of RoundTrip says the
 -- same the other way about
-pub read-writes-back : (msg : LinkMsg) (bytes buffer : List ℕ) → Bytes bytes → handshake msg ≡ false → read_of bytes ≡ reading.Message msg
+pub read-writes-back : (msg : LinkMsg) (bytes buffer : List ℕ) → Bytes bytes → handshake msg ≡ false → read_of bytes ≡ Ok msg
     → length bytes ≤ length buffer
-    → (write_of msg buffer ≡ written.Bytes (length bytes)) × (buffer_of msg buffer ≡ bytes ++ drop (length bytes) buffer)
+    → (write_of msg buffer ≡ Ok (length bytes)) × (buffer_of msg buffer ≡ bytes ++ drop (length bytes) buffer)
 unfolding write_of buffer_of
 read-writes-back msg bytes buffer small other-kind e room =
     let same = read-is-written msg bytes small other-kind e in
     let fits = le-leb (length (bytes_of msg)) (length buffer) (subst (λ (l : List ℕ). length l ≤ length buffer) (sym same.1) room) in
-    subst (λ (l : List ℕ). (write_of msg buffer ≡ written.Bytes (length l)) × (buffer_of msg buffer ≡ l ++ drop (length l) buffer)) same.1
+    subst (λ (l : List ℕ). (write_of msg buffer ≡ Ok (length l)) × (buffer_of msg buffer ≡ l ++ drop (length l) buffer)) same.1
     (simp (same.0, fits), simp (same.0, fits))

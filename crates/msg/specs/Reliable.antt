@@ -1,12 +1,10 @@
 -- Reliable messages: those with a number, which are acknowledged and resent. Assumes nothing.
-use Rattle.std.specs.Prelude.{◌≡◌, refl, Bool, ℕ, eqb}
+use Rattle.std.specs.Prelude.{◌≡◌, refl, Bool, ℕ, eqb, Some, None, Option}
 use Rattle.seq.specs.declared.Seq.{Seq}
 use Rattle.msg.specs.declared.link_msg.LinkMsg.{LinkMsg}
 use Rattle.msg.specs.declared.link_msg.LinkMsg.TheVariants as links
 use Rattle.msg.specs.declared.reliable.ReliableMsg.{ReliableMsg}
 use Rattle.msg.specs.declared.reliable.ReliableMsg.TheVariants.{Data, Consumed, SendFinish, ReceiveClose, ReceiveFinish}
-use Rattle.msg.specs.declared.reliable.FromLink.{FromLink}
-use Rattle.msg.specs.declared.reliable.FromLink.TheVariants.{Reliable, Other}
 
 -- the kind bytes
 abbrev pub MSG_DATA : ℕ
@@ -51,26 +49,26 @@ to_link ReceiveClose seq = links.ReceiveClose seq
 to_link ReceiveFinish seq = links.ReceiveFinish seq
 
 -- the reliable message and the number that a link message carries, where it carries one
-abbrev pub from_link : LinkMsg → FromLink
-from_link links.Welcome = Other
-from_link links.Connect = Other
-from_link links.Accepted = Other
-from_link (links.Refused reason) = Other
-from_link links.Ping = Other
-from_link links.Pong = Other
-from_link (links.Data seq) = Reliable Data seq
-from_link (links.Ack received) = Other
-from_link (links.Consumed seq n) = Reliable (Consumed n) seq
-from_link (links.SendFinish seq) = Reliable SendFinish seq
-from_link (links.ReceiveClose seq) = Reliable ReceiveClose seq
-from_link (links.ReceiveFinish seq) = Reliable ReceiveFinish seq
-from_link (links.TestData size) = Other
-from_link (links.SetBlock blocked) = Other
-from_link links.Goodbye = Other
-from_link links.Terminate = Other
+abbrev pub from_link : LinkMsg → Option (ReliableMsg × Seq)
+from_link links.Welcome = None
+from_link links.Connect = None
+from_link links.Accepted = None
+from_link (links.Refused reason) = None
+from_link links.Ping = None
+from_link links.Pong = None
+from_link (links.Data seq) = Some (Data, seq)
+from_link (links.Ack received) = None
+from_link (links.Consumed seq n) = Some ((Consumed n), seq)
+from_link (links.SendFinish seq) = Some (SendFinish, seq)
+from_link (links.ReceiveClose seq) = Some (ReceiveClose, seq)
+from_link (links.ReceiveFinish seq) = Some (ReceiveFinish, seq)
+from_link (links.TestData size) = None
+from_link (links.SetBlock blocked) = None
+from_link links.Goodbye = None
+from_link links.Terminate = None
 
 -- the way there and back
-pub from-to : (msg : ReliableMsg) (seq : Seq) → from_link (to_link msg seq) ≡ Reliable msg seq
+pub from-to : (msg : ReliableMsg) (seq : Seq) → from_link (to_link msg seq) ≡ Some (msg, seq)
 from-to Data seq = refl
 from-to (Consumed n) seq = refl
 from-to SendFinish seq = refl

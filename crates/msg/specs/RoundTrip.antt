@@ -1,5 +1,5 @@
 -- Document 01, "Message bytes (002)": "Every other message of this list reads back as written." Assumes nothing.
-use Rattle.std.specs.Prelude.{◌≡◌, refl, Bool, true, false, List, [], ◌∷◌, ◌++◌, ℕ, zero, suc, ◌+◌, ◌*◌, ◌/◌, ◌%◌, ◌^◌, ◌≤◌, ◌<◌, length, take, drop, get_or, ltb}
+use Rattle.std.specs.Prelude.{◌≡◌, refl, Bool, true, false, List, [], ◌∷◌, ◌++◌, ℕ, zero, suc, ◌+◌, ◌*◌, ◌/◌, ◌%◌, ◌^◌, ◌≤◌, ◌<◌, length, take, drop, get_or, ltb, Ok}
 use Rattle.std.proofs.Common.{sym, ap, ◌∙◌, div-add-mod', mod-eq_of_lt, add-one, arith, length-append, take_at, ltb-true, ltb-false, le-leb, eq-eqb}
 use Rattle.std.proofs.Math.Nat.{div-div-eq-div-mul}
 use Rattle.std.proofs.Math.ListN.{get_or-append}
@@ -11,7 +11,6 @@ use Rattle.msg.specs.declared.link_msg.RefusedReason.{RefusedReason}
 use Rattle.msg.specs.declared.link_msg.RefusedReason.TheVariants.{Closed, NotListening, ConnectionRefused, LinkRefused}
 use Rattle.msg.specs.declared.link_msg.LinkMsg.{LinkMsg}
 use Rattle.msg.specs.declared.link_msg.LinkMsg.TheVariants.{Welcome, Connect, Accepted, Refused, Ping, Pong, Data, Ack, Consumed, SendFinish, ReceiveClose, ReceiveFinish, TestData, SetBlock, Goodbye, Terminate}
-use Rattle.msg.specs.declared.reading.Reading.TheVariants.{Message}
 use Rattle.msg.specs.Messages.{be32, pattern, bytes_of, handshake}
 use Rattle.msg.specs.Reading.{bad, number_at, exactly, opens_with, read_alone, read_refused, read_numbered, read_consumed, read_test_data, read_set_block, read_kind, read_of}
 use Rattle.msg.specs.Writing.{writable, buffer_of}
@@ -49,9 +48,9 @@ four_bytes n h =
     (mod-eq_of_lt (omega arith))
 
 -- a number alone is the whole body
-numbered-back : (msg : Seq → LinkMsg) (seq : Seq) → seq.0 < 2 ^ 32 → read_numbered msg (be32 seq.0) ≡ Message (msg seq)
+numbered-back : (msg : Seq → LinkMsg) (seq : Seq) → seq.0 < 2 ^ 32 → read_numbered msg (be32 seq.0) ≡ Ok (msg seq)
 unfolding read_numbered exactly be32 number_at
-numbered-back msg seq h = ap (λ (n : ℕ). Message (msg (seq_of n))) (four_bytes seq.0 h)
+numbered-back msg seq h = ap (λ (n : ℕ). Ok (msg (seq_of n))) (four_bytes seq.0 h)
 
 pub length-pattern : (n : ℕ) → length (pattern n) ≡ n
 unfolding pattern
@@ -73,24 +72,24 @@ unfolding opens_with
 opens-itself [] = refl
 opens-itself (b ∷ bytes) = simp (eq-eqb b b refl) (opens-itself bytes)
 
-consumed-back : (seq : Seq) (consumed : ℕ) → (seq.0 < 2 ^ 32) × (consumed < 2 ^ 32) → read_consumed (be32 seq.0 ++ be32 consumed) ≡ Message (Consumed seq consumed)
+consumed-back : (seq : Seq) (consumed : ℕ) → (seq.0 < 2 ^ 32) × (consumed < 2 ^ 32) → read_consumed (be32 seq.0 ++ be32 consumed) ≡ Ok (Consumed seq consumed)
 unfolding read_consumed exactly be32 number_at
 consumed-back seq consumed r = simp (four_bytes seq.0 r.0, four_bytes consumed r.1)
 
-refused-back : (reason : RefusedReason) → read_of (bytes_of (Refused reason)) ≡ Message (Refused reason)
+refused-back : (reason : RefusedReason) → read_of (bytes_of (Refused reason)) ≡ Ok (Refused reason)
 unfolding read_of read_kind read_refused exactly
 refused-back Closed = refl
 refused-back NotListening = refl
 refused-back ConnectionRefused = refl
 refused-back LinkRefused = refl
 
-block_back : (blocked : Bool) → read_of (bytes_of (SetBlock blocked)) ≡ Message (SetBlock blocked)
+block_back : (blocked : Bool) → read_of (bytes_of (SetBlock blocked)) ≡ Ok (SetBlock blocked)
 unfolding read_of read_kind read_set_block exactly
 block_back false = refl
 block_back true = refl
 
 -- what may be written reads back as it was written
-pub reads-back : (msg : LinkMsg) → Ranged msg → writable msg ≡ true → read_of (bytes_of msg) ≡ Message msg
+pub reads-back : (msg : LinkMsg) → Ranged msg → writable msg ≡ true → read_of (bytes_of msg) ≡ Ok msg
 unfolding read_of read_kind read_alone read_test_data exactly
 reads-back Welcome r w = false-true w
 reads-back Connect r w = false-true w
@@ -131,7 +130,7 @@ unwritable-is-unreadable Terminate n w = false-true (sym w)
 
 -- the bytes that an accepted writing leaves at the buffer's start read back as the message
 pub written-reads-back : (msg : LinkMsg) (buffer : List ℕ) → Ranged msg → writable msg ≡ true → length (bytes_of msg) ≤ length buffer
-    → read_of (take (length (bytes_of msg)) (buffer_of msg buffer)) ≡ Message msg
+    → read_of (take (length (bytes_of msg)) (buffer_of msg buffer)) ≡ Ok msg
 unfolding buffer_of
 written-reads-back msg buffer r w h =
     simp (w, le-leb (length (bytes_of msg)) (length buffer) h, take_at (bytes_of msg) (drop (length (bytes_of msg)) buffer) (length (bytes_of msg)) refl)

@@ -1,15 +1,12 @@
 -- Document 01, "Message bytes (002)": what writing answers, and what the lent buffer holds afterwards. Assumes nothing.
-use Rattle.std.specs.Prelude.{Bool, true, false, cond, not, ◌&&◌, ◌||◌, ◌≡◌, List, [], ◌∷◌, ◌++◌, ℕ, ◌≤◌, leb, length, take, drop}
+use Rattle.std.specs.Prelude.{Bool, true, false, cond, not, ◌&&◌, ◌||◌, ◌≡◌, List, [], ◌∷◌, ◌++◌, ℕ, ◌≤◌, leb, length, take, drop, Ok, Err, Result}
+use Rattle.refusal.specs.declared.Refusal.{Refusal}
 use Rattle.refusal.specs.Refusals.{refuse}
 use Rattle.refusal.specs.Answers.{Told, success, refused, told_by}
-use Rattle.refusal.specs.Verdicts.{gate}
-use Rattle.refusal.specs.declared.verdict.Verdict.{Verdict}
-use Rattle.refusal.specs.declared.verdict.Verdict.TheVariants.{Pass}
+use Rattle.refusal.specs.Verdicts.{Verdict, gate}
 use borrow.Table.Steps.{cases}
 use Rattle.msg.specs.declared.link_msg.LinkMsg.{LinkMsg}
 use Rattle.msg.specs.declared.link_msg.LinkMsg.TheVariants.{Welcome, Connect, Accepted, Refused, Ping, Pong, Data, Ack, Consumed, SendFinish, ReceiveClose, ReceiveFinish, TestData, SetBlock, Goodbye, Terminate}
-use Rattle.msg.specs.declared.writing.Written.{Written}
-use Rattle.msg.specs.declared.writing.Written.TheVariants.{Bytes, No}
 use Rattle.msg.specs.declared.writing.Parts.{Parts}
 use Rattle.msg.specs.Messages.{kind_of, bytes_of}
 
@@ -34,21 +31,21 @@ writable Goodbye = true
 writable Terminate = true
 
 -- the paper's number for an answer, and how many bytes were written
-abbrev pub written_told : Written → Told
-written_told (Bytes n) = success (n ∷ [])
-written_told (No e) = refused e
+abbrev pub written_told : Result ℕ Refusal → Told
+written_told (Ok n) = success (n ∷ [])
+written_told (Err e) = refused e
 
 -- "an output buffer too short" gives 7, but 20 is given "whatever the buffer"
 unfoldable pub write_verdict : LinkMsg → ℕ → Verdict
-write_verdict msg room = gate (not (writable msg) || leb (length (bytes_of msg)) room) 7 (gate (writable msg) 20 Pass)
+write_verdict msg room = gate (not (writable msg) || leb (length (bytes_of msg)) room) 7 (gate (writable msg) 20 (Ok tt))
 
-unfoldable pub write_of : LinkMsg → List ℕ → Written
+unfoldable pub write_of : LinkMsg → List ℕ → Result ℕ Refusal
 write_of msg buffer =
     cond (writable msg)
     (cond (leb (length (bytes_of msg)) (length buffer))
-    (Bytes (length (bytes_of msg)))
-    (No (refuse 7 tt)))
-    (No (refuse 20 tt))
+    (Ok (length (bytes_of msg)))
+    (Err (refuse 7 tt)))
+    (Err (refuse 20 tt))
 
 -- "Writing touches only the message's own bytes": they stand at the buffer's start, and a refusal leaves all as it came
 unfoldable pub buffer_of : LinkMsg → List ℕ → List ℕ

@@ -7,6 +7,6 @@ pub mod reliable;
 pub mod writing;
 
 pub use link_msg::{LinkMsg, RefusedReason};
-pub use reading::{Reading, read};
+pub use reading::read;
 pub use reliable::ReliableMsg;
-pub use writing::{Written, write};
+pub use writing::write;

@@ -2,7 +2,7 @@
 use seq::Seq;
 
 // Why a link was refused.
-#[derive(Clone, Copy)]
+#[derive(Clone, Copy, PartialEq, Eq)]
 pub enum RefusedReason {
     Closed,
     NotListening,
@@ -11,7 +11,7 @@ pub enum RefusedReason {
 }
 
 // A message over a link. Of the handshake pair, Welcome and Connect, only the head is ours: the rest is the host's.
-#[derive(Clone, Copy)]
+#[derive(Clone, Copy, PartialEq, Eq)]
 pub enum LinkMsg {
     Welcome,
     Connect,

@@ -8,13 +8,6 @@ use crate::link_msg::{LinkMsg, RefusedReason};
 use refusal::Refusal;
 use seq::Seq;
 
-// What reading answers.
-#[derive(Clone, Copy)]
-pub enum Reading {
-    Message(LinkMsg),
-    No(Refusal),
-}
-
 // The byte at an index, 0 past the end.
 fn byte_at(bytes: &[u8], i: usize) -> u8
     ensures { result ≡ get_or bytes.now i 0 }
@@ -41,13 +34,13 @@ fn seq_of(body: &[u8]) -> Seq
     Seq(number_at(body, 0))
 }
 
-fn exactly(n: usize, body: &[u8], reading: Reading) -> Reading
+fn exactly(n: usize, body: &[u8], reading: Result<LinkMsg, Refusal>) -> Result<LinkMsg, Refusal>
     ensures { result ≡ exactly n body.now reading }
 {
     if body.len() == n {
         reading
     } else {
-        Reading::No(Refusal::Bytes)
+        Err(Refusal::Bytes)
     }
 }
 
@@ -67,48 +60,48 @@ fn opens_with(head: &[u8], bytes: &[u8]) -> bool
     true
 }
 
-fn handshake(msg: LinkMsg, body: &[u8]) -> Reading
+fn handshake(msg: LinkMsg, body: &[u8]) -> Result<LinkMsg, Refusal>
     ensures { result ≡ read_handshake msg body.now }
 {
     let opens = opens_with(b"LIAG\0", body);
     let version = byte_at(body, LinkMsg::LEN_MAGIC);
     if !opens {
-        return Reading::No(Refusal::Bytes);
+        return Err(Refusal::Bytes);
     }
     if version == LinkMsg::PROTOCOL_VERSION {
-        Reading::Message(msg)
+        Ok(msg)
     } else {
-        Reading::No(Refusal::Bytes)
+        Err(Refusal::Bytes)
     }
 }
 
-fn reason(byte: u8) -> Reading
+fn reason(byte: u8) -> Result<LinkMsg, Refusal>
     ensures { result ≡ get_or reasons byte bad }
 {
     match byte {
-        1 => Reading::Message(LinkMsg::Refused {
+        1 => Ok(LinkMsg::Refused {
             reason: RefusedReason::Closed,
         }),
-        2 => Reading::Message(LinkMsg::Refused {
+        2 => Ok(LinkMsg::Refused {
             reason: RefusedReason::NotListening,
         }),
-        3 => Reading::Message(LinkMsg::Refused {
+        3 => Ok(LinkMsg::Refused {
             reason: RefusedReason::ConnectionRefused,
         }),
-        4 => Reading::Message(LinkMsg::Refused {
+        4 => Ok(LinkMsg::Refused {
             reason: RefusedReason::LinkRefused,
         }),
-        0 | 5..=255 => Reading::No(Refusal::Bytes),
+        0 | 5..=255 => Err(Refusal::Bytes),
     }
 }
 
-fn refused(body: &[u8]) -> Reading
+fn refused(body: &[u8]) -> Result<LinkMsg, Refusal>
     ensures { result ≡ read_refused body.now }
 {
     exactly(LinkMsg::LEN_BYTE, body, reason(byte_at(body, 0)))
 }
 
-fn consumed(body: &[u8]) -> Reading
+fn consumed(body: &[u8]) -> Result<LinkMsg, Refusal>
     ensures { result ≡ read_consumed body.now }
 {
     let seq = seq_of(body);
@@ -116,7 +109,7 @@ fn consumed(body: &[u8]) -> Reading
     exactly(
         LinkMsg::LEN_CONSUMED,
         body,
-        Reading::Message(LinkMsg::Consumed { seq, consumed }),
+        Ok(LinkMsg::Consumed { seq, consumed }),
     )
 }
 
@@ -139,50 +132,50 @@ fn is_pattern(bytes: &[u8]) -> bool
 }
 
 // The size is judged first, so that no byte past the limit is looked at.
-fn test_data(body: &[u8]) -> Reading
+fn test_data(body: &[u8]) -> Result<LinkMsg, Refusal>
     ensures { result ≡ read_test_data body.now }
 {
     let size = body.len();
     if size > LinkMsg::MAX_TEST_DATA {
-        return Reading::No(Refusal::Bytes);
+        return Err(Refusal::Bytes);
     }
     if is_pattern(body) {
-        Reading::Message(LinkMsg::TestData { size })
+        Ok(LinkMsg::TestData { size })
     } else {
-        Reading::No(Refusal::Bytes)
+        Err(Refusal::Bytes)
     }
 }
 
-fn block(byte: u8) -> Reading
+fn block(byte: u8) -> Result<LinkMsg, Refusal>
     ensures { result ≡ get_or blocks byte bad }
 {
     match byte {
-        0 => Reading::Message(LinkMsg::SetBlock { blocked: false }),
-        1 => Reading::Message(LinkMsg::SetBlock { blocked: true }),
-        2..=255 => Reading::No(Refusal::Bytes),
+        0 => Ok(LinkMsg::SetBlock { blocked: false }),
+        1 => Ok(LinkMsg::SetBlock { blocked: true }),
+        2..=255 => Err(Refusal::Bytes),
     }
 }
 
-fn set_block(body: &[u8]) -> Reading
+fn set_block(body: &[u8]) -> Result<LinkMsg, Refusal>
     ensures { result ≡ read_set_block body.now }
 {
     exactly(LinkMsg::LEN_BYTE, body, block(byte_at(body, 0)))
 }
 
-fn alone(msg: LinkMsg, body: &[u8]) -> Reading
+fn alone(msg: LinkMsg, body: &[u8]) -> Result<LinkMsg, Refusal>
     ensures { result ≡ read_alone msg body.now }
 {
-    exactly(0, body, Reading::Message(msg))
+    exactly(0, body, Ok(msg))
 }
 
-fn numbered(msg: LinkMsg, body: &[u8]) -> Reading
-    ensures { result ≡ exactly 4 body.now (Reading.Message msg) }
+fn numbered(msg: LinkMsg, body: &[u8]) -> Result<LinkMsg, Refusal>
+    ensures { result ≡ exactly 4 body.now (Ok msg) }
 {
-    exactly(LinkMsg::LEN_NUMBER, body, Reading::Message(msg))
+    exactly(LinkMsg::LEN_NUMBER, body, Ok(msg))
 }
 
 // Reads what follows a kind byte.
-fn read_kind(kind: u8, body: &[u8]) -> Reading
+fn read_kind(kind: u8, body: &[u8]) -> Result<LinkMsg, Refusal>
     ensures { result ≡ read_kind kind body.now }
 {
     let seq = seq_of(body);
@@ -203,17 +196,17 @@ fn read_kind(kind: u8, body: &[u8]) -> Reading
         LinkMsg::MSG_SET_BLOCK => set_block(body),
         LinkMsg::MSG_GOODBYE => alone(LinkMsg::Goodbye, body),
         LinkMsg::MSG_TERMINATE => alone(LinkMsg::Terminate, body),
-        0 | 17..=255 => Reading::No(Refusal::Bytes),
+        0 | 17..=255 => Err(Refusal::Bytes),
     }
 }
 
 // Reads one message from all of bytes.
-pub fn read(bytes: &[u8]) -> Reading
+pub fn read(bytes: &[u8]) -> Result<LinkMsg, Refusal>
     ensures value { result ≡ read_of bytes.now }
     ensures result_value { reading_told result ≡ read_told bytes.now }
 {
     if bytes.len() == 0 {
-        return Reading::No(Refusal::Bytes);
+        return Err(Refusal::Bytes);
     }
     read_kind(bytes[0], &bytes[1..])
 }

@@ -6,20 +6,13 @@ use crate::link_msg::LinkMsg;
 use seq::Seq;
 
 // A message that is resent until it is acknowledged. A Data's bytes are in a cell of a lent store.
-#[derive(Clone, Copy)]
+#[derive(Clone, Copy, PartialEq, Eq)]
 pub enum ReliableMsg {
     Data,
     Consumed(u32),
     SendFinish,
     ReceiveClose,
     ReceiveFinish,
-}
-
-// What a link message carries: a reliable message under its number, or none.
-#[derive(Clone, Copy)]
-pub enum FromLink {
-    Reliable(ReliableMsg, Seq),
-    Other,
 }
 
 impl ReliableMsg {
@@ -61,29 +54,27 @@ impl ReliableMsg {
         }
     }
 
-    pub fn from_link_msg(msg: LinkMsg) -> FromLink
+    // What a link message carries: a reliable message under its number, or none.
+    pub fn from_link_msg(msg: LinkMsg) -> Option<(ReliableMsg, Seq)>
         ensures { result ≡ from_link msg }
     {
         match msg {
-            LinkMsg::Welcome => FromLink::Other,
-            LinkMsg::Connect => FromLink::Other,
-            LinkMsg::Accepted => FromLink::Other,
-            LinkMsg::Refused { reason: _ } => FromLink::Other,
-            LinkMsg::Ping => FromLink::Other,
-            LinkMsg::Pong => FromLink::Other,
-            LinkMsg::Data { seq } => FromLink::Reliable(ReliableMsg::Data, seq),
-            LinkMsg::Ack { received: _ } => FromLink::Other,
-            LinkMsg::Consumed { seq, consumed } => FromLink::Reliable(
-                ReliableMsg::Consumed(consumed),
-                seq,
-            ),
-            LinkMsg::SendFinish { seq } => FromLink::Reliable(ReliableMsg::SendFinish, seq),
-            LinkMsg::ReceiveClose { seq } => FromLink::Reliable(ReliableMsg::ReceiveClose, seq),
-            LinkMsg::ReceiveFinish { seq } => FromLink::Reliable(ReliableMsg::ReceiveFinish, seq),
-            LinkMsg::TestData { size: _ } => FromLink::Other,
-            LinkMsg::SetBlock { blocked: _ } => FromLink::Other,
-            LinkMsg::Goodbye => FromLink::Other,
-            LinkMsg::Terminate => FromLink::Other,
+            LinkMsg::Welcome => None,
+            LinkMsg::Connect => None,
+            LinkMsg::Accepted => None,
+            LinkMsg::Refused { reason: _ } => None,
+            LinkMsg::Ping => None,
+            LinkMsg::Pong => None,
+            LinkMsg::Data { seq } => Some((ReliableMsg::Data, seq)),
+            LinkMsg::Ack { received: _ } => None,
+            LinkMsg::Consumed { seq, consumed } => Some((ReliableMsg::Consumed(consumed), seq)),
+            LinkMsg::SendFinish { seq } => Some((ReliableMsg::SendFinish, seq)),
+            LinkMsg::ReceiveClose { seq } => Some((ReliableMsg::ReceiveClose, seq)),
+            LinkMsg::ReceiveFinish { seq } => Some((ReliableMsg::ReceiveFinish, seq)),
+            LinkMsg::TestData { size: _ } => None,
+            LinkMsg::SetBlock { blocked: _ } => None,
+            LinkMsg::Goodbye => None,
+            LinkMsg::Terminate => None,
         }
     }
 }

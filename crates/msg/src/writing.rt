@@ -8,13 +8,6 @@ use crate::link_msg::{LinkMsg, RefusedReason};
 use refusal::Refusal;
 use seq::Seq;
 
-// What writing answers: how many bytes the message has, now at the buffer's start.
-#[derive(Clone, Copy)]
-pub enum Written {
-    Bytes(usize),
-    No(Refusal),
-}
-
 // A message taken apart for writing: whether it may be written, its head, which is the first len of these bytes, and how
 // many bytes of test data follow.
 #[derive(Clone, Copy)]
@@ -156,8 +149,8 @@ fn fill(part: &mut [u8])
     }
 }
 
-// Writes a message to the start of the buffer.
-pub fn write(msg: LinkMsg, buffer: &mut [u8]) -> Written
+// Writes a message to the start of the buffer, and answers how many bytes it has.
+pub fn write(msg: LinkMsg, buffer: &mut [u8]) -> Result<usize, Refusal>
     ensures value { result ≡ write_of msg buffer.old }
     ensures result_value { written_told result ≡ told_by (write_verdict msg (length buffer.old)) (length (bytes_of msg) ∷ []) }
     ensures buffer_after { buffer.new ≡ buffer_of msg buffer.old }
@@ -166,13 +159,13 @@ pub fn write(msg: LinkMsg, buffer: &mut [u8]) -> Written
     let head = parts.bytes;
     let at = parts.len;
     if !parts.ok {
-        return Written::No(Refusal::Bytes);
+        return Err(Refusal::Bytes);
     }
     let end = at + parts.size;
     if buffer.len() < end {
-        return Written::No(Refusal::Length);
+        return Err(Refusal::Length);
     }
     buffer[..at].copy_from_slice(&head[..at]);
     fill(&mut buffer[at..end]);
-    Written::Bytes(end)
+    Ok(end)
 }

@@ -1,7 +1,10 @@
 -- Document 02 [6]: "lists the messages by number"; "Listing each difference exactly once, in number order". What the list of two recordings
 -- is, in theorems: each difference is there, each once and in order, nothing else is, and the list of the two exchanged is the list
 -- exchanged; and each message stands at its place. Assumes nothing.
-use Rattle.std.specs.Prelude.{◌≡◌, Bool, true, false, ◌↔◌, ◌≢◌, eqb, ltb, ℤ, pos, negsuc, get_or, take, drop}
+use Rattle.std.specs.Prelude.{◌≡◌, Bool, true, false, ◌↔◌, ◌≢◌, eqb, ltb, ℤ, pos, negsuc, get_or, take, drop, Some, None, Option, Ok, Err, Result}
+use Rattle.refusal.specs.declared.Refusal.{Refusal}
+use Rattle.msg.specs.declared.reliable.ReliableMsg.{ReliableMsg}
+use Rattle.msg.specs.declared.link_msg.LinkMsg.{LinkMsg}
 use Rattle.std.proofs.Math.Path.{refl, sym, ap}
 use Rattle.std.proofs.Common.{◌∙◌, subst, add-one, le_refl, arith, drop-drop}
 use Rattle.std.proofs.Math.Logic.{inl, inr}
@@ -14,24 +17,15 @@ use Rattle.std.proofs.Math.ListN.{length}
 use borrow.Author.Tests.{eq-eqb, ne_eqb, eqb-true, eqb-false, lt-ltb, le-ltb, ltb-true, ltb-false}
 use borrow.Table.Steps.{cases}
 use Rattle.seq.specs.declared.Seq.{Seq}
-use Rattle.seq.specs.declared.Apart.TheVariants.{By}
 use Rattle.seq.specs.Distance.{distance_of, by-small}
-use Rattle.msg.specs.declared.reading.Reading.{Reading}
-use Rattle.msg.specs.declared.reading.Reading.TheVariants as readings
 use Rattle.msg.specs.declared.reliable.ReliableMsg.TheVariants as reliable
-use Rattle.msg.specs.declared.reliable.FromLink.{FromLink}
-use Rattle.msg.specs.declared.reliable.FromLink.TheVariants.{Reliable, Other}
 use Rattle.msg.specs.Reliable.{from_link}
 use Rattle.recording.specs.Lines.{lines_of, until_feed, line-ended, line-last, line-none}
 use Rattle.recording.specs.Frames.{frame_of}
 use Rattle.recording.specs.Payloads.{is_payload}
 use Rattle.comparing.specs.declared.messages.Message.{Message}
-use Rattle.comparing.specs.declared.messages.Waiting.{Waiting}
-use Rattle.comparing.specs.declared.messages.Waiting.TheVariants.{Frame, Payload}
 use Rattle.comparing.specs.declared.messages.Found.{Found}
 use Rattle.comparing.specs.declared.messages.Found.TheVariants as found
-use Rattle.comparing.specs.declared.messages.Start.{Start}
-use Rattle.comparing.specs.declared.messages.Start.TheVariants as starts
 use Rattle.comparing.specs.declared.runs.Content.{Content}
 use Rattle.comparing.specs.declared.runs.Content.TheVariants as contents
 use Rattle.comparing.specs.declared.listing.Difference.{Difference}
@@ -98,7 +92,7 @@ rank_rises (negsuc d) (pos e) h g = sym (lt-ltb (2 ^ 31 - 1 - d) (2 ^ 31 + e) (o
 rank_rises (negsuc d) (negsuc e) h g = same_test e d (2 ^ 31 - 1 - d) (2 ^ 31 - 1 - e) (λ l. omega arith) (λ l. omega arith)
 
 -- so of two numbers that are not far from the start number the one of the lower rank is the one of the lower distance
-pub near-rises : (start n m : ℕ) (x y : ℤ) → start < 2 ^ 32 → distance_of n start ≡ By x → distance_of m start ≡ By y
+pub near-rises : (start n m : ℕ) (x y : ℤ) → start < 2 ^ 32 → distance_of n start ≡ Some x → distance_of m start ≡ Some y
     → lt_z x y ≡ ltb (rank_of start n) (rank_of start m)
 near-rises start n m x y s h g =
     rw (← rank-by start n x s h, ← rank-by start m y s g) (rank_rises x y (omega (arith, by-small n start x h)) (omega (arith, by-small m start y g)))
@@ -370,10 +364,10 @@ LinesAt input at line lines = (lines_of (drop at input) ≡ lines) × (drop (lin
 
 -- the line of a message's frame begins at its place, a Data's payload is the next line, and its run is what they spell
 pub data Stands (input : List ℕ) (m : Message) : Type 0 where
-  alone : (frame : List ℕ) (rest : List (List ℕ)) → LinesAt input m.at m.line (frame ∷ rest) → line_found Frame m.at m.line frame ≡ found.Holds m
+  alone : (frame : List ℕ) (rest : List (List ℕ)) → LinesAt input m.at m.line (frame ∷ rest) → line_found None m.at m.line frame ≡ found.Holds m
       → run_at input m.at ≡ line_bytes frame → Stands input m
   with-payload : (frame payload : List ℕ) (rest : List (List ℕ)) → LinesAt input m.at m.line (frame ∷ payload ∷ rest)
-      → line_found Frame m.at m.line frame ≡ found.Awaits m → is_payload payload ≡ true → run_at input m.at ≡ line_bytes frame ++ line_bytes payload
+      → line_found None m.at m.line frame ≡ found.Awaits m → is_payload payload ≡ true → run_at input m.at ≡ line_bytes frame ++ line_bytes payload
       → Stands input m
 
 clash : {X : Type 0} → ◌≡◌ {A = ℕ} 0 1 → X
@@ -390,35 +384,35 @@ module _ (at line : ℕ) (m : Message) where
   placed : {P : Type 0} (n : Seq) → m ≡ record { number = n; at = at; line = line } → P → (m.at ≡ at) × (m.line ≡ line) × P
   placed n e p = (ap (λ x. x.at) e, ap (λ x. x.line) e, p)
 
-  carried-holds : (f : FromLink) → HoldsAt (found_carried f at line) (found_carried f 0 0) at line m
-  carried-holds (Reliable reliable.Data n) e = clash (cc)
-  carried-holds (Reliable (reliable.Consumed k) n) e = placed n (cc) (λ text. refl)
-  carried-holds (Reliable reliable.SendFinish n) e = placed n (cc) (λ text. refl)
-  carried-holds (Reliable reliable.ReceiveClose n) e = placed n (cc) (λ text. refl)
-  carried-holds (Reliable reliable.ReceiveFinish n) e = placed n (cc) (λ text. refl)
-  carried-holds Other e = clash (cc)
+  carried-holds : (f : Option (ReliableMsg × Seq)) → HoldsAt (found_carried f at line) (found_carried f 0 0) at line m
+  carried-holds (Some (reliable.Data, n)) e = clash (cc)
+  carried-holds (Some ((reliable.Consumed k), n)) e = placed n (cc) (λ text. refl)
+  carried-holds (Some (reliable.SendFinish, n)) e = placed n (cc) (λ text. refl)
+  carried-holds (Some (reliable.ReceiveClose, n)) e = placed n (cc) (λ text. refl)
+  carried-holds (Some (reliable.ReceiveFinish, n)) e = placed n (cc) (λ text. refl)
+  carried-holds None e = clash (cc)
 
-  carried-awaits : (f : FromLink) → AwaitsAt (found_carried f at line) (found_carried f 0 0) at line m
-  carried-awaits (Reliable reliable.Data n) e = placed n (cc) (λ text. refl)
-  carried-awaits (Reliable (reliable.Consumed k) n) e = clash (cc)
-  carried-awaits (Reliable reliable.SendFinish n) e = clash (cc)
-  carried-awaits (Reliable reliable.ReceiveClose n) e = clash (cc)
-  carried-awaits (Reliable reliable.ReceiveFinish n) e = clash (cc)
-  carried-awaits Other e = clash (cc)
+  carried-awaits : (f : Option (ReliableMsg × Seq)) → AwaitsAt (found_carried f at line) (found_carried f 0 0) at line m
+  carried-awaits (Some (reliable.Data, n)) e = placed n (cc) (λ text. refl)
+  carried-awaits (Some ((reliable.Consumed k), n)) e = clash (cc)
+  carried-awaits (Some (reliable.SendFinish, n)) e = clash (cc)
+  carried-awaits (Some (reliable.ReceiveClose, n)) e = clash (cc)
+  carried-awaits (Some (reliable.ReceiveFinish, n)) e = clash (cc)
+  carried-awaits None e = clash (cc)
 
-  reading-holds : (r : Reading) → HoldsAt (found_reading r at line) (found_reading r 0 0) at line m
-  reading-holds (readings.Message msg) e = carried-holds (from_link msg) e
-  reading-holds (readings.No r) e = clash (cc)
+  reading-holds : (r : Result LinkMsg Refusal) → HoldsAt (found_reading r at line) (found_reading r 0 0) at line m
+  reading-holds (Ok msg) e = carried-holds (from_link msg) e
+  reading-holds (Err r) e = clash (cc)
 
-  reading-awaits : (r : Reading) → AwaitsAt (found_reading r at line) (found_reading r 0 0) at line m
-  reading-awaits (readings.Message msg) e = carried-awaits (from_link msg) e
-  reading-awaits (readings.No r) e = clash (cc)
+  reading-awaits : (r : Result LinkMsg Refusal) → AwaitsAt (found_reading r at line) (found_reading r 0 0) at line m
+  reading-awaits (Ok msg) e = carried-awaits (from_link msg) e
+  reading-awaits (Err r) e = clash (cc)
 
-  frame-holds : (text : List ℕ) → HoldsAt (line_found Frame at line text) (line_found Frame 0 0 text) at line m
+  frame-holds : (text : List ℕ) → HoldsAt (line_found None at line text) (line_found None 0 0 text) at line m
   unfolding line_found
   frame-holds text e = reading-holds (frame_of text) e
 
-  frame-awaits : (text : List ℕ) → AwaitsAt (line_found Frame at line text) (line_found Frame 0 0 text) at line m
+  frame-awaits : (text : List ℕ) → AwaitsAt (line_found None at line text) (line_found None 0 0 text) at line m
   unfolding line_found
   frame-awaits text e = reading-awaits (frame_of text) e
 
@@ -431,7 +425,7 @@ payload-waits true n m e = clash (cc)
 payload-waits false n m e = clash (cc)
 
 -- the run of a line with nothing behind it that is its payload
-run_alone : (frame : List ℕ) (rest : List (List ℕ)) → ((text : List ℕ) → payload_after (line_found Frame 0 0 frame) text ≡ []) → run_in (frame ∷ rest) ≡ line_bytes frame
+run_alone : (frame : List ℕ) (rest : List (List ℕ)) → ((text : List ℕ) → payload_after (line_found None 0 0 frame) text ≡ []) → run_in (frame ∷ rest) ≡ line_bytes frame
 run_alone frame [] h = refl
 run_alone frame (payload ∷ rest) h = ap (λ l. line_bytes frame ++ l) (h payload) ∙ append-nil (line_bytes frame)
 
@@ -462,9 +456,9 @@ next-at input at line text rest h here =
     (next-lines input at text rest here.0, sym (ap (λ n. drop n (lines_of input)) k) ∙ sym (drop-drop 1 (line - 1) (lines_of input)) ∙ ap (drop 1) here.1)
 
 -- the frame of a payload that is waited for stands just before
-abbrev Before : List ℕ → Waiting → List (List ℕ) → Type 0
-Before input Frame lines = Unit {0}
-Before input (Payload m) lines = (frame : List ℕ) × LinesAt input m.at m.line (frame ∷ lines) × (line_found Frame m.at m.line frame ≡ found.Awaits m)
+abbrev Before : List ℕ → Option Message → List (List ℕ) → Type 0
+Before input None lines = Unit {0}
+Before input (Some m) lines = (frame : List ℕ) × LinesAt input m.at m.line (frame ∷ lines) × (line_found None m.at m.line frame ≡ found.Awaits m)
 
 module _ (input : List ℕ) where
   -- a message's own place and line are those at which it was found
@@ -472,7 +466,7 @@ module _ (input : List ℕ) where
   own at line m lines p q here = (ap (λ k. lines_of (drop k input)) p ∙ here.0, ap (λ k. drop (k - 1) (lines_of input)) q ∙ here.1)
 
   is-alone : (at line : ℕ) (m : Message) (text : List ℕ) (rest : List (List ℕ)) → LinesAt input at line (text ∷ rest)
-      → line_found Frame at line text ≡ found.Holds m → Stands input m
+      → line_found None at line text ≡ found.Holds m → Stands input m
   unfolding run_at
   is-alone at line m text rest here e =
       let h = frame-holds at line m text e in
@@ -480,33 +474,33 @@ module _ (input : List ℕ) where
       alone text rest lines (cc) (ap run_in lines.0 ∙ run_alone text rest h.2)
 
   is-before : (at line : ℕ) (m : Message) (text : List ℕ) (rest : List (List ℕ)) → LinesAt input at line (text ∷ rest)
-      → line_found Frame at line text ≡ found.Awaits m → Before input (Payload m) rest
+      → line_found None at line text ≡ found.Awaits m → Before input (Some m) rest
   is-before at line m text rest here e =
       let h = frame-awaits at line m text e in
       (text, own at line m (text ∷ rest) h.0 h.1 here, cc)
 
-  is-with : (m : Message) (text : List ℕ) (rest : List (List ℕ)) → Before input (Payload m) (text ∷ rest) → is_payload text ≡ true → Stands input m
+  is-with : (m : Message) (text : List ℕ) (rest : List (List ℕ)) → Before input (Some m) (text ∷ rest) → is_payload text ≡ true → Stands input m
   unfolding run_at
   is-with m text rest b t =
       let h = frame-awaits m.at m.line m b.0 b.2 in
       with-payload b.0 text rest b.1 b.2 t (ap run_in b.1.0 ∙ ap (λ l. line_bytes b.0 ++ l) (h.2 text))
 
-  module _ (text : List ℕ) (rest : List (List ℕ)) (at line : ℕ) (here : LinesAt input at line (text ∷ rest)) (after : Waiting → Body)
-      (later-stands : (v : Waiting) → Before input v rest → (m : Message) → m ∈ (after v).messages → Stands input m) (m : Message) where
-    step-stands : (w : Waiting) (f : Found) → Before input w (text ∷ rest) → line_found w at line text ≡ f → m ∈ (body_as f line after).messages → Stands input m
+  module _ (text : List ℕ) (rest : List (List ℕ)) (at line : ℕ) (here : LinesAt input at line (text ∷ rest)) (after : Option Message → Body)
+      (later-stands : (v : Option Message) → Before input v rest → (m : Message) → m ∈ (after v).messages → Stands input m) (m : Message) where
+    step-stands : (w : Option Message) (f : Found) → Before input w (text ∷ rest) → line_found w at line text ≡ f → m ∈ (body_as f line after).messages → Stands input m
     unfolding line_found
     step-stands w found.Bad b e i = absurd (Memᴰ.not-nil i)
-    step-stands Frame (found.Awaits n) b e i = later-stands (Payload n) (is-before at line n text rest here e) m i
-    step-stands (Payload n) (found.Awaits k) b e i = absurd (payload-waits (is_payload text) n k e)
-    step-stands Frame (found.Holds n) b e (Memᴰ.head p) = is-alone at line m text rest here (e ∙ ap found.Holds (sym p))
-    step-stands (Payload n) (found.Holds k) b e (Memᴰ.head p) =
+    step-stands None (found.Awaits n) b e i = later-stands (Some n) (is-before at line n text rest here e) m i
+    step-stands (Some n) (found.Awaits k) b e i = absurd (payload-waits (is_payload text) n k e)
+    step-stands None (found.Holds n) b e (Memᴰ.head p) = is-alone at line m text rest here (e ∙ ap found.Holds (sym p))
+    step-stands (Some n) (found.Holds k) b e (Memᴰ.head p) =
         let h = payload-holds (is_payload text) n k e in
         let same : n ≡ m = sym (p ∙ h.1) in
-        is-with m text rest (subst (λ x. Before input (Payload x) (text ∷ rest)) same b) h.0
-    step-stands w (found.Holds n) b e (Memᴰ.tail i) = later-stands Frame tt m i
-    step-stands w found.Passes b e i = later-stands Frame tt m i
+        is-with m text rest (subst (λ x. Before input (Some x) (text ∷ rest)) same b) h.0
+    step-stands w (found.Holds n) b e (Memᴰ.tail i) = later-stands None tt m i
+    step-stands w found.Passes b e i = later-stands None tt m i
 
-  from-stands : (w : Waiting) (at line : ℕ) (lines : List (List ℕ)) → 0 < line → LinesAt input at line lines → Before input w lines
+  from-stands : (w : Option Message) (at line : ℕ) (lines : List (List ℕ)) → 0 < line → LinesAt input at line lines → Before input w lines
       → (m : Message) → m ∈ (body_from w at line lines).messages → Stands input m
   unfolding body_from
   from-stands w at line [] h here b m i = absurd (Memᴰ.not-nil i)
@@ -515,12 +509,12 @@ module _ (input : List ℕ) where
       (λ v. from-stands v (at + length text + 1) (line + 1) rest (omega arith) (next-at input at line text rest h here))
       m w (line_found w at line text) b refl i
 
-  after-stands : (s : Start) (text : List ℕ) (rest : List (List ℕ)) → lines_of input ≡ text ∷ rest → (m : Message) → m ∈ (body_after s text rest).messages → Stands input m
-  after-stands (starts.Number start) text rest e m i =
+  after-stands : (s : Option Seq) (text : List ℕ) (rest : List (List ℕ)) → lines_of input ≡ text ∷ rest → (m : Message) → m ∈ (body_after s text rest).messages → Stands input m
+  after-stands (Some start) text rest e m i =
       let same : length text ≡ 0 + length text = omega arith in
       let next = next-at input 0 1 text rest (omega arith) (e, e) in
-      from-stands Frame (length text + 1) 2 rest (omega arith) (ap (λ k. lines_of (drop (k + 1) input)) same ∙ next.0, next.1) tt m i
-  after-stands starts.Bad text rest e m i = absurd (Memᴰ.not-nil i)
+      from-stands None (length text + 1) 2 rest (omega arith) (ap (λ k. lines_of (drop (k + 1) input)) same ∙ next.0, next.1) tt m i
+  after-stands None text rest e m i = absurd (Memᴰ.not-nil i)
 
   in-stands : (lines : List (List ℕ)) → lines_of input ≡ lines → (m : Message) → m ∈ (body_in lines).messages → Stands input m
   in-stands [] e m i = absurd (Memᴰ.not-nil i)

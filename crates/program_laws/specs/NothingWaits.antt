@@ -1,29 +1,24 @@
 -- Document 01, "The replay program": "acks and ready messages are taken after each frame". In every session that the replay reaches, nothing
 -- waits: taking an ack is refused with 19, and so is taking a message, but for the one refusal that stands before 19, of a count that
 -- has no room (9), which no input below 2^32 bytes reaches (TakenBytes). Assumes nothing.
-use Rattle.std.specs.Prelude.{◌≡◌, refl, Bool, cond, List, [], ◌∷◌, ℕ, eqb, length, get_or, set}
+use Rattle.std.specs.Prelude.{◌≡◌, refl, Bool, cond, List, [], ◌∷◌, ℕ, eqb, length, get_or, set, Some, None, Option, Ok, Err, Result}
+use Rattle.refusal.specs.declared.Refusal.{Refusal}
+use Rattle.engine.specs.Held.{HandOut}
 use Rattle.std.proofs.Math.Path.{sym, ap}
 use Rattle.std.proofs.Common.{◌∙◌, arith, get_or-set_same, eq-eqb}
 use Rattle.std.proofs.Math.Bool.{true, false}
 use borrow.Table.Steps.{cases}
 use Rattle.refusal.specs.declared.Refusal.TheVariants as refusals
-use Rattle.refusal.specs.declared.verdict.Verdict.TheVariants.{Pass}
 use Rattle.refusal.specs.Tests.{false-true}
 use Rattle.refusal.specs.Verdicts.{gate}
 use Rattle.seq.specs.declared.Seq.{Seq}
 use Rattle.seq.specs.Numbers.{seq_of}
 use Rattle.msg.specs.declared.reliable.ReliableMsg.{ReliableMsg}
 use Rattle.link.specs.declared.row.LinkRow.{LinkRow}
-use Rattle.link.specs.declared.row.MaxPing.TheVariants.{Unlimited}
-use Rattle.link.specs.declared.acks.OldestAck.{OldestAck}
 use Rattle.link.specs.Acks.{oldest_ack, ack_taken, ack_queued}
 use Rattle.link.specs.Row.{no_row, empty_row, fresh_row}
 use Rattle.link.specs.Sizes.{ACKS}
 use Rattle.engine.specs.declared.state.State.{State}
-use Rattle.engine.specs.declared.handing_out.TakeAck.{TakeAck}
-use Rattle.engine.specs.declared.handing_out.TakeAck.TheVariants as acks
-use Rattle.engine.specs.declared.handing_out.HandOut.{HandOut}
-use Rattle.engine.specs.declared.handing_out.HandOut.TheVariants as ready
 use Rattle.engine.specs.CellCount.{is_cell_count}
 use Rattle.engine.specs.Received.{RxTable, table_of}
 use Rattle.engine.specs.Decide.{soundb, sound-true, sound_withb, records-true}
@@ -43,8 +38,6 @@ use Rattle.laws.specs.Good.{Good}
 use Rattle.laws.specs.AcksKept.{queued-who, taken-who}
 use Rattle.laws.specs.SoundKept.{kept, fresh-good}
 use Rattle.laws.specs.RecordsKept.{records-kept, fresh-recorded}
-use Rattle.replaying.specs.declared.session.Waiting.{Waiting}
-use Rattle.replaying.specs.declared.session.Waiting.TheVariants.{Frame, Payload}
 use Rattle.replaying.specs.declared.session.Replay.{Replay}
 use Rattle.replaying.specs.Sizes.{CELLS, RECEIVED_BYTES}
 use Rattle.replaying.specs.Session.{beginning, begun, begun_records}
@@ -55,9 +48,9 @@ use Rattle.replaying.specs.Feeding.{Told, Carrying, begun_with, line_left, line_
 
 -- nothing waits on link 0, and no message is ready
 pub record NothingWaits (h : Recorded) : Type 0 where
-  pub acks : (take_ack_of h.state 0).answer ≡ acks.No refusals.Nothing
+  pub acks : (take_ack_of h.state 0).answer ≡ Err refusals.Nothing
   pub messages : fits h.state.rx.rxed_reliable_consumed (ready_bytes (ready_of (table_of h.state.rx h.records))) MAX_TOTAL ≡ true
-      → (take_of h.state h.records).answer ≡ ready.No refusals.Nothing
+      → (take_of h.state h.records).answer ≡ Err refusals.Nothing
 
 -- ---- link 0 lives, in a sound state with sound records
 
@@ -90,19 +83,19 @@ ack-lives h l = record {
   live = by_answer (ack_answer h.state 0);
 }
   where
-    by-cells : (a : TakeAck) → (taken_ack_by a h.state 0).rx.cells ≡ CELLS
-    by-cells (acks.Number seq) = l.cells
-    by-cells (acks.No e) = l.cells
+    by-cells : (a : Result Seq Refusal) → (taken_ack_by a h.state 0).rx.cells ≡ CELLS
+    by-cells (Ok seq) = l.cells
+    by-cells (Err e) = l.cells
 
-    by_answer : (a : TakeAck) → (row_at (taken_ack_by a h.state 0) 0).live ≡ true
-    by_answer (acks.Number seq) = row-lives h (ack_taken (row_of h.state 0)) l (taken-who (row_of h.state 0)).0
-    by_answer (acks.No e) = l.live
+    by_answer : (a : Result Seq Refusal) → (row_at (taken_ack_by a h.state 0) 0).live ≡ true
+    by_answer (Ok seq) = row-lives h (ack_taken (row_of h.state 0)) l (taken-who (row_of h.state 0)).0
+    by_answer (Err e) = l.live
 
 -- when a message is taken: the links stay as they are, and so many cells
 links-stay : (a : HandOut) (h : Recorded) → (taken_by a h.state h.records).links ≡ h.state.links
 unfolding taken_state
-links-stay (ready.Message msg seq len) h = refl
-links-stay (ready.No e) h = refl
+links-stay (Ok (msg, seq, len)) h = refl
+links-stay (Err e) h = refl
 
 take-links : (h : Recorded) → (take_of h.state h.records).state.links ≡ h.state.links
 unfolding take_of
@@ -110,8 +103,8 @@ take-links h = links-stay (hand_out_by (take_verdict h.state h.records) (table_o
 
 cells_stay : (a : HandOut) (h : Recorded) → (taken_by a h.state h.records).rx.cells ≡ h.state.rx.cells
 unfolding taken_state taken_in passed_by
-cells_stay (ready.Message msg seq len) h = turns_same (can_skip h.state.rx.cells _) passed_by (λ r. r.cells) (λ r. refl) h.state.rx.cells _
-cells_stay (ready.No e) h = refl
+cells_stay (Ok (msg, seq, len)) h = turns_same (can_skip h.state.rx.cells _) passed_by (λ r. r.cells) (λ r. refl) h.state.rx.cells _
+cells_stay (Err e) h = refl
 
 take_cells : (h : Recorded) → (take_of h.state h.records).state.rx.cells ≡ h.state.rx.cells
 unfolding take_of
@@ -169,8 +162,8 @@ pub record Settled (h : Recorded) : Type 0 where
   pub taken : has_message h ≡ false
 
 -- where 1 and 4 don't refuse it and no ack is taken, none waits
-unwaiting : (sound slot waiting : Bool) (ack : OldestAck) → sound ≡ true → slot ≡ true
-    → is_ack (ack_as (gate sound 1 (gate slot 4 (gate waiting 19 Pass))) ack) ≡ false → waiting ≡ false
+unwaiting : (sound slot waiting : Bool) (ack : Option Seq) → sound ≡ true → slot ≡ true
+    → is_ack (ack_as (gate sound 1 (gate slot 4 (gate waiting 19 (Ok tt)))) ack) ≡ false → waiting ≡ false
 unwaiting sound slot true ack p q e = simp (p, q) at e
 unwaiting sound slot false ack p q e = refl
 
@@ -230,8 +223,8 @@ all_settled h l =
 
 -- where 2, 1 and 9 don't refuse it and no message is taken, 19 does
 unready : (long sound total some : Bool) (t : RxTable) → long ≡ true → sound ≡ true → total ≡ true
-    → is_message (hand_out_by (gate long 2 (gate sound 1 (gate total 9 (gate some 19 Pass)))) t) ≡ false
-    → hand_out_by (gate long 2 (gate sound 1 (gate total 9 (gate some 19 Pass)))) t ≡ ready.No refusals.Nothing
+    → is_message (hand_out_by (gate long 2 (gate sound 1 (gate total 9 (gate some 19 (Ok tt))))) t) ≡ false
+    → hand_out_by (gate long 2 (gate sound 1 (gate total 9 (gate some 19 (Ok tt))))) t ≡ Err refusals.Nothing
 unfolding hand_out_by
 unready long sound total true t o p q e = false-true (sym (simp (o, p, q) at e))
 unready long sound total false t o p q e = simp (o, p, q)
@@ -301,9 +294,9 @@ pub last-fine : (c : Carrying) → ToldFine c.told → LeftFine (last_line c)
 unfolding last_line
 last-fine c g = cases (eqb c.count 0) (λ t. simp t g) (λ f. simp f (line-fine c.told.replay _ _ c.line c.count g))
 
-absent-fine : (w : Waiting) (l : Left) → LeftFine l → LeftFine (absent_as w l)
-absent-fine Frame l g = g
-absent-fine (Payload seq) l g = ended-fine 20 (recorded l.said.replay.state l.records) g.quiet.living
+absent-fine : (w : Option Seq) (l : Left) → LeftFine l → LeftFine (absent_as w l)
+absent-fine None l g = g
+absent-fine (Some seq) l g = ended-fine 20 (recorded l.said.replay.state l.records) g.quiet.living
 
 pub closed-fine : (c : Carrying) → ToldFine c.told → ToldFine (closed c)
 unfolding closed last_of absent_of
@@ -311,7 +304,7 @@ closed-fine c g = let l = last_line c in absent-fine l.said.replay.waiting l (la
 
 -- the beginning, with a record for each cell: link 0 is added to the fresh state
 module _ (records : List ℕ) (long : length records ≡ CELLS) where
-  accepted : fresh_verdict RECEIVED_BYTES CELLS (length records) ≡ Pass
+  accepted : fresh_verdict RECEIVED_BYTES CELLS (length records) ≡ Ok tt
   unfolding fresh_verdict is_cell_count
   accepted = simp (eq-eqb (length records) CELLS long)
 
@@ -325,15 +318,15 @@ module _ (records : List ℕ) (long : length records ≡ CELLS) where
   fresh-fine : Good fresh.state
   fresh-fine = fresh-good 0 RECEIVED_BYTES CELLS (omega arith) records accepted
 
-  pub added : (add_of fresh.state 0 0 Unlimited false false).state ≡ with_row (fresh_state 0 RECEIVED_BYTES CELLS) 0 (fresh_row 0 0 Unlimited false false)
+  pub added : (add_of fresh.state 0 0 None false false).state ≡ with_row (fresh_state 0 RECEIVED_BYTES CELLS) 0 (fresh_row 0 0 None false false)
   unfolding add_of fresh_state lowest_empty is_taken empty_row
   added = let sound : soundb (fresh_state 0 RECEIVED_BYTES CELLS) ≡ true = rw (fresh-is) at (sound-true fresh.state fresh-fine.sound) in rw fresh-is (simp sound)
 
   pub begun-fine : Fine (begun (length records)).replay (begun_records records)
   unfolding begun beginning fresh_state fresh_row row_of oldest_ack
   begun-fine =
-      let h = recorded (add_of fresh.state 0 0 Unlimited false false).state fresh.records in
-      let add = calls.Add 0 0 Unlimited false false in
+      let h = recorded (add_of fresh.state 0 0 None false false).state fresh.records in
+      let add = calls.Add 0 0 None false false in
       record {
         quiet = record {
           living = record {

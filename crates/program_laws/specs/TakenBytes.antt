@@ -1,6 +1,8 @@
 -- Document 01, "The replay program": "acks and ready messages are taken after each frame". Every byte that is taken was two digits of the
 -- input, so that below 2^32 bytes of input 9 is never given, and nothing waits (NothingWaits). Assumes nothing.
-use Rattle.std.specs.Prelude.{◌≡◌, refl, false, cond, List, [], ◌∷◌, ℕ, ◌+◌, ◌-◌, ◌^◌, ◌≤◌, ◌<◌, eqb, ltb, length, get_or}
+use Rattle.std.specs.Prelude.{◌≡◌, refl, false, cond, List, [], ◌∷◌, ℕ, ◌+◌, ◌-◌, ◌^◌, ◌≤◌, ◌<◌, eqb, ltb, length, get_or, Some, None, Option, Ok, Err, Result}
+use Rattle.refusal.specs.declared.Refusal.{Refusal}
+use Rattle.engine.specs.Held.{HandOut, Held}
 use Rattle.std.proofs.Math.Path.{ap}
 use Rattle.std.proofs.Common.{◌∙◌, arith, eqb-true, le-leb, ltb-false}
 use Rattle.std.proofs.lemmas.Bool.{eqb-false}
@@ -12,14 +14,8 @@ use Rattle.seq.specs.Distance.{past_near}
 use Rattle.engine.specs.DecidedTables.{plus-zero}
 use Rattle.msg.specs.declared.reliable.ReliableMsg.{ReliableMsg}
 use Rattle.link.specs.Sizes.{ACKS}
-use Rattle.engine.specs.declared.state.Held.{Held}
-use Rattle.engine.specs.declared.state.Held.TheVariants as helds
 use Rattle.engine.specs.declared.state.Receiving.{Receiving}
 use Rattle.engine.specs.declared.state.State.{State}
-use Rattle.engine.specs.declared.handing_out.TakeAck.{TakeAck}
-use Rattle.engine.specs.declared.handing_out.TakeAck.TheVariants as acks
-use Rattle.engine.specs.declared.handing_out.HandOut.{HandOut}
-use Rattle.engine.specs.declared.handing_out.HandOut.TheVariants as ready
 use Rattle.engine.specs.Packets.{is_data}
 use Rattle.engine.specs.Records.{held_bytes}
 use Rattle.engine.specs.Received.{RxTable, table_of, expected_at, held_at, cell_view, bytes_in, view-held}
@@ -31,8 +27,6 @@ use Rattle.engine.specs.Starting.{fresh_state}
 use Rattle.engine.specs.Receiving.{receive_of, receive_verdict, repeated_state, effect_state, received_state}
 use Rattle.engine.specs.HandingOut.{take_ack_of, ack_answer, taken_ack_by, take_of, take_verdict, taken_by, taken_state, taken_in, can_skip, passed_by, hand_out_by, ready_of, ready_bytes, data_length, taking}
 use Rattle.engine.specs.Answer.{changed-keeps}
-use Rattle.replaying.specs.declared.session.Waiting.{Waiting}
-use Rattle.replaying.specs.declared.session.Waiting.TheVariants.{Frame, Payload}
 use Rattle.replaying.specs.declared.session.Replay.{Replay}
 use Rattle.replaying.specs.Sizes.{CELLS}
 use Rattle.replaying.specs.Session.{beginning, begun}
@@ -61,10 +55,10 @@ taken-bytes N t len h =
 
 -- the oldest ready message is one of those that the untaken bytes are the sum of
 held-bytes : (held : Held) → ready_bytes held ≤ held_bytes held
-held-bytes helds.Nothing = omega arith
-held-bytes (helds.Message msg len) = cases (is_data msg) (λ t. simp t (omega arith)) (λ f. simp f (omega arith))
+held-bytes None = omega arith
+held-bytes (Some (msg, len)) = cases (is_data msg) (λ t. simp t (omega arith)) (λ f. simp f (omega arith))
 
-first-bytes : (hs : List Held) → held_bytes (get_or hs 0 helds.Nothing) ≤ bytes_in hs
+first-bytes : (hs : List Held) → held_bytes (get_or hs 0 None) ≤ bytes_in hs
 unfolding bytes_in
 first-bytes [] = omega arith
 first-bytes (h ∷ hs) = omega arith
@@ -102,18 +96,18 @@ unfolding take_of taken_state
 take-bytes h l = by_answer (hand_out_by (take_verdict h.state h.records) (table_of h.state.rx h.records)) refl
   where
     by_answer : (a : HandOut) → hand_out_by (take_verdict h.state h.records) (table_of h.state.rx h.records) ≡ a → bytes (taken_by a h.state h.records) ≤ bytes h.state
-    by_answer (ready.Message msg seq len) e =
+    by_answer (Ok (msg, seq, len)) e =
         taken-bytes h.state.rx.cells (table_of h.state.rx h.records) (data_length msg len) (rw (ap ready_bytes (taking h.state h.records msg seq len e).ready) at (ready-within h l))
-    by_answer (ready.No r) e = omega arith
+    by_answer (Err r) e = omega arith
 
 -- taking an ack
 ack-bytes : (s : State) → bytes (take_ack_of s 0).state ≡ bytes s
 unfolding take_ack_of
 ack-bytes s = by_answer (ack_answer s 0)
   where
-    by_answer : (a : TakeAck) → bytes (taken_ack_by a s 0) ≡ bytes s
-    by_answer (acks.Number seq) = refl
-    by_answer (acks.No e) = refl
+    by_answer : (a : Result Seq Refusal) → bytes (taken_ack_by a s 0) ≡ bytes s
+    by_answer (Ok seq) = refl
+    by_answer (Err e) = refl
 
 -- taking all
 all-bytes : (h : Recorded) → Living h → bytes (without_all h).state ≤ bytes h.state
@@ -196,9 +190,9 @@ last-bytes : (c : Carrying) → ToldFine c.told → left_bytes (last_line c) ≤
 unfolding last_line
 last-bytes c g = cases (eqb c.count 0) (λ t. simp t (omega arith)) (λ f. simp f (carried-bytes c g))
 
-absent-bytes : (w : Waiting) (l : Left) → LeftFine l → left_bytes (absent_as w l) ≤ left_bytes l
-absent-bytes Frame l g = omega arith
-absent-bytes (Payload seq) l g = ended-bytes 20 (recorded l.said.replay.state l.records) g.quiet.living
+absent-bytes : (w : Option Seq) (l : Left) → LeftFine l → left_bytes (absent_as w l) ≤ left_bytes l
+absent-bytes None l g = omega arith
+absent-bytes (Some seq) l g = ended-bytes 20 (recorded l.said.replay.state l.records) g.quiet.living
 
 closed-bytes : (c : Carrying) → ToldFine c.told → bytes (closed c).replay.state ≤ all_of c
 unfolding closed last_of absent_of
@@ -207,7 +201,7 @@ closed-bytes c g =
     omega (arith, absent-bytes l.said.replay.waiting l (last-fine c g), last-bytes c g)
 
 -- below 2^32 of them 9 isn't given
-none-waits : (h : Recorded) → Settled h → bytes h.state < 2 ^ 32 → (take_of h.state h.records).answer ≡ ready.No refusals.Nothing
+none-waits : (h : Recorded) → Settled h → bytes h.state < 2 ^ 32 → (take_of h.state h.records).answer ≡ Err refusals.Nothing
 none-waits h g few =
     let more = ready_bytes (ready_of (table_of h.state.rx h.records)) in
     (settled-waits h g).messages (le-leb (h.state.rx.rxed_reliable_consumed + more) MAX_TOTAL (omega (arith, ready-within h g.quiet.living)))
@@ -225,13 +219,13 @@ module _ (records : List ℕ) (long : length records ≡ CELLS) where
 
   -- every byte that is taken was two digits of the input, so that below 2^32 bytes of input 9 is never given
   pub nothing-waits-below : (store line input : List ℕ) → length input < 2 ^ 32
-      → let t = (fed_by (begun_with store records line) input).told in (take_of t.replay.state t.records).answer ≡ ready.No refusals.Nothing
+      → let t = (fed_by (begun_with store records line) input).told in (take_of t.replay.state t.records).answer ≡ Err refusals.Nothing
   nothing-waits-below store line input below =
       none-waits _ (fed-fine (begun_with store records line) input (begun-fine records long)) (omega (arith, few_bytes store line input))
 
   -- nor when it is closed
   pub nothing-waits-below-at-end : (store line input : List ℕ) → length input < 2 ^ 32
-      → let t = closed (fed_by (begun_with store records line) input) in (take_of t.replay.state t.records).answer ≡ ready.No refusals.Nothing
+      → let t = closed (fed_by (begun_with store records line) input) in (take_of t.replay.state t.records).answer ≡ Err refusals.Nothing
   nothing-waits-below-at-end store line input below =
       let c = fed_by (begun_with store records line) input in
       let fine = fed-fine (begun_with store records line) input (begun-fine records long) in

@@ -1,13 +1,11 @@
 -- Document 01: "Two conforming answers to one input are proved equal; exceptions go to a list in docs/ with a ground." The lines of the
 -- public calls of the libraries that the programs are made of: the replay, which is a section of the paper, the recordings, the digits
 -- and the tiles. A crate of its own, so that `laws`, and `ends` above it, need not wait for the replay. Assumes nothing.
-use Rattle.std.specs.Prelude.{◌≡◌, refl, Bool, List, ℕ, length}
+use Rattle.std.specs.Prelude.{◌≡◌, refl, Bool, List, ℕ, length, Option, Result}
+use Rattle.msg.specs.declared.link_msg.LinkMsg.{LinkMsg}
 use Rattle.std.proofs.Common.{sym, ◌∙◌}
 use contract.Lifetimes.{Lfts}
 use Rattle.seq.specs.declared.Seq.{Seq}
-use Rattle.msg.specs.declared.reading.Reading.{Reading}
-use Rattle.text.specs.declared.hex.HexRun.{HexRun}
-use Rattle.text.specs.declared.reading.Decimal.{Decimal}
 use Rattle.engine.specs.declared.state.State.{State}
 use Rattle.replaying.specs.declared.session.Answered.{Answered}
 use Rattle.replaying.specs.declared.session.Session.{Session}
@@ -16,7 +14,6 @@ use Rattle.replaying.specs.declared.feeding.Closed.{Closed}
 use Rattle.replaying.specs.Feeding.{carrying, feed_of, feed_store, feed_records, feed_line, feed_out}
 use Rattle.refusal.specs.declared.Refusal.{Refusal}
 use Rattle.comparing.specs.declared.comparison.Side.{Side}
-use Rattle.comparing.specs.declared.comparison.Compared.{Compared}
 use Rattle.laws.specs.Unique.{Unique, Place, lent, lent_mut}
 use Rattle.text.proofs as text
 use Rattle.tiles.proofs as tiles
@@ -50,14 +47,14 @@ comparing-listing = (sole, sole, sole)
 -- ---- calls that are lent bytes: the same bytes, wherever they lie, give the same answer and are left the same
 
 -- crates/text/src/hex.rt; `e.1.0` is the second parameter at exit, the buffer
-pub read-hex : (κs κs' : Lfts 2) (run into : List ℕ) (i i' j j' : Place) (r r' : HexRun) (e : _) (e' : _)
+pub read-hex : (κs κs' : Lfts 2) (run into : List ℕ) (i i' j j' : Place) (r r' : Option ℕ) (e : _) (e' : _)
     → text.hex.read_hex.Reads.Learnt κs (lent i run, (lent_mut j into, tt)) r e
     → text.hex.read_hex.Reads.Learnt κs' (lent i' run, (lent_mut j' into, tt)) r' e'
     → (r ≡ r') × (e.1.0.now ≡ e'.1.0.now)
 read-hex κs κs' run into i i' j j' r r' e e' p q = (p.0 ∙ sym q.0, p.1 ∙ sym q.1)
 
 -- crates/text/src/reading.rt
-pub read-decimal : (κs κs' : Lfts 1) (word : List ℕ) (limit : ℕ) (i i' : Place) (r r' : Decimal) (e : _) (e' : _)
+pub read-decimal : (κs κs' : Lfts 1) (word : List ℕ) (limit : ℕ) (i i' : Place) (r r' : Option ℕ) (e : _) (e' : _)
     → text.reading.read_decimal.Reads.Learnt κs (lent i word, (limit, tt)) r e
     → text.reading.read_decimal.Reads.Learnt κs' (lent i' word, (limit, tt)) r' e'
     → r ≡ r'
@@ -90,14 +87,14 @@ pub is-tile : (κs κs' : Lfts 1) (shade n : ℕ) (bytes : List ℕ) (i i' : Pla
 is-tile κs κs' shade n bytes i i' r r' e e' p q = p ∙ sym q
 
 -- crates/recording/src/frames.rt
-pub read-frame : (κs κs' : Lfts 1) (line : List ℕ) (i i' : Place) (r r' : Reading) (e : _) (e' : _)
+pub read-frame : (κs κs' : Lfts 1) (line : List ℕ) (i i' : Place) (r r' : Result LinkMsg Refusal) (e : _) (e' : _)
     → recording.frames.read_frame.Reads.Learnt κs (lent i line, tt) r e
     → recording.frames.read_frame.Reads.Learnt κs' (lent i' line, tt) r' e'
     → r ≡ r'
 read-frame κs κs' line i i' r r' e e' p q = p ∙ sym q
 
 -- crates/recording/src/payloads.rt; `e.1.0` is the second parameter at exit, the buffer
-pub read-payload : (κs κs' : Lfts 2) (line into : List ℕ) (i i' j j' : Place) (r r' : HexRun) (e : _) (e' : _)
+pub read-payload : (κs κs' : Lfts 2) (line into : List ℕ) (i i' j j' : Place) (r r' : Option ℕ) (e : _) (e' : _)
     → recording.payloads.read_payload.Reads.Learnt κs (lent i line, (lent_mut j into, tt)) r e
     → recording.payloads.read_payload.Reads.Learnt κs' (lent i' line, (lent_mut j' into, tt)) r' e'
     → (r ≡ r') × (e.1.0.now ≡ e'.1.0.now)
@@ -159,7 +156,7 @@ close κs κs' session store records line out h h' i i' j j' k k' r r' e e' p q 
     (p.0 ∙ sym q.0, p.1.0 ∙ sym q.1.0, p.1.1.0 ∙ sym q.1.1.0, p.1.1.1 ∙ sym q.1.1.1)
 
 -- crates/comparing/src/comparison.rt; `e.1.1.0` is the list at exit
-pub compare : (κs κs' : Lfts 3) (first second list : List ℕ) (i i' j j' k k' : Place) (r r' : Compared) (e : _) (e' : _)
+pub compare : (κs κs' : Lfts 3) (first second list : List ℕ) (i i' j j' k k' : Place) (r r' : Result (ℕ × ℕ × ℕ) (Refusal × Side × ℕ)) (e : _) (e' : _)
     → comparing.comparison.compare.Reads.Learnt κs (lent i first, (lent j second, (lent_mut k list, tt))) r e
     → comparing.comparison.compare.Reads.Learnt κs' (lent i' first, (lent j' second, (lent_mut k' list, tt))) r' e'
     → (r ≡ r') × (e.1.1.0.now ≡ e'.1.1.0.now)

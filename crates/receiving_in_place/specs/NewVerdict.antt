@@ -1,11 +1,9 @@
 -- What receive asks of a new number and of one that was received already: "11, 12, 14 and 15 are for new numbers" of `messageVerdict`, in two cases. Assumes nothing.
-use Rattle.std.specs.Prelude.{◌≡◌, true, false, List, ℕ, leb, ltb}
+use Rattle.std.specs.Prelude.{◌≡◌, true, false, List, ℕ, leb, ltb, Ok}
 use Rattle.seq.specs.Distance.{near, past}
 use Rattle.seq.specs.Numbers.{USABLE_INTERVAL}
 use Rattle.msg.specs.declared.reliable.ReliableMsg.{ReliableMsg}
-use Rattle.refusal.specs.declared.verdict.Verdict.{Verdict}
-use Rattle.refusal.specs.declared.verdict.Verdict.TheVariants.{Pass}
-use Rattle.refusal.specs.Verdicts.{gate}
+use Rattle.refusal.specs.Verdicts.{Verdict, gate}
 use Rattle.link.specs.Sizes.{ACKS}
 use Rattle.engine.specs.declared.state.State.{State}
 use Rattle.engine.specs.Cells.{is_repeat, near_oldest}
@@ -22,10 +20,10 @@ new_verdict s slot msg n len =
     (gate (ltb (row_of s slot).ack_count ACKS) 13
     (gate (fits s.rx.rxed_reliable_size len s.rx.recv_buffer) 14
     (gate (consumed_ok msg s.tx.txed_unconsumed) 15
-    Pass))))
+    (Ok tt)))))
 
 module _ (s : State) (records : List ℕ) (slot : ℕ) (msg : ReliableMsg) (n len : ℕ) (e4 : slot_ok s slot ≡ true) (e7 : length_ok msg len ≡ true) (e22 : near n s.rx.rx_seq.0 ≡ true) where
-  pub repeat-verdict : is_repeat s.rx.cells (table_of s.rx records) n ≡ true → message_verdict s records slot msg n len ≡ gate (ltb (row_of s slot).ack_count ACKS) 13 Pass
+  pub repeat-verdict : is_repeat s.rx.cells (table_of s.rx records) n ≡ true → message_verdict s records slot msg n len ≡ gate (ltb (row_of s slot).ack_count ACKS) 13 (Ok tt)
   unfolding message_verdict
   repeat-verdict again = simp (e4, e7, e22, again)
 

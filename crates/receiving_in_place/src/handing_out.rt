@@ -25,13 +25,13 @@ pub fn showing(words: &[u64], store: usize, records: &[u64]) -> HandOut
 {
     let rx = rx_of(words);
     if !lengths_ok(rx, store, records.len()) {
-        return HandOut::No(Refusal::StoreLength);
+        return Err(Refusal::StoreLength);
     }
     let held = oldest_ready(rx, records);
     let seq = rx.rx_oldest;
     match held {
-        Held::Nothing => HandOut::No(Refusal::Nothing),
-        Held::Message(msg, len) => HandOut::Message(msg, seq, len),
+        None => Err(Refusal::Nothing),
+        Some((msg, len)) => Ok((msg, seq, len)),
     }
 }
 
@@ -65,20 +65,20 @@ pub fn take(words: &mut [u64], records: &mut [u64]) -> HandOut
 {
     let rx = rx_of(words);
     if records.len() != rx.cells as usize {
-        return HandOut::No(Refusal::StoreLength);
+        return Err(Refusal::StoreLength);
     }
     let held = oldest_ready(rx, records);
     let bytes = ready_bytes(held);
     if !sum_fits(rx.rxed_reliable_consumed, bytes as usize, MAX_TOTAL) {
-        return HandOut::No(Refusal::Total);
+        return Err(Refusal::Total);
     }
     let seq = rx.rx_oldest;
     match held {
-        Held::Nothing => HandOut::No(Refusal::Nothing),
-        Held::Message(msg, len) => {
+        None => Err(Refusal::Nothing),
+        Some((msg, len)) => {
             let next = take_message(rx, records, bytes);
             put_taken(words, next);
-            HandOut::Message(msg, seq, len)
+            Ok((msg, seq, len))
         }
     }
 }

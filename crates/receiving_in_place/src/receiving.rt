@@ -20,10 +20,10 @@ use engine::receiving::{lengths_ok, store_message};
 use engine::ring::cell_at;
 use engine::sizes::MAX_OFFSET;
 use engine::totals::sum_fits;
-use engine::{DATA_BYTES, Outcome, Receiving};
+use engine::{DATA_BYTES, Receiving};
 use link::sizes::ACKS;
 use msg::ReliableMsg;
-use refusal::{Refusal, Verdict, gate};
+use refusal::{Refusal, gate};
 use seq::Seq;
 use words::copying::copy;
 use words::gates::slot_ok;
@@ -38,26 +38,26 @@ fn new_verdict(
     msg: ReliableMsg,
     seq: Seq,
     len: usize,
-) -> Verdict
+) -> Result<(), Refusal>
     requires { (length words.now ≡ WORDS) × (rx ≡ (state_of words.now).rx) }
     ensures { result ≡ new_verdict (state_of words.now) slot msg seq.0 len }
 {
     if MAX_OFFSET < seq.past(rx.rx_seq) {
-        return Verdict::No(Refusal::Offset);
+        return Err(Refusal::Offset);
     }
     if !near_oldest(rx, seq) {
-        return Verdict::No(Refusal::Window);
+        return Err(Refusal::Window);
     }
     if ACKS <= acks_at(words, slot) {
-        return Verdict::No(Refusal::Acks);
+        return Err(Refusal::Acks);
     }
     if !sum_fits(rx.rxed_reliable_size, len, rx.recv_buffer) {
-        return Verdict::No(Refusal::Buffer);
+        return Err(Refusal::Buffer);
     }
     gate(
         msg.count() <= tx_of(words).txed_unconsumed,
         Refusal::Consumed,
-        Verdict::Pass,
+        Ok(()),
     )
 }
 
@@ -70,21 +70,21 @@ fn message_verdict(
     msg: ReliableMsg,
     seq: Seq,
     len: usize,
-) -> Verdict
+) -> Result<(), Refusal>
     requires { (length words.now ≡ WORDS) × (rx ≡ (state_of words.now).rx) × Lent rx (length records.now) }
     ensures { result ≡ message_verdict (state_of words.now) records.now slot msg seq.0 len }
 {
     if !slot_ok(words, slot) {
-        return Verdict::No(Refusal::Slot);
+        return Err(Refusal::Slot);
     }
     if !length_ok(msg, len) {
-        return Verdict::No(Refusal::Length);
+        return Err(Refusal::Length);
     }
     if !seq.is_near(rx.rx_seq) {
-        return Verdict::No(Refusal::Far);
+        return Err(Refusal::Far);
     }
     if is_repeat(rx, records, seq) {
-        return gate(acks_at(words, slot) < ACKS, Refusal::Acks, Verdict::Pass);
+        return gate(acks_at(words, slot) < ACKS, Refusal::Acks, Ok(()));
     }
     new_verdict(words, rx, slot, msg, seq, len)
 }
@@ -111,7 +111,7 @@ fn receive_new(
     payload: &[u8],
 )
     requires words_len { (length words.old ≡ WORDS) × (rx ≡ (state_of words.old).rx) }
-    requires payload_value { receive_verdict (state_of words.old) (length store.old) records.old slot msg seq.0 (length payload.now) ≡ Verdict.Pass }
+    requires payload_value { receive_verdict (state_of words.old) (length store.old) records.old slot msg seq.0 (length payload.now) ≡ Ok tt }
     requires seq_value { is_repeat (state_of words.old).rx.cells (table_of (state_of words.old).rx records.old) seq.0 ≡ false }
     ensures words_after { state_of words.new ≡ received_state (state_of words.old) records.old slot msg seq.0 (length payload.now) }
     ensures store_after { store.new ≡ copied store.old (cell_start (state_of words.old).rx.cells seq.0) payload.now }
@@ -131,7 +131,7 @@ pub fn receive(
     msg: ReliableMsg,
     seq: Seq,
     payload: &[u8],
-) -> Outcome
+) -> Result<(), Refusal>
     requires { ReadyWith words.old records.old }
     ensures value { result ≡ (receive_of (state_of words.old) (length store.old) records.old slot msg seq.0 (length payload.now)).outcome }
     ensures words_after { state_of words.new ≡ (receive_of (state_of words.old) (length store.old) records.old slot msg seq.0 (length payload.now)).state }
@@ -141,18 +141,18 @@ pub fn receive(
 {
     let rx = rx_of(words);
     if !lengths_ok(rx, store.len(), records.len()) {
-        return Outcome::No(Refusal::StoreLength);
+        return Err(Refusal::StoreLength);
     }
     let verdict = message_verdict(words, rx, records, slot, msg, seq, payload.len());
     match verdict {
-        Verdict::No(e) => Outcome::No(e),
-        Verdict::Pass => {
+        Err(e) => Err(e),
+        Ok(()) => {
             if is_repeat(rx, records, seq) {
                 queue_ack(words, slot, seq);
-                return Outcome::Done;
+                return Ok(());
             }
             receive_new(words, store, records, rx, slot, msg, seq, payload);
-            Outcome::Done
+            Ok(())
         }
     }
 }

@@ -1,7 +1,7 @@
 -- Document 01, "The replay program": "its payload line (possibly blank)"; "a bad or absent payload, or one over 1,024 bytes, gives hex 14
 -- (refusal 20)". Assumes nothing.
 use Rattle.std.proofs.Math.Path.{◌≡◌, ap}
-use Rattle.std.specs.Prelude.{Bool, false, cond, ◌&&◌, List, ℕ, ◌/◌, ◌≤◌, ◌<◌, leb}
+use Rattle.std.specs.Prelude.{Bool, false, cond, ◌&&◌, List, ℕ, ◌/◌, ◌≤◌, ◌<◌, leb, Some, None, Option}
 use Rattle.std.proofs.Common.{sym, ◌∙◌}
 use Rattle.std.proofs.Math.Bool.{true}
 use native.Mathlib.Omega.{arith}
@@ -10,8 +10,6 @@ use borrow.Author.Tests.{le-leb, lt-leb, leb-true}
 use borrow.Table.Steps.{cases}
 use Rattle.refusal.specs.Tests.{split}
 use Rattle.text.specs.HexRun.{spells, spelt, read_hex_of, read_hex_in, spelt-length, hex-start}
-use Rattle.text.specs.declared.hex.HexRun.{HexRun}
-use Rattle.text.specs.declared.hex.HexRun.TheVariants.{Count, Bad}
 
 -- 1,024 bytes are 2,048 digits
 unfoldable pub is_payload : List ℕ → Bool
@@ -19,9 +17,9 @@ unfolding spells
 is_payload line = leb (length line) 2048 && spells line
 
 -- how many bytes a payload's line spells
-unfoldable pub payload_of : List ℕ → HexRun
+unfoldable pub payload_of : List ℕ → Option ℕ
 unfolding is_payload
-payload_of line = cond (is_payload line) (Count (length line / 2)) Bad
+payload_of line = cond (is_payload line) (Some (length line / 2)) None
 
 -- the buffer that it was read into
 unfoldable pub payload_in : List ℕ → List ℕ → List ℕ
@@ -35,7 +33,7 @@ unfolding is_payload
 long-is-no-payload line h = simp (lt-leb (length line) 2048 h)
 
 module _ (line into : List ℕ) where
-  pub payload-long : 2048 < length line → (Bad ≡ payload_of line) × (into ≡ payload_in line into)
+  pub payload-long : 2048 < length line → (None ≡ payload_of line) × (into ≡ payload_in line into)
   unfolding payload_of payload_in is_payload
   payload-long h = (simp (lt-leb (length line) 2048 h), simp (lt-leb (length line) 2048 h))
 
@@ -46,7 +44,7 @@ module _ (line into : List ℕ) where
       (simp (le-leb (length line) 2048 h, le-leb (length line / 2) (length into) room), simp (le-leb (length line) 2048 h))
 
   -- what the answer says of a line
-  pub payload-says : (n : ℕ) → payload_of line ≡ Count n → (n ≡ length line / 2) × (n ≤ 1024) × (is_payload line ≡ true)
+  pub payload-says : (n : ℕ) → payload_of line ≡ Some n → (n ≡ length line / 2) × (n ≤ 1024) × (is_payload line ≡ true)
   unfolding payload_of is_payload
   payload-says n e =
       cases (leb (length line) 2048)
@@ -58,7 +56,7 @@ module _ (line into : List ℕ) where
       (λ f. let z : ◌≡◌ {A = ℕ} 0 1 = cc (simp (l, f) at e) in absurd (omega arith)))
       (λ l. let z : ◌≡◌ {A = ℕ} 0 1 = cc (simp l at e) in absurd (omega arith))
 
-  pub payload-bad-says : payload_of line ≡ Bad → is_payload line ≡ false
+  pub payload-bad-says : payload_of line ≡ None → is_payload line ≡ false
   unfolding payload_of
   payload-bad-says e =
       cases (is_payload line)
@@ -66,7 +64,7 @@ module _ (line into : List ℕ) where
       (λ f. f)
 
   -- the bytes of a payload stand at the buffer's start
-  pub payload-start : (n : ℕ) → length into ≡ 1024 → payload_of line ≡ Count n → take n (payload_in line into) ≡ spelt line
+  pub payload-start : (n : ℕ) → length into ≡ 1024 → payload_of line ≡ Some n → take n (payload_in line into) ≡ spelt line
   unfolding payload_in is_payload
   payload-start n room e =
       let said = payload-says n e in
@@ -77,7 +75,7 @@ module _ (line into : List ℕ) where
       (λ l. let z : ◌≡◌ {A = ℕ} 0 1 = cc (simp l at said.2) in absurd (omega arith))
 
   -- and the buffer has them all
-  pub payload-room : (n : ℕ) → length into ≡ 1024 → payload_of line ≡ Count n → n ≤ length (payload_in line into)
+  pub payload-room : (n : ℕ) → length into ≡ 1024 → payload_of line ≡ Some n → n ≤ length (payload_in line into)
   unfolding is_payload
   payload-room n room e =
       let said = payload-says n e in

@@ -1,10 +1,9 @@
 -- Document 01: "When an answer is an enum, a definition gives this paper's number and values for each of its cases." What a caller is
 -- told: the number, 0 or a refusal's, and the values that come with 0, in the paper's order. "Each returns its number alone".
 -- Assumes nothing.
-use Rattle.std.specs.Prelude.{Bool, true, false, List, [], ℕ}
+use Rattle.std.specs.Prelude.{Bool, true, false, List, [], ℕ, Ok, Err}
+use Rattle.refusal.specs.Verdicts.{Verdict}
 use Rattle.refusal.specs.declared.Refusal.{Refusal}
-use Rattle.refusal.specs.declared.verdict.Verdict.{Verdict}
-use Rattle.refusal.specs.declared.verdict.Verdict.TheVariants.{Pass, No}
 use Rattle.refusal.specs.Refusals.{number_of}
 
 pub record Told : Type 0 where
@@ -20,8 +19,8 @@ refused e = record { number = number_of e; values = [] }
 
 -- what a verdict tells, with the values of a call that passes
 abbrev pub told_by : Verdict → List ℕ → Told
-told_by Pass values = success values
-told_by (No e) values = refused e
+told_by (Ok tt) values = success values
+told_by (Err e) values = refused e
 
 -- a flag as a value
 abbrev pub flag : Bool → ℕ

@@ -6,10 +6,10 @@ pub mod verdict;
 ghost use Rattle.std.specs.Prelude.{◌≡◌};
 ghost use Rattle.refusal.specs.Refusals.{number_of};
 
-pub use verdict::{Verdict, both, either, gate};
+pub use verdict::{both, either, gate, refuse_unless};
 
 // Why a call is refused. In the order of the numbers, 1 to 23; 18 stays unused.
-#[derive(Clone, Copy)]
+#[derive(Clone, Copy, PartialEq, Eq)]
 pub enum Refusal {
     // the state handed in is not sound
     Unsound,

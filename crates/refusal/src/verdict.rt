@@ -1,20 +1,21 @@
-// A verdict on a call: the first refusal, in the order of the gates, or none.
-ghost use Rattle.std.specs.Prelude.{◌≡◌, ◌&&◌, ◌||◌};
+// The refusals of a call, one gate after the other: the first that is shut refuses it.
+ghost use Rattle.std.specs.Prelude.{◌≡◌, ◌&&◌, ◌||◌, Ok};
 ghost use Rattle.refusal.specs.Verdicts.{gate_by};
 
 use crate::Refusal;
 
-#[derive(Clone, Copy)]
-pub enum Verdict {
-    Pass,
-    No(Refusal),
+// A refusal where a test fails; behind it `?` goes on to the later gates.
+pub fn refuse_unless(ok: bool, refusal: Refusal) -> Result<(), Refusal>
+    ensures { result ≡ gate_by ok refusal (Ok tt) }
+{
+    if ok { Ok(()) } else { Err(refusal) }
 }
 
 // A refusal where a test fails, else what the later gates say.
-pub fn gate(ok: bool, refusal: Refusal, rest: Verdict) -> Verdict
+pub fn gate(ok: bool, refusal: Refusal, rest: Result<(), Refusal>) -> Result<(), Refusal>
     ensures { result ≡ gate_by ok refusal rest }
 {
-    if ok { rest } else { Verdict::No(refusal) }
+    if ok { rest } else { Err(refusal) }
 }
 
 pub fn both(a: bool, b: bool) -> bool

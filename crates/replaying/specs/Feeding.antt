@@ -1,6 +1,6 @@
 -- Document 01, "The replay program", over input that comes in pieces, by request [2] of document 02: a step for each byte. Assumes
 -- nothing.
-use Rattle.std.specs.Prelude.{◌≡◌, refl, false, cond, List, [], ◌∷◌, ◌++◌, ℕ, suc, ◌+◌, ◌≤◌, ◌<◌, eqb, leb, ltb, length, take, drop, set}
+use Rattle.std.specs.Prelude.{◌≡◌, refl, false, cond, List, [], ◌∷◌, ◌++◌, ℕ, suc, ◌+◌, ◌≤◌, ◌<◌, eqb, leb, ltb, length, take, drop, set, Some, None, Option}
 use Rattle.std.proofs.Common.{◌∙◌, ap, arith, length-take, eq-eqb, ne_eqb, le-leb}
 use Rattle.std.proofs.lemmas.Bool.{lt-leb}
 use borrow.Table.Steps.{cases}
@@ -8,10 +8,6 @@ use Rattle.recording.specs.Frames.{MAX_LINE}
 use Rattle.recording.specs.Lines.{until_feed}
 use Rattle.seq.specs.declared.Seq.{Seq}
 use Rattle.msg.specs.declared.reliable.ReliableMsg.{ReliableMsg}
-use Rattle.replaying.specs.declared.session.Waiting.{Waiting}
-use Rattle.replaying.specs.declared.session.Waiting.TheVariants.{Frame, Payload}
-use Rattle.replaying.specs.declared.session.Answer.{Answer}
-use Rattle.replaying.specs.declared.session.Answer.TheVariants.{Nothing, Line}
 use Rattle.replaying.specs.declared.session.Replay.{Replay}
 use Rattle.replaying.specs.declared.session.Session.{Session}
 use Rattle.replaying.specs.declared.feeding.Fed.{Fed}
@@ -22,9 +18,9 @@ use Rattle.replaying.specs.Line.{Left, left, ended_with, received, awaited, answ
 use Rattle.replaying.specs.Writing.{LINE_TEXT, text_of}
 
 -- the text that an answer writes: none, or a line
-abbrev pub said_by : Answer → List ℕ
-said_by Nothing = []
-said_by (Line number next) = text_of number next.0
+abbrev pub said_by : Option (ℕ × Seq) → List ℕ
+said_by None = []
+said_by (Some (number, next)) = text_of number next.0
 
 -- a replay with its received store and its records, and the text written so far
 pub record Told : Type 0 where
@@ -147,9 +143,9 @@ unfolding fed_in
 feed_out c piece out = starting_with (fed_in c piece (length out)).told.text out
 
 -- "a bad or absent payload .. gives hex 14": at the end of the input no payload is to come
-abbrev pub absent_as : Waiting → Left → Left
-absent_as Frame l = l
-absent_as (Payload seq) l = ended_with 20 (recorded l.said.replay.state l.records) l.store
+abbrev pub absent_as : Option Seq → Left → Left
+absent_as None l = l
+absent_as (Some seq) l = ended_with 20 (recorded l.said.replay.state l.records) l.store
 
 unfoldable pub absent_of : Left → Left
 unfolding ended without_all
@@ -157,7 +153,7 @@ absent_of l = absent_as l.said.replay.waiting l
 
 -- what is told, with nothing said
 abbrev pub silent : Told → Left
-silent t = left (record { answer = Nothing; replay = t.replay }) t.store t.records
+silent t = left (record { answer = None; replay = t.replay }) t.store t.records
 
 -- "Only a closing call accepts a last line without a line feed."
 unfoldable pub last_line : Carrying → Left
@@ -254,7 +250,7 @@ module _ (c : Carrying) where
   close-last h = simp (ne_eqb c.count 0 h)
 
 -- an answer's text is a line of twelve bytes, or none
-pub said-short : (a : Answer) → length (said_by a) ≤ LINE_TEXT
+pub said-short : (a : Option (ℕ × Seq)) → length (said_by a) ≤ LINE_TEXT
 unfolding text_of
-said-short Nothing = omega arith
-said-short (Line number next) = omega arith
+said-short None = omega arith
+said-short (Some (number, next)) = omega arith

@@ -1,25 +1,19 @@
 -- Document 01, "The replay program": what one line answers, and what it leaves of the replay, of the received store and of the records. A store
 -- is the list of its bytes, a record space that of its words. Assumes nothing.
-use Rattle.std.specs.Prelude.{◌≡◌, true, false, cond, List, [], ℕ, ◌≤◌, ◌<◌, leb, length}
+use Rattle.std.specs.Prelude.{◌≡◌, true, false, cond, List, [], ℕ, ◌≤◌, ◌<◌, leb, length, Some, None, Option, Ok, Err, Result}
+use Rattle.refusal.specs.declared.Refusal.{Refusal}
 use Rattle.std.proofs.Common.{ap, ◌∙◌, arith}
 use borrow.Table.Steps.{cases}
 use Rattle.refusal.specs.Refusals.{number_of}
 use Rattle.refusal.specs.Tests.{split}
 use Rattle.seq.specs.declared.Seq.{Seq}
 use Rattle.msg.specs.declared.link_msg.LinkMsg.{LinkMsg}
-use Rattle.msg.specs.declared.reading.Reading.{Reading}
-use Rattle.msg.specs.declared.reading.Reading.TheVariants as readings
 use Rattle.msg.specs.declared.reliable.ReliableMsg.{ReliableMsg}
 use Rattle.msg.specs.declared.reliable.ReliableMsg.TheVariants.{Data, Consumed, SendFinish, ReceiveClose, ReceiveFinish}
-use Rattle.msg.specs.declared.reliable.FromLink.{FromLink}
-use Rattle.msg.specs.declared.reliable.FromLink.TheVariants.{Reliable, Other}
 use Rattle.msg.specs.Reliable.{from_link}
 use Rattle.engine.specs.declared.answer.Changed.{Changed}
 use Rattle.engine.specs.Answer.{outcome_told}
 use Rattle.engine.specs.Receiving.{receive_of, receive_store, receive_records}
-use Rattle.replaying.specs.declared.session.Waiting.{Waiting}
-use Rattle.replaying.specs.declared.session.Waiting.TheVariants.{Frame, Payload}
-use Rattle.replaying.specs.declared.session.Answer.TheVariants as answers
 use Rattle.replaying.specs.declared.session.Replay.{Replay}
 use Rattle.replaying.specs.declared.session.Answered.{Answered}
 use Rattle.text.specs.HexRun.{spells, spelt, spelt-length}
@@ -51,7 +45,7 @@ received h store msg seq bytes =
 
 -- "a line that reads as Data is followed by its payload line": it has no answer of its own
 abbrev pub awaited : Recorded → List ℕ → Seq → Left
-awaited h store seq = left (record { answer = answers.Nothing; replay = record { state = h.state; waiting = Payload seq } }) store h.records
+awaited h store seq = left (record { answer = None; replay = record { state = h.state; waiting = Some seq } }) store h.records
 
 -- "Only Data, Consumed, SendFinish, ReceiveClose and ReceiveFinish reach the engine; other good frames answer 00"
 abbrev pub after_reliable : Recorded → List ℕ → ReliableMsg → Seq → Left
@@ -61,17 +55,17 @@ after_reliable h store SendFinish seq = received h store SendFinish seq []
 after_reliable h store ReceiveClose seq = received h store ReceiveClose seq []
 after_reliable h store ReceiveFinish seq = received h store ReceiveFinish seq []
 
-abbrev pub after_carried : Recorded → List ℕ → FromLink → Left
-after_carried h store (Reliable msg seq) = after_reliable h store msg seq
-after_carried h store Other = ended_with 0 h store
+abbrev pub after_carried : Recorded → List ℕ → Option (ReliableMsg × Seq) → Left
+after_carried h store (Some (msg, seq)) = after_reliable h store msg seq
+after_carried h store None = ended_with 0 h store
 
 abbrev pub after_message : Recorded → List ℕ → LinkMsg → Left
 after_message h store msg = after_carried h store (from_link msg)
 
 -- "A bad line .. gives hex 14 (refusal 20)": what reading refuses with, which is 20; no payload line is taken with it
-abbrev pub after_reading : Recorded → List ℕ → Reading → Left
-after_reading h store (readings.Message msg) = after_message h store msg
-after_reading h store (readings.No e) = ended_with (number_of e) h store
+abbrev pub after_reading : Recorded → List ℕ → Result LinkMsg Refusal → Left
+after_reading h store (Ok msg) = after_message h store msg
+after_reading h store (Err e) = ended_with (number_of e) h store
 
 -- "its payload line (possibly blank)"; "a bad or absent payload, or one over 1,024 bytes, gives hex 14": 2,048 digits
 unfoldable pub after_payload : Recorded → List ℕ → Seq → List ℕ → Left
@@ -79,9 +73,9 @@ unfolding received ended without_all is_payload spelt
 after_payload h store seq line = cond (is_payload line) (received h store Data seq (spelt line)) (ended_with 20 h store)
 
 -- "one frame a line; a line that reads as Data is followed by its payload line"
-abbrev pub answer_as : Waiting → Recorded → List ℕ → List ℕ → Left
-answer_as Frame h store line = after_reading h store (frame_of line)
-answer_as (Payload seq) h store line = after_payload h store seq line
+abbrev pub answer_as : Option Seq → Recorded → List ℕ → List ℕ → Left
+answer_as None h store line = after_reading h store (frame_of line)
+answer_as (Some seq) h store line = after_payload h store seq line
 
 unfoldable pub answer_of : Replay → (store records line : List ℕ) → Left
 unfolding after_payload received ended without_all frame_of
@@ -130,13 +124,13 @@ module _ (P : Left → Type 0) (h : Recorded) (store line : List ℕ) (ends : (n
   every-reliable ReceiveClose seq = receives ReceiveClose seq [] (omega arith)
   every-reliable ReceiveFinish seq = receives ReceiveFinish seq [] (omega arith)
 
-  every-carried : (carried : FromLink) → P (after_carried h store carried)
-  every-carried (Reliable msg seq) = every-reliable msg seq
-  every-carried Other = ends 0
+  every-carried : (carried : Option (ReliableMsg × Seq)) → P (after_carried h store carried)
+  every-carried (Some (msg, seq)) = every-reliable msg seq
+  every-carried None = ends 0
 
-  every-reading : (reading : Reading) → P (after_reading h store reading)
-  every-reading (readings.Message msg) = every-carried (from_link msg)
-  every-reading (readings.No e) = ends (number_of e)
+  every-reading : (reading : Result LinkMsg Refusal) → P (after_reading h store reading)
+  every-reading (Ok msg) = every-carried (from_link msg)
+  every-reading (Err e) = ends (number_of e)
 
   every-payload : (seq : Seq) → P (after_payload h store seq line)
   unfolding is_payload
@@ -147,14 +141,14 @@ module _ (P : Left → Type 0) (h : Recorded) (store line : List ℕ) (ends : (n
       rw (payload-good h store seq line t) (receives Data seq (spelt line) (omega (arith, half))))
       (λ f. rw (payload-bad h store seq line f) (ends 20))
 
-  pub every-answer : (w : Waiting) → P (answer_as w h store line)
-  every-answer Frame = every-reading (frame_of line)
-  every-answer (Payload seq) = every-payload seq
+  pub every-answer : (w : Option Seq) → P (answer_as w h store line)
+  every-answer None = every-reading (frame_of line)
+  every-answer (Some seq) = every-payload seq
 
 -- a line that is too long is bad, whatever the replay waits for
-long_as : (w : Waiting) (h : Recorded) (store line : List ℕ) → MAX_LINE < length line → answer_as w h store line ≡ ended_with 20 h store
-long_as Frame h store line l = ap (after_reading h store) (frame-long line l)
-long_as (Payload seq) h store line l = payload-bad h store seq line (long-is-no-payload line (omega arith))
+long_as : (w : Option Seq) (h : Recorded) (store line : List ℕ) → MAX_LINE < length line → answer_as w h store line ≡ ended_with 20 h store
+long_as None h store line l = ap (after_reading h store) (frame-long line l)
+long_as (Some seq) h store line l = payload-bad h store seq line (long-is-no-payload line (omega arith))
 
 pub long-answer : (r : Replay) (store records line : List ℕ) → MAX_LINE < length line → answer_of r store records line ≡ ended_with 20 (recorded r.state records) store
 unfolding answer_of

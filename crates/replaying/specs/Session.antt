@@ -1,9 +1,7 @@
 -- Document 01, "The replay program": how it begins. Assumes nothing.
-use Rattle.std.specs.Prelude.{false, List, ℕ}
-use Rattle.link.specs.declared.row.MaxPing.TheVariants.{Unlimited}
+use Rattle.std.specs.Prelude.{false, List, ℕ, None}
 use Rattle.engine.specs.Starting.{fresh_of, fresh_records}
 use Rattle.engine.specs.Links.{add_of}
-use Rattle.replaying.specs.declared.session.Waiting.TheVariants.{Frame}
 use Rattle.replaying.specs.declared.session.Replay.{Replay}
 use Rattle.replaying.specs.declared.session.Session.{Session}
 use Rattle.replaying.specs.Sizes.{CELLS, RECEIVED_BYTES}
@@ -12,8 +10,8 @@ use Rattle.replaying.specs.Sizes.{CELLS, RECEIVED_BYTES}
 -- and what else it is given reaches no answer.
 unfoldable pub beginning : ℕ → Replay
 beginning records = record {
-  state = (add_of (fresh_of 0 RECEIVED_BYTES CELLS records).state 0 0 Unlimited false false).state;
-  waiting = Frame;
+  state = (add_of (fresh_of 0 RECEIVED_BYTES CELLS records).state 0 0 None false false).state;
+  waiting = None;
 }
 
 -- and nothing of a line is carried

@@ -1,19 +1,18 @@
 -- Document 01, "The replay program": "acks and ready messages are taken after each frame". That ACKS and CELLS turns take all: what is asked of
 -- the state holds of every sound one. Assumes nothing.
-use Rattle.link.specs.declared.acks.OldestAck.{OldestAck}
-use Rattle.std.specs.Prelude.{◌≡◌, refl, true, false, Bool, ℕ, ◌+◌, ◌-◌, ◌^◌, ◌≤◌, ◌<◌, eqb, List, length}
+use Rattle.std.specs.Prelude.{◌≡◌, refl, true, false, Bool, ℕ, ◌+◌, ◌-◌, ◌^◌, ◌≤◌, ◌<◌, eqb, List, length, None, Option, Ok, Err, Result}
+use Rattle.refusal.specs.declared.Refusal.{Refusal}
+use Rattle.seq.specs.declared.Seq.{Seq}
+use Rattle.engine.specs.Held.{HandOut}
 use Rattle.std.proofs.Common.{sym, ◌∙◌, ap, length-set, get_or-set_same}
 use native.Mathlib.Omega.{arith}
 use borrow.Author.Tests.{eq-eqb, ne_eqb, eqb-false, not-true}
 use Rattle.refusal.specs.Tests.{false-true, split}
-use Rattle.refusal.specs.declared.verdict.Verdict.TheVariants as verdicts
 use Rattle.seq.specs.Numbers.{plus, minus}
 use Rattle.seq.specs.Distance.{past, past_near, past-ahead}
 use Rattle.link.specs.declared.row.LinkRow.{LinkRow}
-use Rattle.link.specs.declared.acks.OldestAck.TheVariants as oldest
 use Rattle.link.specs.Acks.{oldest_ack, ack_taken}
 use Rattle.link.specs.Row.{no_row}
-use Rattle.engine.specs.declared.state.Held.TheVariants as helds
 use Rattle.engine.specs.declared.state.Receiving.{Receiving}
 use Rattle.engine.specs.declared.state.State.{State}
 use Rattle.engine.specs.Sizes.{SLOTS}
@@ -23,10 +22,6 @@ use Rattle.engine.specs.Decide.{soundb, sound_withb}
 use Rattle.engine.specs.Totals.{fits, MAX_TOTAL}
 use Rattle.refusal.specs.Verdicts.{gate}
 use Rattle.engine.specs.Rows.{row_of, row-of, slot_ok}
-use Rattle.engine.specs.declared.handing_out.TakeAck.{TakeAck}
-use Rattle.engine.specs.declared.handing_out.TakeAck.TheVariants as acks
-use Rattle.engine.specs.declared.handing_out.HandOut.{HandOut}
-use Rattle.engine.specs.declared.handing_out.HandOut.TheVariants as ready
 use Rattle.engine.specs.HandingOut.{take_ack_of, ack_as, ack_answer, taken_ack_by, taken_ack_state, ready_of, ready_bytes, is_ready, take_ack_verdict, hand_out_by, data_length, take_of, take_records, take_verdict, taken_by, records_by, taken_state, taken_table, taken_in, skipped, can_skip, passed_by}
 use Rattle.engine.specs.Fields.{with_row}
 use Rattle.engine.specs.Turns.{turns-keep}
@@ -35,18 +30,18 @@ use Rattle.replaying.specs.Taking.{is_ack, is_message, has_ack, after_ack, witho
 -- ---- acks
 
 -- where 19 shuts its gate, there is no ack
-none-waiting : (sound slot : Bool) (ack : OldestAck) → is_ack (ack_as (gate sound 1 (gate slot 4 (gate false 19 verdicts.Pass))) ack) ≡ false
+none-waiting : (sound slot : Bool) (ack : Option Seq) → is_ack (ack_as (gate sound 1 (gate slot 4 (gate false 19 (Ok tt)))) ack) ≡ false
 none-waiting true true ack = refl
 none-waiting true false ack = refl
 none-waiting false slot ack = refl
 
 pub no-ack : (s : State) → (row_of s 0).ack_count ≡ 0 → has_ack s ≡ false
 unfolding take_ack_of ack_answer take_ack_verdict oldest_ack
-no-ack s e = simp (eq-eqb (row_of s 0).ack_count 0 e) (none-waiting (soundb s) (slot_ok s 0) oldest.Nothing)
+no-ack s e = simp (eq-eqb (row_of s 0).ack_count 0 e) (none-waiting (soundb s) (slot_ok s 0) None)
 
-taken-by : (a : TakeAck) (s : State) → is_ack a ≡ true → taken_ack_by a s 0 ≡ taken_ack_state s 0
-taken-by (acks.Number seq) s e = refl
-taken-by (acks.No r) s e = false-true e
+taken-by : (a : Result Seq Refusal) (s : State) → is_ack a ≡ true → taken_ack_by a s 0 ≡ taken_ack_state s 0
+taken-by (Ok seq) s e = refl
+taken-by (Err r) s e = false-true e
 
 one_less : (r : LinkRow) → (r.ack_count ≡ 0 → ⊥) → (ack_taken r).ack_count ≡ r.ack_count - 1
 unfolding ack_taken
@@ -79,7 +74,7 @@ no-ack-left n s eight h =
 
 -- ---- ready messages
 
-none-ready : (long sound total : Bool) (t : RxTable) → is_message (hand_out_by (gate long 2 (gate sound 1 (gate total 9 (gate false 19 verdicts.Pass)))) t) ≡ false
+none-ready : (long sound total : Bool) (t : RxTable) → is_message (hand_out_by (gate long 2 (gate sound 1 (gate total 9 (gate false 19 (Ok tt))))) t) ≡ false
 unfolding hand_out_by
 none-ready true true true t = refl
 none-ready true true false t = refl
@@ -88,8 +83,8 @@ none-ready false sound total t = refl
 
 -- a refused taking leaves the records as they came
 kept-records : (a : HandOut) (s : State) (records : List ℕ) → is_message a ≡ false → records_by a s records ≡ records
-kept-records (ready.Message msg seq len) s records e = false-true (sym e)
-kept-records (ready.No r) s records e = refl
+kept-records (Ok (msg, seq, len)) s records e = false-true (sym e)
+kept-records (Err r) s records e = refl
 
 pub untaken-records : (h : Recorded) → has_message h ≡ false → take_records h.state h.records ≡ h.records
 unfolding take_of take_records
@@ -123,7 +118,7 @@ plus-wide : (b : ℕ) → plus b 1 < 2 ^ 32
 unfolding plus
 plus-wide b = omega arith
 
-nothing-ready : (t : RxTable) → t.rx.rx_oldest.0 ≡ t.rx.rx_seq.0 → ready_of t ≡ helds.Nothing
+nothing-ready : (t : RxTable) → t.rx.rx_oldest.0 ≡ t.rx.rx_seq.0 → ready_of t ≡ None
 unfolding ready_of
 nothing-ready t e = simp (eq-eqb t.rx.rx_oldest.0 t.rx.rx_seq.0 e)
 
@@ -153,8 +148,8 @@ module _ (N : ℕ) (records : List ℕ) where
       (λ k r h f. h) (λ r h. h) k rx (w, omega arith)
 
 taken_as : (a : HandOut) (s : State) (records : List ℕ) → is_message a ≡ true → (bytes : ℕ) × (taken_by a s records ≡ taken_state s records bytes)
-taken_as (ready.Message msg seq len) s records e = (data_length msg len, refl)
-taken_as (ready.No r) s records e = false-true e
+taken_as (Ok (msg, seq, len)) s records e = (data_length msg len, refl)
+taken_as (Err r) s records e = false-true e
 
 module _ (h : Recorded) (w : Wide h.state.rx) (t : has_message h ≡ true) where
   abbrev rx : Receiving

@@ -1,25 +1,22 @@
 -- Document 01, "The replay program": "acks and ready messages are taken after each frame". Assumes nothing.
-use Rattle.std.specs.Prelude.{Bool, true, false, List, ℕ}
+use Rattle.std.specs.Prelude.{Bool, true, false, List, ℕ, Some, None, Ok, Err, Result}
+use Rattle.refusal.specs.declared.Refusal.{Refusal}
+use Rattle.seq.specs.declared.Seq.{Seq}
+use Rattle.engine.specs.Held.{HandOut}
 use Rattle.link.specs.Sizes.{ACKS}
 use Rattle.engine.specs.declared.state.State.{State}
-use Rattle.engine.specs.declared.handing_out.TakeAck.{TakeAck}
-use Rattle.engine.specs.declared.handing_out.TakeAck.TheVariants as acks
-use Rattle.engine.specs.declared.handing_out.HandOut.{HandOut}
-use Rattle.engine.specs.declared.handing_out.HandOut.TheVariants as ready
 use Rattle.engine.specs.HandingOut.{take_ack_of, take_of, take_records}
 use Rattle.engine.specs.Turns.{turns}
-use Rattle.replaying.specs.declared.session.Waiting.TheVariants.{Frame}
-use Rattle.replaying.specs.declared.session.Answer.TheVariants.{Line}
 use Rattle.replaying.specs.declared.session.Answered.{Answered}
 use Rattle.replaying.specs.Sizes.{CELLS}
 
-abbrev pub is_ack : TakeAck → Bool
-is_ack (acks.Number seq) = true
-is_ack (acks.No e) = false
+abbrev pub is_ack : Result Seq Refusal → Bool
+is_ack (Ok seq) = true
+is_ack (Err e) = false
 
 abbrev pub is_message : HandOut → Bool
-is_message (ready.Message msg seq len) = true
-is_message (ready.No e) = false
+is_message (Ok (msg, seq, len)) = true
+is_message (Err e) = false
 
 -- "acks .. are taken": link 0's, until taking one is refused, and at most n
 abbrev pub has_ack : State → Bool
@@ -57,6 +54,6 @@ without_all h = without_ready CELLS (recorded (without_acks ACKS h.state) h.reco
 unfoldable pub ended : ℕ → Recorded → Answered
 unfolding without_all
 ended number h = record {
-  answer = Line number (without_all h).state.rx.rx_seq;
-  replay = record { state = (without_all h).state; waiting = Frame };
+  answer = Some (number, (without_all h).state.rx.rx_seq);
+  replay = record { state = (without_all h).state; waiting = None };
 }

@@ -1,15 +1,12 @@
 -- Document 01, "The replay program", over a whole input, line by line; and that the same input fed byte by byte, and closed, is the
 -- whole. Assumes nothing.
-use Rattle.std.specs.Prelude.{◌≡◌, List, [], ◌∷◌, ◌++◌, ℕ, ◌+◌, ◌≤◌, ◌<◌, eqb, leb, ltb, length, take, set}
+use Rattle.std.specs.Prelude.{◌≡◌, List, [], ◌∷◌, ◌++◌, ℕ, ◌+◌, ◌≤◌, ◌<◌, eqb, leb, ltb, length, take, set, Some, None, Option}
 use Rattle.std.proofs.Math.Path.{refl, ap}
 use Rattle.std.proofs.Common.{sym, ◌∙◌, append-nil, add-one, arith, length-append, length-set, take-suc-set, eqb-true, leb-true, leb-false, ltb-true, ltb-false}
 use Rattle.std.proofs.lemmas.Bool.{eqb-false}
 use borrow.Table.Steps.{cases}
 use Rattle.seq.specs.declared.Seq.{Seq}
 use Rattle.engine.specs.Receiving.{receive_store}
-use Rattle.replaying.specs.declared.session.Waiting.{Waiting}
-use Rattle.replaying.specs.declared.session.Waiting.TheVariants.{Frame, Payload}
-use Rattle.replaying.specs.declared.session.Answer.TheVariants.{Nothing}
 use Rattle.replaying.specs.declared.session.Replay.{Replay}
 use Rattle.replaying.specs.Session.{beginning, begun, begun_records}
 use Rattle.recording.specs.Frames.{MAX_LINE}
@@ -47,7 +44,7 @@ output_of store records input = (whole_of store records input).text
 
 -- an answer after which a payload is awaited says nothing yet
 Quiet : Left → Type 0
-Quiet l = (seq : Seq) → l.said.replay.waiting ≡ Payload seq → l.said.answer ≡ Nothing
+Quiet l = (seq : Seq) → l.said.replay.waiting ≡ Some seq → l.said.answer ≡ None
 
 quiet-ended : (number : ℕ) (h : Recorded) (store : List ℕ) → Quiet (ended_with number h store)
 unfolding Quiet ended
@@ -61,10 +58,10 @@ quiet r store records line =
     (λ msg seq bytes few. quiet-ended _ _ (receive_store r.state store records 0 msg seq.0 bytes)) (λ seq n e. refl) r.waiting
 
 -- an absent payload, told with the last line or after it
-absent-told : (w : Waiting) (l : Left) (text : List ℕ) → l.said.replay.waiting ≡ w → Quiet l → told_after text (absent_of l) ≡ finished (told_after text l)
+absent-told : (w : Option Seq) (l : Left) (text : List ℕ) → l.said.replay.waiting ≡ w → Quiet l → told_after text (absent_of l) ≡ finished (told_after text l)
 unfolding absent_of finished Quiet
-absent-told Frame l text e q = simp e (ap (told_of l.said.replay l.store l.records) (sym (append-nil (text ++ said_by l.said.answer))))
-absent-told (Payload seq) l text e q =
+absent-told None l text e q = simp e (ap (told_of l.said.replay l.store l.records) (sym (append-nil (text ++ said_by l.said.answer))))
+absent-told (Some seq) l text e q =
     let n = q seq e in
     let then = ended_with 20 (recorded l.said.replay.state l.records) l.store in
     simp (e, n) (ap (λ x. told_after x then) (sym (append-nil text)))

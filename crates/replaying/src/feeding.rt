@@ -9,11 +9,12 @@ ghost use Rattle.replaying.specs.Feeding.{said_by, line_with, count_with, carrie
 ghost use Rattle.replaying.specs.FeedLine.{fed_as};
 
 use crate::lines::answer_line;
-use crate::session::{Answer, Answered, Replay, Session, Waiting};
+use crate::session::{Answered, Replay, Session};
 use crate::taking::end_frame;
 use crate::writing::{LINE_TEXT, write_line};
 use recording::MAX_LINE;
 use refusal::Refusal;
+use seq::Seq;
 use text::put;
 
 // Where a call left a piece: the session to go on with, how many of the piece's bytes were used, and how many bytes of text written.
@@ -84,14 +85,14 @@ fn end_line(r: Replay, store: &mut [u8], records: &mut [u64], line: &[u8], count
 }
 
 // Writes an answer's line at a place, if there is one, and says where its text ends.
-fn show(answer: Answer, out: &mut [u8], at: usize) -> usize
+fn show(answer: Option<(u8, Seq)>, out: &mut [u8], at: usize) -> usize
     requires { at + LINE_TEXT ≤ length out.old }
     ensures value { result ≡ at + length (said_by answer) }
     ensures out_after { out.new ≡ put_in (said_by answer) out.old at }
 {
     match answer {
-        Answer::Nothing => at,
-        Answer::Line(number, next) => {
+        None => at,
+        Some((number, next)) => {
             let mut text = [0u8; LINE_TEXT];
             write_line(number, next, &mut text);
             put(&text, out, at)
@@ -130,7 +131,7 @@ pub fn feed(
 {
     let first = session.replay;
     let mut said = Answered {
-        answer: Answer::Nothing,
+        answer: None,
         replay: first,
     };
     let mut count = session.count;
@@ -164,7 +165,7 @@ fn last_line(session: Session, store: &mut [u8], records: &mut [u64], line: &[u8
     let count = session.count;
     if count == 0 {
         return Answered {
-            answer: Answer::Nothing,
+            answer: None,
             replay,
         };
     }
@@ -180,8 +181,8 @@ fn end_input(session: Session, store: &mut [u8], records: &mut [u64], line: &[u8
     let state = replay.state;
     let waiting = replay.waiting;
     match waiting {
-        Waiting::Frame => said,
-        Waiting::Payload(_) => end_frame(Refusal::Bytes.number(), state, records),
+        None => said,
+        Some(_) => end_frame(Refusal::Bytes.number(), state, records),
     }
 }
 

@@ -9,6 +9,6 @@ pub mod taking;
 pub mod writing;
 
 pub use feeding::{Closed, Fed, close, feed};
-pub use session::{Answer, Answered, Replay, Session, Waiting, begin};
+pub use session::{Answered, Replay, Session, begin};
 pub use sizes::{CELLS, RECEIVED_BYTES};
 pub use writing::{LINE_TEXT, write_line};

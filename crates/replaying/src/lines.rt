@@ -4,22 +4,20 @@ ghost use Rattle.engine.specs.Answer.{outcome_told};
 ghost use Rattle.replaying.specs.Taking.{recorded};
 ghost use Rattle.replaying.specs.Line.{left, received, after_reliable, after_message, after_reading, after_payload, answer_of};
 
-use crate::session::{Answer, Answered, Replay, Waiting};
+use crate::session::{Answered, Replay};
 use crate::taking::end_frame;
-use engine::{Outcome, State};
-use msg::reliable::FromLink;
-use msg::{LinkMsg, Reading, ReliableMsg};
+use engine::State;
+use msg::{LinkMsg, ReliableMsg};
 use recording::{read_frame, read_payload};
 use refusal::Refusal;
 use seq::Seq;
-use text::HexRun;
 
-fn outcome_number(outcome: Outcome) -> u8
+fn outcome_number(outcome: Result<(), Refusal>) -> u8
     ensures { result ≡ (outcome_told outcome).number }
 {
     match outcome {
-        Outcome::Done => 0,
-        Outcome::No(e) => e.number(),
+        Ok(()) => 0,
+        Err(e) => e.number(),
     }
 }
 
@@ -52,10 +50,10 @@ fn answer_reliable(
 {
     match msg {
         ReliableMsg::Data => Answered {
-            answer: Answer::Nothing,
+            answer: None,
             replay: Replay {
                 state: s,
-                waiting: Waiting::Payload(seq),
+                waiting: Some(seq),
             },
         },
         ReliableMsg::Consumed(_) => receive_frame(s, store, records, msg, seq, b""),
@@ -71,17 +69,22 @@ fn answer_message(s: State, store: &mut [u8], records: &mut [u64], msg: LinkMsg)
 {
     let carried = ReliableMsg::from_link_msg(msg);
     match carried {
-        FromLink::Other => end_frame(0, s, records),
-        FromLink::Reliable(reliable, seq) => answer_reliable(s, store, records, reliable, seq),
+        None => end_frame(0, s, records),
+        Some((reliable, seq)) => answer_reliable(s, store, records, reliable, seq),
     }
 }
 
-fn answer_reading(s: State, store: &mut [u8], records: &mut [u64], reading: Reading) -> Answered
+fn answer_reading(
+    s: State,
+    store: &mut [u8],
+    records: &mut [u64],
+    reading: Result<LinkMsg, Refusal>,
+) -> Answered
     ensures { left result store.new records.new ≡ after_reading (recorded s records.old) store.old reading }
 {
     match reading {
-        Reading::No(e) => end_frame(e.number(), s, records),
-        Reading::Message(msg) => answer_message(s, store, records, msg),
+        Err(e) => end_frame(e.number(), s, records),
+        Ok(msg) => answer_message(s, store, records, msg),
     }
 }
 
@@ -96,7 +99,7 @@ fn answer_payload(
     ensures { left result store.new records.new ≡ after_payload (recorded s records.old) store.old seq line.now }
 {
     let mut bytes = [0u8; 1024];
-    let HexRun::Count(n) = read_payload(line, &mut bytes) else {
+    let Some(n) = read_payload(line, &mut bytes) else {
         return end_frame(Refusal::Bytes.number(), s, records);
     };
     receive_frame(s, store, records, ReliableMsg::Data, seq, &bytes[..n])
@@ -109,10 +112,10 @@ pub(crate) fn answer_line(r: Replay, store: &mut [u8], records: &mut [u64], line
     let state = r.state;
     let waiting = r.waiting;
     match waiting {
-        Waiting::Frame => {
+        None => {
             let reading = read_frame(line);
             answer_reading(state, store, records, reading)
         }
-        Waiting::Payload(seq) => answer_payload(state, store, records, seq, line),
+        Some(seq) => answer_payload(state, store, records, seq, line),
     }
 }

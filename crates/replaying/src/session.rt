@@ -4,21 +4,13 @@ ghost use Rattle.replaying.specs.Session.{begun, begun_records};
 
 use crate::sizes::{CELLS, RECEIVED_BYTES};
 use engine::State;
-use link::MaxPing;
 use seq::Seq;
-
-// What the next line is.
-#[derive(Clone, Copy)]
-pub enum Waiting {
-    Frame,
-    // the payload of the Data with this number, whose frame was read
-    Payload(Seq),
-}
 
 #[derive(Clone, Copy)]
 pub struct Replay {
     pub state: State,
-    pub waiting: Waiting,
+    // the number of the Data whose frame was read and whose payload the next line is; none where the next line is a frame
+    pub waiting: Option<Seq>,
 }
 
 // What a replay is between two pieces of its input: a host passes it on as it came. The bytes of the unfinished line lie in the buffer
@@ -30,16 +22,9 @@ pub struct Session {
 }
 
 #[derive(Clone, Copy)]
-pub enum Answer {
-    // no frame has ended
-    Nothing,
-    // a refusal number, or 0, and the next expected number
-    Line(u8, Seq),
-}
-
-#[derive(Clone, Copy)]
 pub struct Answered {
-    pub answer: Answer,
+    // a refusal number, or 0, and the next expected number; none where no frame has ended
+    pub answer: Option<(u8, Seq)>,
     pub replay: Replay,
 }
 
@@ -50,12 +35,12 @@ pub fn begin(records: &mut [u64]) -> Session
 {
     let made = engine::fresh(Seq::ZERO, RECEIVED_BYTES as u32, CELLS as u32, records);
     let empty = made.state;
-    let added = engine::add(empty, 0, 0, MaxPing::Unlimited, false, false);
+    let added = engine::add(empty, 0, 0, None, false, false);
     let state = added.state;
     Session {
         replay: Replay {
             state,
-            waiting: Waiting::Frame,
+            waiting: None,
         },
         count: 0,
     }

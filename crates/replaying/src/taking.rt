@@ -4,17 +4,19 @@ ghost use Rattle.link.specs.Sizes.{ACKS};
 ghost use Rattle.replaying.specs.Sizes.{CELLS};
 ghost use Rattle.replaying.specs.Taking.{is_ack, is_message, without_acks, recorded, without_ready, without_all, ended};
 
-use crate::session::{Answer, Answered, Replay, Waiting};
+use crate::session::{Answered, Replay};
 use crate::sizes::CELLS;
-use engine::{HandOut, State, TakeAck};
+use engine::{HandOut, State};
 use link::sizes::ACKS;
+use refusal::Refusal;
+use seq::Seq;
 
-fn is_ack(answer: TakeAck) -> bool
+fn is_ack(answer: Result<Seq, Refusal>) -> bool
     ensures { result ≡ is_ack answer }
 {
     match answer {
-        TakeAck::Number(_) => true,
-        TakeAck::No(_) => false,
+        Ok(_) => true,
+        Err(_) => false,
     }
 }
 
@@ -22,8 +24,8 @@ fn is_message(answer: HandOut) -> bool
     ensures { result ≡ is_message answer }
 {
     match answer {
-        HandOut::Message(_, _, _) => true,
-        HandOut::No(_) => false,
+        Ok((_, _, _)) => true,
+        Err(_) => false,
     }
 }
 
@@ -80,10 +82,10 @@ pub fn end_frame(number: u8, s: State, records: &mut [u64]) -> Answered
     let rx = state.rx;
     let next = rx.rx_seq;
     Answered {
-        answer: Answer::Line(number, next),
+        answer: Some((number, next)),
         replay: Replay {
             state,
-            waiting: Waiting::Frame,
+            waiting: None,
         },
     }
 }

@@ -1,5 +1,5 @@
 -- What the eight words of a call ask for: the first is the call's number, and its arguments follow. Words that are no call ask for nothing. Assumes nothing.
-use Rattle.std.specs.Prelude.{◌≡◌, Bool, true, cond, ◌&&◌, List, ℕ, ◌+◌, ◌-◌, ◌≤◌, eqb, leb, ltb, length, get_or, take, drop}
+use Rattle.std.specs.Prelude.{◌≡◌, Bool, true, cond, ◌&&◌, List, ℕ, ◌+◌, ◌-◌, ◌≤◌, eqb, leb, ltb, length, get_or, take, drop, Some, None, Option}
 use Rattle.std.proofs.Common.{arith, leb-true}
 use Rattle.refusal.specs.Tests.{split}
 use Rattle.seq.specs.Numbers.{seq_of}
@@ -9,8 +9,6 @@ use Rattle.msg.specs.declared.reliable.ReliableMsg.TheVariants.{Data, Consumed, 
 use Rattle.msg.specs.Reliable.{MSG_DATA, MSG_CONSUMED, MSG_SEND_FINISH, MSG_RECEIVE_CLOSE, MSG_RECEIVE_FINISH}
 use Rattle.words.specs.Meaning.{is_set, max_ping_of}
 use Rattle.laws.specs.Calls.{Call, Add, Remove, Confirm, Unconfirm, Block, Mark, Ping, Pong, Flush, Send, Resend, Ack, Receive, Show, Take, Due, Close, TakeAck, EarliestConfirmTimeout}
-use Rattle.runs.specs.declared.given.Given.{Given}
-use Rattle.runs.specs.declared.given.Given.TheVariants.{Message, Nothing}
 
 pub data Asked : Type 0 where
   It : Call → Asked
@@ -25,25 +23,25 @@ abbrev pub numbered : ℕ → Asked → Asked
 numbered v asked = cond (ltb v 4294967296) asked NoCall
 
 -- the message that a kind names, of those without a count
-unfoldable pub plain_given : ℕ → Given
+unfoldable pub plain_given : ℕ → Option ReliableMsg
 plain_given kind =
-    cond (eqb kind MSG_DATA) (Message Data)
-    (cond (eqb kind MSG_SEND_FINISH) (Message SendFinish)
-    (cond (eqb kind MSG_RECEIVE_CLOSE) (Message ReceiveClose)
-    (cond (eqb kind MSG_RECEIVE_FINISH) (Message ReceiveFinish)
-    Nothing)))
+    cond (eqb kind MSG_DATA) (Some Data)
+    (cond (eqb kind MSG_SEND_FINISH) (Some SendFinish)
+    (cond (eqb kind MSG_RECEIVE_CLOSE) (Some ReceiveClose)
+    (cond (eqb kind MSG_RECEIVE_FINISH) (Some ReceiveFinish)
+    None)))
 
 -- .. and of all: "A count is 0 for every kind but Consumed" (docs/CALLS.md)
-unfoldable pub given : ℕ → ℕ → Given
+unfoldable pub given : ℕ → ℕ → Option ReliableMsg
 unfolding plain_given
 given kind count =
     cond (ltb count 4294967296)
-    (cond (eqb kind MSG_CONSUMED) (Message (Consumed count)) (cond (eqb count 0) (plain_given kind) Nothing))
-    Nothing
+    (cond (eqb kind MSG_CONSUMED) (Some (Consumed count)) (cond (eqb count 0) (plain_given kind) None))
+    None
 
-abbrev pub named : Given → (ReliableMsg → Asked) → Asked
-named (Message msg) f = f msg
-named Nothing f = NoCall
+abbrev pub named : Option ReliableMsg → (ReliableMsg → Asked) → Asked
+named (Some msg) f = f msg
+named None f = NoCall
 
 -- a part of the lent bytes
 unfoldable pub withinb : (from len bytes : ℕ) → Bool

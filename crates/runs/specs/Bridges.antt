@@ -1,16 +1,15 @@
 -- What each call in place promises is what the plain call tells and leaves. Assumes nothing.
-use Rattle.std.specs.Prelude.{◌≡◌, Bool, List, [], ◌∷◌, ℕ, length}
+use Rattle.std.specs.Prelude.{◌≡◌, Bool, List, [], ◌∷◌, ℕ, length, Option, Ok, Err, Result}
+use Rattle.refusal.specs.declared.Refusal.{Refusal}
+use Rattle.engine.specs.Held.{ConfirmTimeout, HandOut}
+use Rattle.refusal.specs.Verdicts.{Verdict}
 use Rattle.std.proofs.Math.Path.{refl}
 use Rattle.std.proofs.Common.{sym, ap, ◌∙◌}
 use Rattle.seq.specs.declared.Seq.{Seq}
 use Rattle.msg.specs.declared.reliable.ReliableMsg.{ReliableMsg}
-use Rattle.link.specs.declared.row.MaxPing.{MaxPing}
 use Rattle.link.specs.declared.timeout.AckTimeout.{AckTimeout}
 use Rattle.refusal.specs.Answers.{told_by, flag}
-use Rattle.refusal.specs.declared.verdict.Verdict.{Verdict}
-use Rattle.refusal.specs.declared.verdict.Verdict.TheVariants as verdicts
 use Rattle.engine.specs.declared.state.State.{State}
-use Rattle.engine.specs.declared.answer.Outcome.{Outcome}
 use Rattle.engine.specs.Answer.{outcome_told, changed-told}
 use Rattle.engine.specs.Links.{add_of, add_told, added_by, add_verdict, lowest_in, confirm_of, block_of, mark_of, ping_of, pong_of}
 use Rattle.engine.specs.Unconfirming.{unconfirm_of, remove_of}
@@ -24,13 +23,6 @@ use Rattle.engine.specs.Resending.{resend_of, resend_told, resent_by, resend_ver
 use Rattle.engine.specs.Receiving.{receive_of, receive_store, receive_records, receive_verdict}
 use Rattle.engine.specs.Deadlines.{earliest_confirm_timeout_of, confirm_timeout_told, confirm_timeout_by, confirm_timeout_verdict, named_by, named_values, named-told, first_sent}
 use Rattle.engine.specs.Packets.{packets}
-use Rattle.engine.specs.declared.deadlines.ConfirmTimeout.{ConfirmTimeout}
-use Rattle.engine.specs.declared.handing_out.Due as dues
-use Rattle.engine.specs.declared.handing_out.HandOut.{HandOut}
-use Rattle.engine.specs.declared.handing_out.TakeAck as acks
-use Rattle.engine.specs.declared.links.AddAnswer.{AddAnswer}
-use Rattle.engine.specs.declared.resending.ResendAnswer.{ResendAnswer}
-use Rattle.engine.specs.declared.sending.SendAnswer.{SendAnswer}
 use Rattle.words.specs.Meaning.{state_of}
 use Rattle.runs.specs.declared.answers.Answer.{Answer}
 use Rattle.runs.specs.Asked.{Asked, It}
@@ -41,28 +33,28 @@ use Rattle.laws.specs.Calls.{Holding, told, Add, Remove, Confirm, Unconfirm, Blo
 -- ---- what each tells
 
 added-told : (v : Verdict) (slot : ℕ) (s next : State) → add_told (added_by v slot s next).answer ≡ told_by v (slot ∷ [])
-added-told verdicts.Pass slot s next = refl
-added-told (verdicts.No e) slot s next = refl
+added-told (Ok tt) slot s next = refl
+added-told (Err e) slot s next = refl
 
 sent-told : (v : Verdict) (s next : State) → send_told (sent_by v s next).answer ≡ told_by v (s.tx.tx_seq.0 ∷ [])
-sent-told verdicts.Pass s next = refl
-sent-told (verdicts.No e) s next = refl
+sent-told (Ok tt) s next = refl
+sent-told (Err e) s next = refl
 
 resent-told : (v : Verdict) (h : Holding) (slot time n : ℕ) (next : State) → v ≡ resend_verdict h.state slot time n → resend_told (resent_by v h.state n next).answer ≡ told (Resend slot time n) h
-resent-told verdicts.Pass h slot time n next e = simp (sym e)
-resent-told (verdicts.No r) h slot time n next e = simp (sym e)
+resent-told (Ok tt) h slot time n next e = simp (sym e)
+resent-told (Err r) h slot time n next e = simp (sym e)
 
 due-by-told : (v : Verdict) (s : State) → due_told (due_by v s) ≡ told_by v (flag (is_due s) ∷ [])
-due-by-told verdicts.Pass s = refl
-due-by-told (verdicts.No e) s = refl
+due-by-told (Ok tt) s = refl
+due-by-told (Err e) s = refl
 
 timeout-told : (v : Verdict) (s : State) (timeout : AckTimeout) (unreliable : Bool)
     → confirm_timeout_told (confirm_timeout_by v (named_by (first_sent (packets s.tx)) s timeout unreliable)) ≡ told_by v (named_values (first_sent (packets s.tx)) s timeout unreliable)
-timeout-told verdicts.Pass s timeout unreliable = named-told (first_sent (packets s.tx)) s timeout unreliable
-timeout-told (verdicts.No e) s timeout unreliable = refl
+timeout-told (Ok tt) s timeout unreliable = named-told (first_sent (packets s.tx)) s timeout unreliable
+timeout-told (Err e) s timeout unreliable = refl
 
 module _ (h : Holding) where
-  pub add-told : (id roundtrip : ℕ) (max : MaxPing) (blocked unconfirmed : Bool)
+  pub add-told : (id roundtrip : ℕ) (max : Option ℕ) (blocked unconfirmed : Bool)
       → add_told (add_of h.state id roundtrip max blocked unconfirmed).answer ≡ told (Add id roundtrip max blocked unconfirmed) h
   unfolding add_of
   add-told id roundtrip max blocked unconfirmed = added-told (add_verdict h.state id roundtrip max) (lowest_in h.state) h.state _
@@ -89,15 +81,15 @@ module _ (h : Holding) where
 
   pub ping-told : (slot time : ℕ) → outcome_told (ping_of h.state slot time).outcome ≡ told (Ping slot time) h
   unfolding ping_of
-  ping-told slot time = changed-told (timed_verdict h.state slot time verdicts.Pass) h.state _
+  ping-told slot time = changed-told (timed_verdict h.state slot time (Ok tt)) h.state _
 
   pub pong-told : (slot time : ℕ) → outcome_told (pong_of h.state slot time).outcome ≡ told (Pong slot time) h
   unfolding pong_of
-  pong-told slot time = changed-told (timed_verdict h.state slot time verdicts.Pass) h.state _
+  pong-told slot time = changed-told (timed_verdict h.state slot time (Ok tt)) h.state _
 
   pub flush-told : (slot time : ℕ) → outcome_told (flush_of h.state slot time).outcome ≡ told (Flush slot time) h
   unfolding flush_of
-  flush-told slot time = changed-told (timed_verdict h.state slot time verdicts.Pass) h.state _
+  flush-told slot time = changed-told (timed_verdict h.state slot time (Ok tt)) h.state _
 
   pub ack-told : (slot time n : ℕ) → outcome_told (ack_of h.state slot time n).outcome ≡ told (Ack slot time n) h
   unfolding ack_of
@@ -143,72 +135,72 @@ module _ (h : Holding) where
 
 -- ---- what each leaves, with what it tells: the promise of its arm
 
-pub add-did : (asked : Asked) (w w2 : List ℕ) (r : Answer) (o : AddAnswer) (id roundtrip : ℕ) (max : MaxPing) (blocked unconfirmed : Bool) → asked ≡ It (Add id roundtrip max blocked unconfirmed) → r ≡ answer_of (add_told o) → o ≡ (add_of (state_of w) id roundtrip max blocked unconfirmed).answer
+pub add-did : (asked : Asked) (w w2 : List ℕ) (r : Answer) (o : Result ℕ Refusal) (id roundtrip : ℕ) (max : Option ℕ) (blocked unconfirmed : Bool) → asked ≡ It (Add id roundtrip max blocked unconfirmed) → r ≡ answer_of (add_told o) → o ≡ (add_of (state_of w) id roundtrip max blocked unconfirmed).answer
     → state_of w2 ≡ (add_of (state_of w) id roundtrip max blocked unconfirmed).state → OnWords asked w w2 r
 add-did asked w w2 r o id roundtrip max blocked unconfirmed is t e l =
     words-did (Add id roundtrip max blocked unconfirmed) asked w w2 r (add_told o) (add_of (state_of w) id roundtrip max blocked unconfirmed).state is t l (λ s v c. ap add_told e ∙ add-told (holding_of w s v c) id roundtrip max blocked unconfirmed) (λ s v c. refl)
 
-pub remove-did : (asked : Asked) (w w2 : List ℕ) (r : Answer) (o : Outcome) (slot : ℕ) → asked ≡ It (Remove slot) → r ≡ answer_of (outcome_told o) → o ≡ (remove_of (state_of w) slot).outcome
+pub remove-did : (asked : Asked) (w w2 : List ℕ) (r : Answer) (o : Result Unit Refusal) (slot : ℕ) → asked ≡ It (Remove slot) → r ≡ answer_of (outcome_told o) → o ≡ (remove_of (state_of w) slot).outcome
     → state_of w2 ≡ (remove_of (state_of w) slot).state → OnWords asked w w2 r
 remove-did asked w w2 r o slot is t e l =
     words-did (Remove slot) asked w w2 r (outcome_told o) (remove_of (state_of w) slot).state is t l (λ s v c. ap outcome_told e ∙ remove-told (holding_of w s v c) slot) (λ s v c. refl)
 
-pub confirm-did : (asked : Asked) (w w2 : List ℕ) (r : Answer) (o : Outcome) (slot : ℕ) → asked ≡ It (Confirm slot) → r ≡ answer_of (outcome_told o) → o ≡ (confirm_of (state_of w) slot).outcome
+pub confirm-did : (asked : Asked) (w w2 : List ℕ) (r : Answer) (o : Result Unit Refusal) (slot : ℕ) → asked ≡ It (Confirm slot) → r ≡ answer_of (outcome_told o) → o ≡ (confirm_of (state_of w) slot).outcome
     → state_of w2 ≡ (confirm_of (state_of w) slot).state → OnWords asked w w2 r
 confirm-did asked w w2 r o slot is t e l =
     words-did (Confirm slot) asked w w2 r (outcome_told o) (confirm_of (state_of w) slot).state is t l (λ s v c. ap outcome_told e ∙ confirm-told (holding_of w s v c) slot) (λ s v c. refl)
 
-pub unconfirm-did : (asked : Asked) (w w2 : List ℕ) (r : Answer) (o : Outcome) (slot : ℕ) → asked ≡ It (Unconfirm slot) → r ≡ answer_of (outcome_told o) → o ≡ (unconfirm_of (state_of w) slot).outcome
+pub unconfirm-did : (asked : Asked) (w w2 : List ℕ) (r : Answer) (o : Result Unit Refusal) (slot : ℕ) → asked ≡ It (Unconfirm slot) → r ≡ answer_of (outcome_told o) → o ≡ (unconfirm_of (state_of w) slot).outcome
     → state_of w2 ≡ (unconfirm_of (state_of w) slot).state → OnWords asked w w2 r
 unconfirm-did asked w w2 r o slot is t e l =
     words-did (Unconfirm slot) asked w w2 r (outcome_told o) (unconfirm_of (state_of w) slot).state is t l (λ s v c. ap outcome_told e ∙ unconfirm-told (holding_of w s v c) slot) (λ s v c. refl)
 
-pub block-did : (asked : Asked) (w w2 : List ℕ) (r : Answer) (o : Outcome) (slot : ℕ) (blocked : Bool) → asked ≡ It (Block slot blocked) → r ≡ answer_of (outcome_told o) → o ≡ (block_of (state_of w) slot blocked).outcome
+pub block-did : (asked : Asked) (w w2 : List ℕ) (r : Answer) (o : Result Unit Refusal) (slot : ℕ) (blocked : Bool) → asked ≡ It (Block slot blocked) → r ≡ answer_of (outcome_told o) → o ≡ (block_of (state_of w) slot blocked).outcome
     → state_of w2 ≡ (block_of (state_of w) slot blocked).state → OnWords asked w w2 r
 block-did asked w w2 r o slot blocked is t e l =
     words-did (Block slot blocked) asked w w2 r (outcome_told o) (block_of (state_of w) slot blocked).state is t l (λ s v c. ap outcome_told e ∙ block-told (holding_of w s v c) slot blocked) (λ s v c. refl)
 
-pub mark-did : (asked : Asked) (w w2 : List ℕ) (r : Answer) (o : Outcome) (slot : ℕ) (seq : Seq) → asked ≡ It (Mark slot seq) → r ≡ answer_of (outcome_told o) → o ≡ (mark_of (state_of w) slot seq).outcome
+pub mark-did : (asked : Asked) (w w2 : List ℕ) (r : Answer) (o : Result Unit Refusal) (slot : ℕ) (seq : Seq) → asked ≡ It (Mark slot seq) → r ≡ answer_of (outcome_told o) → o ≡ (mark_of (state_of w) slot seq).outcome
     → state_of w2 ≡ (mark_of (state_of w) slot seq).state → OnWords asked w w2 r
 mark-did asked w w2 r o slot seq is t e l =
     words-did (Mark slot seq) asked w w2 r (outcome_told o) (mark_of (state_of w) slot seq).state is t l (λ s v c. ap outcome_told e ∙ mark-told (holding_of w s v c) slot seq) (λ s v c. refl)
 
-pub ping-did : (asked : Asked) (w w2 : List ℕ) (r : Answer) (o : Outcome) (slot time : ℕ) → asked ≡ It (Ping slot time) → r ≡ answer_of (outcome_told o) → o ≡ (ping_of (state_of w) slot time).outcome
+pub ping-did : (asked : Asked) (w w2 : List ℕ) (r : Answer) (o : Result Unit Refusal) (slot time : ℕ) → asked ≡ It (Ping slot time) → r ≡ answer_of (outcome_told o) → o ≡ (ping_of (state_of w) slot time).outcome
     → state_of w2 ≡ (ping_of (state_of w) slot time).state → OnWords asked w w2 r
 ping-did asked w w2 r o slot time is t e l =
     words-did (Ping slot time) asked w w2 r (outcome_told o) (ping_of (state_of w) slot time).state is t l (λ s v c. ap outcome_told e ∙ ping-told (holding_of w s v c) slot time) (λ s v c. refl)
 
-pub pong-did : (asked : Asked) (w w2 : List ℕ) (r : Answer) (o : Outcome) (slot time : ℕ) → asked ≡ It (Pong slot time) → r ≡ answer_of (outcome_told o) → o ≡ (pong_of (state_of w) slot time).outcome
+pub pong-did : (asked : Asked) (w w2 : List ℕ) (r : Answer) (o : Result Unit Refusal) (slot time : ℕ) → asked ≡ It (Pong slot time) → r ≡ answer_of (outcome_told o) → o ≡ (pong_of (state_of w) slot time).outcome
     → state_of w2 ≡ (pong_of (state_of w) slot time).state → OnWords asked w w2 r
 pong-did asked w w2 r o slot time is t e l =
     words-did (Pong slot time) asked w w2 r (outcome_told o) (pong_of (state_of w) slot time).state is t l (λ s v c. ap outcome_told e ∙ pong-told (holding_of w s v c) slot time) (λ s v c. refl)
 
-pub flush-did : (asked : Asked) (w w2 : List ℕ) (r : Answer) (o : Outcome) (slot time : ℕ) → asked ≡ It (Flush slot time) → r ≡ answer_of (outcome_told o) → o ≡ (flush_of (state_of w) slot time).outcome
+pub flush-did : (asked : Asked) (w w2 : List ℕ) (r : Answer) (o : Result Unit Refusal) (slot time : ℕ) → asked ≡ It (Flush slot time) → r ≡ answer_of (outcome_told o) → o ≡ (flush_of (state_of w) slot time).outcome
     → state_of w2 ≡ (flush_of (state_of w) slot time).state → OnWords asked w w2 r
 flush-did asked w w2 r o slot time is t e l =
     words-did (Flush slot time) asked w w2 r (outcome_told o) (flush_of (state_of w) slot time).state is t l (λ s v c. ap outcome_told e ∙ flush-told (holding_of w s v c) slot time) (λ s v c. refl)
 
-pub ack-did : (asked : Asked) (w w2 : List ℕ) (r : Answer) (o : Outcome) (slot time n : ℕ) → asked ≡ It (Ack slot time n) → r ≡ answer_of (outcome_told o) → o ≡ (ack_of (state_of w) slot time n).outcome
+pub ack-did : (asked : Asked) (w w2 : List ℕ) (r : Answer) (o : Result Unit Refusal) (slot time n : ℕ) → asked ≡ It (Ack slot time n) → r ≡ answer_of (outcome_told o) → o ≡ (ack_of (state_of w) slot time n).outcome
     → state_of w2 ≡ (ack_of (state_of w) slot time n).state → OnWords asked w w2 r
 ack-did asked w w2 r o slot time n is t e l =
     words-did (Ack slot time n) asked w w2 r (outcome_told o) (ack_of (state_of w) slot time n).state is t l (λ s v c. ap outcome_told e ∙ ack-told (holding_of w s v c) slot time n) (λ s v c. refl)
 
-pub resend-did : (asked : Asked) (w w2 : List ℕ) (r : Answer) (o : ResendAnswer) (slot time n : ℕ) → asked ≡ It (Resend slot time n) → r ≡ answer_of (resend_told o) → o ≡ (resend_of (state_of w) slot time n).answer
+pub resend-did : (asked : Asked) (w w2 : List ℕ) (r : Answer) (o : Result (ReliableMsg × ℕ) Refusal) (slot time n : ℕ) → asked ≡ It (Resend slot time n) → r ≡ answer_of (resend_told o) → o ≡ (resend_of (state_of w) slot time n).answer
     → state_of w2 ≡ (resend_of (state_of w) slot time n).state → OnWords asked w w2 r
 resend-did asked w w2 r o slot time n is t e l =
     words-did (Resend slot time n) asked w w2 r (resend_told o) (resend_of (state_of w) slot time n).state is t l (λ s v c. ap resend_told e ∙ resend-told (holding_of w s v c) slot time n) (λ s v c. refl)
 
-pub take-ack-did : (asked : Asked) (w w2 : List ℕ) (r : Answer) (o : acks.TakeAck) (slot : ℕ) → asked ≡ It (TakeAck slot) → r ≡ answer_of (take_ack_told o) → o ≡ (take_ack_of (state_of w) slot).answer
+pub take-ack-did : (asked : Asked) (w w2 : List ℕ) (r : Answer) (o : Result Seq Refusal) (slot : ℕ) → asked ≡ It (TakeAck slot) → r ≡ answer_of (take_ack_told o) → o ≡ (take_ack_of (state_of w) slot).answer
     → state_of w2 ≡ (take_ack_of (state_of w) slot).state → OnWords asked w w2 r
 take-ack-did asked w w2 r o slot is t e l =
     words-did (TakeAck slot) asked w w2 r (take_ack_told o) (take_ack_of (state_of w) slot).state is t l (λ s v c. ap take_ack_told e ∙ take-ack-told (holding_of w s v c) slot) (λ s v c. refl)
 
-pub due-did : (asked : Asked) (w : List ℕ) (r : Answer) (o : dues.Due) → asked ≡ It Due → r ≡ answer_of (due_told o) → o ≡ due_of (state_of w)
+pub due-did : (asked : Asked) (w : List ℕ) (r : Answer) (o : Result Bool Refusal) → asked ≡ It Due → r ≡ answer_of (due_told o) → o ≡ due_of (state_of w)
     → OnWords asked w w r
 due-did asked w r o is t e =
     words-did Due asked w w r (due_told o) (state_of w) is t refl (λ s v c. ap due_told e ∙ due-told (holding_of w s v c)) (λ s v c. refl)
 
-pub close-did : (asked : Asked) (w w2 : List ℕ) (r : Answer) (o : Outcome) → asked ≡ It Close → r ≡ answer_of (outcome_told o) → o ≡ (close_of (state_of w)).outcome
+pub close-did : (asked : Asked) (w w2 : List ℕ) (r : Answer) (o : Result Unit Refusal) → asked ≡ It Close → r ≡ answer_of (outcome_told o) → o ≡ (close_of (state_of w)).outcome
     → state_of w2 ≡ (close_of (state_of w)).state → OnWords asked w w2 r
 close-did asked w w2 r o is t e l =
     words-did Close asked w w2 r (outcome_told o) (close_of (state_of w)).state is t l (λ s v c. ap outcome_told e ∙ close-told (holding_of w s v c)) (λ s v c. refl)
@@ -218,13 +210,13 @@ pub deadline-did : (asked : Asked) (w : List ℕ) (r : Answer) (o : ConfirmTimeo
 deadline-did asked w r o timeout unreliable is t e =
     words-did (EarliestConfirmTimeout timeout unreliable) asked w w r (confirm_timeout_told o) (state_of w) is t refl (λ s v c. ap confirm_timeout_told e ∙ deadline-told (holding_of w s v c) timeout unreliable) (λ s v c. refl)
 
-pub send-did : (asked : Asked) (w s w2 s2 : List ℕ) (r : Answer) (o : SendAnswer) (slot time : ℕ) (msg : ReliableMsg) (bytes : List ℕ) → asked ≡ It (Send slot time msg bytes)
+pub send-did : (asked : Asked) (w s w2 s2 : List ℕ) (r : Answer) (o : Result Seq Refusal) (slot time : ℕ) (msg : ReliableMsg) (bytes : List ℕ) → asked ≡ It (Send slot time msg bytes)
     → r ≡ answer_of (send_told o) → o ≡ (send_of (state_of w) (length s) slot time msg (length bytes)).answer → state_of w2 ≡ (send_of (state_of w) (length s) slot time msg (length bytes)).state
     → s2 ≡ send_store (state_of w) s slot time msg bytes → OnSent asked w s w2 s2 r
 send-did asked w s w2 s2 r o slot time msg bytes is t e l k = λ v c.
     did (Send slot time msg bytes) asked w s v c w2 s2 v c r (send_told o) is t (ap send_told e ∙ send-told (holding_of w s v c) slot time msg bytes) (λ i. holding (l i) (k i) v c)
 
-pub receive-did : (asked : Asked) (w v c w2 v2 c2 : List ℕ) (r : Answer) (o : Outcome) (slot : ℕ) (msg : ReliableMsg) (n : ℕ) (bytes : List ℕ) → asked ≡ It (Receive slot msg n bytes)
+pub receive-did : (asked : Asked) (w v c w2 v2 c2 : List ℕ) (r : Answer) (o : Result Unit Refusal) (slot : ℕ) (msg : ReliableMsg) (n : ℕ) (bytes : List ℕ) → asked ≡ It (Receive slot msg n bytes)
     → r ≡ answer_of (outcome_told o) → o ≡ (receive_of (state_of w) (length v) c slot msg n (length bytes)).outcome → state_of w2 ≡ (receive_of (state_of w) (length v) c slot msg n (length bytes)).state
     → v2 ≡ receive_store (state_of w) v c slot msg n bytes → c2 ≡ receive_records (state_of w) (length v) c slot msg n (length bytes) → OnReceived asked w v c w2 v2 c2 r
 receive-did asked w v c w2 v2 c2 r o slot msg n bytes is t e l k m = λ s.

@@ -1,5 +1,6 @@
 -- A call of a run leaves words and records that the next may be given: "Calls keep a sound state sound" (crate `laws`), and its records with it. Assumes nothing.
-use Rattle.std.specs.Prelude.{◌≡◌, Bool, true, false, ◌&&◌, List, ℕ, eqb, leb, ltb, length, get_or}
+use Rattle.std.specs.Prelude.{◌≡◌, Bool, true, false, ◌&&◌, List, ℕ, eqb, leb, ltb, length, get_or, Some, None, Option}
+use Rattle.msg.specs.declared.reliable.ReliableMsg.{ReliableMsg}
 use Rattle.std.proofs.Common.{sym, ltb-true}
 use Rattle.std.proofs.Math.Path.{subst}
 use borrow.Table.Steps.{cases}
@@ -26,8 +27,6 @@ use Rattle.words.specs.Layout.{WORDS}
 use Rattle.words.specs.Meaning.{state_of}
 use Rattle.words.specs.Ready.{Words64, ready-sound, shaped-words}
 use Rattle.receiving_in_place.specs.ReadyWith.{ReadyWith}
-use Rattle.runs.specs.declared.given.Given.{Given}
-use Rattle.runs.specs.declared.given.Given.TheVariants.{Message, Nothing}
 use Rattle.runs.specs.declared.answers.Answer.{Answer}
 use Rattle.runs.specs.Asked.{Asked, It, NoCall, given, withinb, link_asked, send_asked, sending_asked, receive_asked, receiving_asked, reader_asked, asked_of, named, parted, slot_of}
 use Rattle.runs.specs.Answers.{next_of}
@@ -39,13 +38,13 @@ abbrev pub TypedAsked : Asked → Type 0
 TypedAsked (It call) = Typed call
 TypedAsked NoCall = Unit
 
-send-typed : (g : Given) (slot time from len : ℕ) (bytes : List ℕ) → TypedAsked (named g (λ msg. parted from len bytes (λ part. It (Send slot time msg part))))
-send-typed (Message msg) slot time from len bytes = cases (withinb from len (length bytes)) (λ a. simp a tt) (λ a. simp a tt)
-send-typed Nothing slot time from len bytes = tt
+send-typed : (g : Option ReliableMsg) (slot time from len : ℕ) (bytes : List ℕ) → TypedAsked (named g (λ msg. parted from len bytes (λ part. It (Send slot time msg part))))
+send-typed (Some msg) slot time from len bytes = cases (withinb from len (length bytes)) (λ a. simp a tt) (λ a. simp a tt)
+send-typed None slot time from len bytes = tt
 
-receive-typed : (g : Given) (slot n from len : ℕ) (bytes : List ℕ) → TypedAsked (named g (λ msg. parted from len bytes (λ part. It (Receive slot msg n part))))
-receive-typed (Message msg) slot n from len bytes = cases (withinb from len (length bytes)) (λ a. simp a tt) (λ a. simp a tt)
-receive-typed Nothing slot n from len bytes = tt
+receive-typed : (g : Option ReliableMsg) (slot n from len : ℕ) (bytes : List ℕ) → TypedAsked (named g (λ msg. parted from len bytes (λ part. It (Receive slot msg n part))))
+receive-typed (Some msg) slot n from len bytes = cases (withinb from len (length bytes)) (λ a. simp a tt) (λ a. simp a tt)
+receive-typed None slot n from len bytes = tt
 
 module _ (xs bytes : List ℕ) where
   link-typed : TypedAsked (link_asked xs)

@@ -9,7 +9,8 @@ ghost use Rattle.engine.specs.Resending.{resend_told};
 ghost use Rattle.engine.specs.Sending.{send_told};
 ghost use Rattle.runs.specs.Answers.{answer_of, answer, no_told};
 
-use engine::{AddAnswer, ConfirmTimeout, Due, HandOut, Outcome, ResendAnswer, SendAnswer, TakeAck};
+use engine::{ConfirmTimeout, HandOut};
+use msg::ReliableMsg;
 use refusal::Refusal;
 use seq::Seq;
 
@@ -67,52 +68,52 @@ fn flag(set: bool) -> u64
     if set { 1 } else { 0 }
 }
 
-pub(crate) fn tell(outcome: Outcome) -> Answer
+pub(crate) fn tell(outcome: Result<(), Refusal>) -> Answer
     ensures { result ≡ answer_of (outcome_told outcome) }
 {
     match outcome {
-        Outcome::Done => done(0, 0, 0),
-        Outcome::No(e) => refused(e),
+        Ok(()) => done(0, 0, 0),
+        Err(e) => refused(e),
     }
 }
 
 // The slot.
-pub(crate) fn tell_added(answer: AddAnswer) -> Answer
+pub(crate) fn tell_added(answer: Result<u8, Refusal>) -> Answer
     ensures { result ≡ answer_of (add_told answer) }
 {
     match answer {
-        AddAnswer::No(e) => refused(e),
-        AddAnswer::Slot(slot) => done(slot as u64, 0, 0),
+        Err(e) => refused(e),
+        Ok(slot) => done(slot as u64, 0, 0),
     }
 }
 
 // The number.
-pub(crate) fn tell_sent(answer: SendAnswer) -> Answer
+pub(crate) fn tell_sent(answer: Result<Seq, Refusal>) -> Answer
     ensures { result ≡ answer_of (send_told answer) }
 {
     match answer {
-        SendAnswer::No(e) => refused(e),
-        SendAnswer::Number(seq) => done(word(seq), 0, 0),
+        Err(e) => refused(e),
+        Ok(seq) => done(word(seq), 0, 0),
     }
 }
 
 // The number.
-pub(crate) fn tell_ack(answer: TakeAck) -> Answer
+pub(crate) fn tell_ack(answer: Result<Seq, Refusal>) -> Answer
     ensures { result ≡ answer_of (take_ack_told answer) }
 {
     match answer {
-        TakeAck::No(e) => refused(e),
-        TakeAck::Number(seq) => done(word(seq), 0, 0),
+        Err(e) => refused(e),
+        Ok(seq) => done(word(seq), 0, 0),
     }
 }
 
 // Kind, count and length.
-pub(crate) fn tell_resent(answer: ResendAnswer) -> Answer
+pub(crate) fn tell_resent(answer: Result<(ReliableMsg, u32), Refusal>) -> Answer
     ensures { result ≡ answer_of (resend_told answer) }
 {
     match answer {
-        ResendAnswer::No(e) => refused(e),
-        ResendAnswer::Message(msg, len) => done(msg.kind() as u64, msg.count() as u64, len as u64),
+        Err(e) => refused(e),
+        Ok((msg, len)) => done(msg.kind() as u64, msg.count() as u64, len as u64),
     }
 }
 
@@ -121,18 +122,18 @@ pub(crate) fn tell_message(answer: HandOut) -> Answer
     ensures { result ≡ answer_of (hand_out_told answer) }
 {
     match answer {
-        HandOut::No(e) => refused(e),
-        HandOut::Message(msg, seq, len) => done(msg.kind() as u64, word(seq), len as u64),
+        Err(e) => refused(e),
+        Ok((msg, seq, len)) => done(msg.kind() as u64, word(seq), len as u64),
     }
 }
 
 // 1 or 0.
-pub(crate) fn tell_due(answer: Due) -> Answer
+pub(crate) fn tell_due(answer: Result<bool, Refusal>) -> Answer
     ensures { result ≡ answer_of (due_told answer) }
 {
     match answer {
-        Due::No(e) => refused(e),
-        Due::Is(due) => done(flag(due), 0, 0),
+        Err(e) => refused(e),
+        Ok(due) => done(flag(due), 0, 0),
     }
 }
 
@@ -141,8 +142,10 @@ pub(crate) fn tell_timeout(answer: ConfirmTimeout) -> Answer
     ensures { result ≡ answer_of (confirm_timeout_told answer) }
 {
     match answer {
-        ConfirmTimeout::No(e) => refused(e),
-        ConfirmTimeout::Nothing => done(0, 0, 0),
-        ConfirmTimeout::Packet(slot, flushed, at) => done(slot as u64, flag(flushed), at),
+        Err(e) => refused(e),
+        Ok(named) => match named {
+            None => done(0, 0, 0),
+            Some((slot, flushed, at)) => done(slot as u64, flag(flushed), at),
+        },
     }
 }

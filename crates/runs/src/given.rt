@@ -3,7 +3,6 @@ ghost use Rattle.std.specs.Prelude.{◌≡◌};
 ghost use Rattle.words.specs.Meaning.{is_set, max_ping_of};
 ghost use Rattle.runs.specs.Asked.{slot_of, plain_given, given, withinb};
 
-use link::MaxPing;
 use msg::{LinkMsg, ReliableMsg};
 
 // A number of 32 bits is below this.
@@ -27,13 +26,13 @@ pub(crate) fn is_set(word: u64) -> bool
 }
 
 // The longest round trip that a link may have, where it has one.
-pub(crate) fn max_ping_of(some: u64, value: u64) -> MaxPing
+pub(crate) fn max_ping_of(some: u64, value: u64) -> Option<u64>
     ensures { result ≡ max_ping_of some value }
 {
     if some == 0 {
-        return MaxPing::Unlimited;
+        return None;
     }
-    MaxPing::UpTo(value)
+    Some(value)
 }
 
 // Whether a part lies within so many bytes.
@@ -47,50 +46,43 @@ pub(crate) fn within(from: u64, len: u64, bytes: usize) -> bool
     len <= all - from
 }
 
-// A message, or none.
-#[derive(Clone, Copy)]
-pub enum Given {
-    Message(ReliableMsg),
-    Nothing,
-}
-
 // The message that has no count.
-fn plain_given(kind: u64) -> Given
+fn plain_given(kind: u64) -> Option<ReliableMsg>
     ensures { result ≡ plain_given kind }
 {
     if kind == LinkMsg::MSG_DATA as u64 {
-        return Given::Message(ReliableMsg::Data);
+        return Some(ReliableMsg::Data);
     }
     if kind == LinkMsg::MSG_SEND_FINISH as u64 {
-        return Given::Message(ReliableMsg::SendFinish);
+        return Some(ReliableMsg::SendFinish);
     }
     if kind == LinkMsg::MSG_RECEIVE_CLOSE as u64 {
-        return Given::Message(ReliableMsg::ReceiveClose);
+        return Some(ReliableMsg::ReceiveClose);
     }
     if kind == LinkMsg::MSG_RECEIVE_FINISH as u64 {
-        return Given::Message(ReliableMsg::ReceiveFinish);
+        return Some(ReliableMsg::ReceiveFinish);
     }
-    Given::Nothing
+    None
 }
 
 // The message that a kind and a count name: a count is a Consumed's alone. Data is told first, since most messages are.
-pub(crate) fn message_given(kind: u64, count: u64) -> Given
+pub(crate) fn message_given(kind: u64, count: u64) -> Option<ReliableMsg>
     ensures { result ≡ given kind count }
 {
     if kind == LinkMsg::MSG_DATA as u64 {
         if count == 0 {
-            return Given::Message(ReliableMsg::Data);
+            return Some(ReliableMsg::Data);
         }
-        return Given::Nothing;
+        return None;
     }
     if HALF <= count {
-        return Given::Nothing;
+        return None;
     }
     if kind == LinkMsg::MSG_CONSUMED as u64 {
-        return Given::Message(ReliableMsg::Consumed(count as u32));
+        return Some(ReliableMsg::Consumed(count as u32));
     }
     if count != 0 {
-        return Given::Nothing;
+        return None;
     }
     plain_given(kind)
 }

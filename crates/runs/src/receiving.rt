@@ -6,7 +6,7 @@ ghost use Rattle.runs.specs.Asked.{It, parted, slot_of, receive_asked, receiving
 ghost use Rattle.runs.specs.Did.{OnReceived};
 
 use crate::answers::{Answer, no_call, tell, tell_message};
-use crate::given::{Given, HALF, message_given, slot_of, within};
+use crate::given::{HALF, message_given, slot_of, within};
 use msg::ReliableMsg;
 use receiving_in_place::{handing_out, receiving};
 use seq::Seq;
@@ -49,8 +49,8 @@ fn receive_call(
     }
     let given = message_given(call[2], call[4]);
     match given {
-        Given::Nothing => no_call(),
-        Given::Message(msg) => receive_message(words, received, records, call, msg, bytes),
+        None => no_call(),
+        Some(msg) => receive_message(words, received, records, call, msg, bytes),
     }
 }
 

@@ -6,7 +6,7 @@ ghost use Rattle.runs.specs.Asked.{It, numbered, parted, slot_of, send_asked, se
 ghost use Rattle.runs.specs.Did.{OnSent, OnWords};
 
 use crate::answers::{Answer, no_call, tell, tell_resent, tell_sent};
-use crate::given::{Given, HALF, message_given, slot_of, within};
+use crate::given::{HALF, message_given, slot_of, within};
 use msg::ReliableMsg;
 use sending_in_place::{acking, flushing, resending, sending};
 use seq::Seq;
@@ -58,8 +58,8 @@ fn send_call(words: &mut [u64], sent: &mut [u8], call: &[u64], bytes: &[u8]) -> 
 {
     let given = message_given(call[3], call[4]);
     match given {
-        Given::Nothing => no_call(),
-        Given::Message(msg) => send_message(words, sent, call, msg, bytes),
+        None => no_call(),
+        Some(msg) => send_message(words, sent, call, msg, bytes),
     }
 }
 

@@ -19,9 +19,9 @@ use engine::acking::settle_row;
 use engine::packets::is_received;
 use engine::ring::next_cell;
 use engine::totals::less;
-use engine::{Outcome, PACKETS, SentReliable, SentReliableStatus};
+use engine::{PACKETS, SentReliable, SentReliableStatus};
 use link::LinkRow;
-use refusal::{Refusal, Verdict};
+use refusal::Refusal;
 use seq::Seq;
 use words::clock::put_time;
 use words::gates::{slot_ok, time_ok};
@@ -127,23 +127,23 @@ fn settle(words: &mut [u64], slot: u8, time: u64, seq: Seq) -> LinkRow
 }
 
 // Its own gate judges the number against the next to send.
-fn ack_verdict(words: &[u64], slot: u8, time: u64, seq: Seq) -> Verdict
+fn ack_verdict(words: &[u64], slot: u8, time: u64, seq: Seq) -> Result<(), Refusal>
     requires { Ready words.now }
     ensures { result ≡ ack_verdict (state_of words.now) slot time seq.0 }
 {
     if !time_ok(words, time) {
-        return Verdict::No(Refusal::Time);
+        return Err(Refusal::Time);
     }
     if !slot_ok(words, slot) {
-        return Verdict::No(Refusal::Slot);
+        return Err(Refusal::Slot);
     }
     if seq.is_near(tx_of(words).tx_seq) {
-        return Verdict::Pass;
+        return Ok(());
     }
-    Verdict::No(Refusal::Far)
+    Err(Refusal::Far)
 }
 
-pub fn ack(words: &mut [u64], slot: u8, time: u64, seq: Seq) -> Outcome
+pub fn ack(words: &mut [u64], slot: u8, time: u64, seq: Seq) -> Result<(), Refusal>
     requires { Ready words.old }
     ensures value { result ≡ (ack_of (state_of words.old) slot time seq.0).outcome }
     ensures words_after { state_of words.new ≡ (ack_of (state_of words.old) slot time seq.0).state }
@@ -151,13 +151,13 @@ pub fn ack(words: &mut [u64], slot: u8, time: u64, seq: Seq) -> Outcome
 {
     let verdict = ack_verdict(words, slot, time, seq);
     match verdict {
-        Verdict::No(e) => Outcome::No(e),
-        Verdict::Pass => {
+        Err(e) => Err(e),
+        Ok(()) => {
             let row = settle(words, slot, time, seq);
             sweep(words);
             put_acked(words, slot as usize, row);
             put_time(words, time);
-            Outcome::Done
+            Ok(())
         }
     }
 }

@@ -11,7 +11,7 @@ ghost use Rattle.words.specs.Ready.{Ready};
 
 use crate::rows::row_of;
 use crate::table::first_cell;
-use engine::deadlines::{FirstSent, definitely_sent, in_flight, was_flushed};
+use engine::deadlines::{definitely_sent, in_flight, was_flushed};
 use engine::packets::is_sent;
 use engine::ring::next_cell;
 use engine::{ConfirmTimeout, InFlight, PACKETS};
@@ -21,7 +21,7 @@ use words::packet::packet_at;
 use words::sending::tx_of;
 
 // The first packet in table order that is Sent.
-fn first_sent(words: &[u64]) -> FirstSent
+fn first_sent(words: &[u64]) -> Option<InFlight>
     requires { (length words.now ≡ WORDS) × ((state_of words.now).tx.txed_count ≤ PACKETS) }
     ensures { result ≡ first_sent (packets (state_of words.now).tx) }
 {
@@ -37,7 +37,7 @@ fn first_sent(words: &[u64]) -> FirstSent
         at = next_cell(PACKETS, at);
         left -= 1;
     }
-    FirstSent::Nothing
+    None
 }
 
 fn deadline(words: &[u64], flight: InFlight, timeout: AckTimeout, unreliable: bool) -> u64
@@ -56,11 +56,11 @@ fn named(words: &[u64], timeout: AckTimeout, unreliable: bool) -> ConfirmTimeout
 {
     let first = first_sent(words);
     match first {
-        FirstSent::Nothing => ConfirmTimeout::Nothing,
-        FirstSent::Is(flight) => {
+        None => Ok(None),
+        Some(flight) => {
             let flushed = flight.flushed;
             let at = deadline(words, flight, timeout, unreliable);
-            ConfirmTimeout::Packet(flight.slot, was_flushed(flushed), at)
+            Ok(Some((flight.slot, was_flushed(flushed), at)))
         }
     }
 }
@@ -77,5 +77,5 @@ pub fn earliest_confirm_timeout(
     if timeout.is_within() {
         return named(words, timeout, unreliable);
     }
-    ConfirmTimeout::No(Refusal::Setting)
+    Err(Refusal::Setting)
 }

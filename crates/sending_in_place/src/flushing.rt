@@ -13,10 +13,10 @@ ghost use Rattle.engine.specs.Answer.{outcome_told};
 
 use crate::gates::timed_verdict;
 use crate::table::first_cell;
+use engine::PACKETS;
 use engine::flushing::flush_packet;
 use engine::ring::next_cell;
-use engine::{Outcome, PACKETS};
-use refusal::Verdict;
+use refusal::Refusal;
 use words::clock::put_time;
 use words::packet::{packet_at, put_packet};
 use words::sending::{SendingNumbers, tx_of};
@@ -54,18 +54,18 @@ fn put_flushed(words: &mut [u64], slot: u8, time: u64)
     put_time(words, time);
 }
 
-pub fn flush(words: &mut [u64], slot: u8, time: u64) -> Outcome
+pub fn flush(words: &mut [u64], slot: u8, time: u64) -> Result<(), Refusal>
     requires { Ready words.old }
     ensures value { result ≡ (flush_of (state_of words.old) slot time).outcome }
     ensures words_after { state_of words.new ≡ (flush_of (state_of words.old) slot time).state }
     ensures left { Left (outcome_told result).number words.old words.new }
 {
-    let verdict = timed_verdict(words, slot, time, Verdict::Pass);
+    let verdict = timed_verdict(words, slot, time, Ok(()));
     match verdict {
-        Verdict::No(e) => Outcome::No(e),
-        Verdict::Pass => {
+        Err(e) => Err(e),
+        Ok(()) => {
             put_flushed(words, slot, time);
-            Outcome::Done
+            Ok(())
         }
     }
 }

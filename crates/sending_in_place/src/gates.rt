@@ -4,20 +4,25 @@ ghost use Rattle.engine.specs.Gates.{slot_verdict, timed_verdict};
 ghost use Rattle.words.specs.Meaning.{state_of};
 ghost use Rattle.words.specs.Ready.{Ready};
 
-use refusal::{Refusal, Verdict, gate};
+use refusal::{Refusal, gate};
 use words::gates::{slot_ok, time_ok};
 
 // The refusals of a call that is given a slot.
-pub(crate) fn slot_verdict(words: &[u64], slot: u8) -> Verdict
+pub(crate) fn slot_verdict(words: &[u64], slot: u8) -> Result<(), Refusal>
     requires { Ready words.now }
     ensures { result ≡ slot_verdict (state_of words.now) slot }
 {
     let slotted = slot_ok(words, slot);
-    gate(slotted, Refusal::Slot, Verdict::Pass)
+    gate(slotted, Refusal::Slot, Ok(()))
 }
 
 // The refusals of a call that is given a slot and a time, before those of its own.
-pub(crate) fn timed_verdict(words: &[u64], slot: u8, time: u64, rest: Verdict) -> Verdict
+pub(crate) fn timed_verdict(
+    words: &[u64],
+    slot: u8,
+    time: u64,
+    rest: Result<(), Refusal>,
+) -> Result<(), Refusal>
     requires { Ready words.now }
     ensures { result ≡ timed_verdict (state_of words.now) slot time rest }
 {

@@ -11,15 +11,16 @@ use crate::rows::row_of;
 use crate::table::{cell_of, in_table};
 use engine::packets::is_queued;
 use engine::resending::last_link;
-use engine::{InFlight, ResendAnswer, SentReliable, SentReliableStatus};
-use refusal::{Refusal, Verdict, both, gate};
+use engine::{InFlight, SentReliable, SentReliableStatus};
+use msg::ReliableMsg;
+use refusal::{Refusal, both, gate};
 use seq::Seq;
 use words::clock::put_time;
 use words::packet::{packet_at, put_packet};
 use words::row::{put_row, row_at};
 use words::sending::tx_of;
 
-fn resend_verdict(words: &[u64], slot: u8, time: u64, seq: Seq) -> Verdict
+fn resend_verdict(words: &[u64], slot: u8, time: u64, seq: Seq) -> Result<(), Refusal>
     requires { Ready words.now }
     ensures { result ≡ resend_verdict (state_of words.now) slot time seq.0 }
 {
@@ -30,13 +31,13 @@ fn resend_verdict(words: &[u64], slot: u8, time: u64, seq: Seq) -> Verdict
     let queued = both(held, is_queued(status));
     let id = row_of(words, slot).link_id;
     let other = last_link(status) != id;
-    let v17 = gate(other, Refusal::SameIdentity, Verdict::Pass);
+    let v17 = gate(other, Refusal::SameIdentity, Ok(()));
     let v16 = gate(queued, Refusal::NotQueued, v17);
     timed_verdict(words, slot, time, v16)
 }
 
 fn put_resent(words: &mut [u64], slot: u8, time: u64, seq: Seq, p: SentReliable)
-    requires { Ready words.old × (resend_verdict (state_of words.old) slot time seq.0 ≡ Verdict.Pass) × (p ≡ looked_at (state_of words.old).tx seq.0) }
+    requires { Ready words.old × (resend_verdict (state_of words.old) slot time seq.0 ≡ Ok tt) × (p ≡ looked_at (state_of words.old).tx seq.0) }
     ensures { state_of words.new ≡ resent_state (state_of words.old) slot time seq.0 }
 {
     let row = row_at(words, slot as usize);
@@ -51,7 +52,12 @@ fn put_resent(words: &mut [u64], slot: u8, time: u64, seq: Seq, p: SentReliable)
 }
 
 // Puts a queued packet on another link.
-pub fn resend(words: &mut [u64], slot: u8, time: u64, seq: Seq) -> ResendAnswer
+pub fn resend(
+    words: &mut [u64],
+    slot: u8,
+    time: u64,
+    seq: Seq,
+) -> Result<(ReliableMsg, u32), Refusal>
     requires { Ready words.old }
     ensures value { result ≡ (resend_of (state_of words.old) slot time seq.0).answer }
     ensures words_after { state_of words.new ≡ (resend_of (state_of words.old) slot time seq.0).state }
@@ -59,12 +65,12 @@ pub fn resend(words: &mut [u64], slot: u8, time: u64, seq: Seq) -> ResendAnswer
 {
     let verdict = resend_verdict(words, slot, time, seq);
     match verdict {
-        Verdict::No(e) => ResendAnswer::No(e),
-        Verdict::Pass => {
+        Err(e) => Err(e),
+        Ok(()) => {
             let p = packet_at(words, cell_of(seq));
             let msg = p.msg;
             put_resent(words, slot, time, seq, p);
-            ResendAnswer::Message(msg, p.len)
+            Ok((msg, p.len))
         }
     }
 }

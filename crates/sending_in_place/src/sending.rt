@@ -15,11 +15,10 @@ use crate::table::cell_of;
 use engine::packets::length_ok;
 use engine::sending::{open_ok, told_ok};
 use engine::totals::{MAX_TOTAL, sum_fits};
-use engine::{
-    DATA_BYTES, InFlight, PACKETS, SENT_BYTES, SendAnswer, SentReliable, SentReliableStatus,
-};
+use engine::{DATA_BYTES, InFlight, PACKETS, SENT_BYTES, SentReliable, SentReliableStatus};
 use msg::{LinkMsg, ReliableMsg};
-use refusal::{Refusal, Verdict};
+use refusal::Refusal;
+use seq::Seq;
 use words::clock::put_time;
 use words::copying::copy;
 use words::gates::{slot_ok, time_ok};
@@ -53,33 +52,33 @@ fn send_verdict(
     time: u64,
     msg: ReliableMsg,
     len: usize,
-) -> Verdict
+) -> Result<(), Refusal>
     requires { Ready words.now }
     ensures { result ≡ send_verdict (state_of words.now) store slot time msg len }
 {
     if store != SENT_BYTES {
-        return Verdict::No(Refusal::StoreLength);
+        return Err(Refusal::StoreLength);
     }
     if !time_ok(words, time) {
-        return Verdict::No(Refusal::Time);
+        return Err(Refusal::Time);
     }
     if !slot_ok(words, slot) {
-        return Verdict::No(Refusal::Slot);
+        return Err(Refusal::Slot);
     }
     if !length_ok(msg, len) {
-        return Verdict::No(Refusal::Length);
+        return Err(Refusal::Length);
     }
     let tx = tx_of(words);
     if !open_ok(tx.send_finish_sent, msg) {
-        return Verdict::No(Refusal::Finished);
+        return Err(Refusal::Finished);
     }
     if !totals_ok(words, tx, slot, msg, len) {
-        return Verdict::No(Refusal::Total);
+        return Err(Refusal::Total);
     }
     if tx.txed_count < PACKETS {
-        return Verdict::Pass;
+        return Ok(());
     }
-    Verdict::No(Refusal::Full)
+    Err(Refusal::Full)
 }
 
 // A SendFinish ends sending.
@@ -140,7 +139,7 @@ pub fn send(
     time: u64,
     msg: ReliableMsg,
     payload: &[u8],
-) -> SendAnswer
+) -> Result<Seq, Refusal>
     requires { Ready words.old }
     ensures value { result ≡ (send_of (state_of words.old) (length store.old) slot time msg (length payload.now)).answer }
     ensures words_after { state_of words.new ≡ (send_of (state_of words.old) (length store.old) slot time msg (length payload.now)).state }
@@ -150,14 +149,14 @@ pub fn send(
     let len = payload.len();
     let verdict = send_verdict(words, store.len(), slot, time, msg, len);
     match verdict {
-        Verdict::No(e) => SendAnswer::No(e),
-        Verdict::Pass => {
+        Err(e) => Err(e),
+        Ok(()) => {
             let seq = tx_of(words).tx_seq;
             let start = cell_of(seq) * DATA_BYTES;
             let end = start + len;
             copy(payload, &mut store[start..end]);
             put_sent(words, slot, time, msg, len as u32);
-            SendAnswer::Number(seq)
+            Ok(seq)
         }
     }
 }

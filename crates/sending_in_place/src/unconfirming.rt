@@ -15,10 +15,10 @@ use crate::gates::slot_verdict;
 use crate::queue::requeue;
 use crate::rows::put_empty;
 use crate::table::first_cell;
+use engine::PACKETS;
 use engine::ring::next_cell;
 use engine::unconfirming::unconfirm_packet;
-use engine::{Outcome, PACKETS};
-use refusal::Verdict;
+use refusal::Refusal;
 use words::packet::{packet_at, put_packet};
 use words::row::{put_row, row_at};
 use words::sending::{SendingNumbers, tx_of};
@@ -58,7 +58,7 @@ fn put_unconfirmed(words: &mut [u64], slot: u8)
     put_row(words, slot as usize, row);
 }
 
-pub fn unconfirm(words: &mut [u64], slot: u8) -> Outcome
+pub fn unconfirm(words: &mut [u64], slot: u8) -> Result<(), Refusal>
     requires { Ready words.old }
     ensures value { result ≡ (unconfirm_of (state_of words.old) slot).outcome }
     ensures words_after { state_of words.new ≡ (unconfirm_of (state_of words.old) slot).state }
@@ -66,16 +66,16 @@ pub fn unconfirm(words: &mut [u64], slot: u8) -> Outcome
 {
     let verdict = slot_verdict(words, slot);
     match verdict {
-        Verdict::No(e) => Outcome::No(e),
-        Verdict::Pass => {
+        Err(e) => Err(e),
+        Ok(()) => {
             put_unconfirmed(words, slot);
-            Outcome::Done
+            Ok(())
         }
     }
 }
 
 // Removing unconfirms, then empties the slot.
-pub fn remove(words: &mut [u64], slot: u8) -> Outcome
+pub fn remove(words: &mut [u64], slot: u8) -> Result<(), Refusal>
     requires { Ready words.old }
     ensures value { result ≡ (remove_of (state_of words.old) slot).outcome }
     ensures words_after { state_of words.new ≡ (remove_of (state_of words.old) slot).state }
@@ -83,11 +83,11 @@ pub fn remove(words: &mut [u64], slot: u8) -> Outcome
 {
     let verdict = slot_verdict(words, slot);
     match verdict {
-        Verdict::No(e) => Outcome::No(e),
-        Verdict::Pass => {
+        Err(e) => Err(e),
+        Ok(()) => {
             put_unconfirmed(words, slot);
             put_empty(words, slot);
-            Outcome::Done
+            Ok(())
         }
     }
 }

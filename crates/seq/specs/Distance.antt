@@ -1,7 +1,7 @@
 -- Document 02 [5]: "We want distance asked for in one place, and that place must say "far" when it is 2^30 or more either way, so that no
 -- caller orders such numbers." All that is said elsewhere of where two numbers stand to each other goes through `distance_of`. Assumes
 -- nothing.
-use Rattle.std.specs.Prelude.{◌≡◌, ℕ, ◌+◌, ◌-◌, ◌^◌, ◌<◌, ◌≤◌, Bool, true, false, cond, not, ◌||◌, ℤ, pos, negsuc, ◌==◌, ◌≢◌, nat_le, nat_lt}
+use Rattle.std.specs.Prelude.{◌≡◌, ℕ, ◌+◌, ◌-◌, ◌^◌, ◌<◌, ◌≤◌, Bool, true, false, cond, not, ◌||◌, ℤ, pos, negsuc, ◌==◌, ◌≢◌, nat_le, nat_lt, Some, None, Option}
 use Rattle.std.proofs.Math.Path.{refl, sym, ap}
 use Rattle.std.proofs.Common.{◌∙◌, eq-eqb, ne_eqb, le-leb, ltb-true, ltb-false}
 use Rattle.std.proofs.lemmas.Bool.{false≢true, lt-leb}
@@ -9,8 +9,6 @@ use Rattle.std.proofs.Math.Decide.{ℕ_discrete, dec_lt}
 use native.Mathlib.Omega.{arith}
 use Rattle.std.specs.Int.Signed.{mag}
 use borrow.Table.Steps.{cases}
-use Rattle.seq.specs.declared.Apart.{Apart}
-use Rattle.seq.specs.declared.Apart.TheVariants.{By, Far}
 use Rattle.seq.specs.Numbers.{plus, minus, signed}
 use Rattle.seq.specs.Laws.{minus-lt, signed_low, signed_high}
 
@@ -20,33 +18,33 @@ is_far (pos n) = nat_le (2 ^ 30) n
 is_far (negsuc n) = nat_le (2 ^ 30) (n + 1)
 
 -- the one place: how far a is from b, or "far"
-unfoldable pub distance_of : ℕ → ℕ → Apart
+unfoldable pub distance_of : ℕ → ℕ → Option ℤ
 unfolding minus signed
-distance_of a b = cond (is_far (signed (minus a b))) Far (By (signed (minus a b)))
+distance_of a b = cond (is_far (signed (minus a b))) None (Some (signed (minus a b)))
 
-abbrev pub is_by : Apart → Bool
-is_by (By d) = true
-is_by Far = false
+abbrev pub is_by : Option ℤ → Bool
+is_by (Some d) = true
+is_by None = false
 
 -- a is not far from b
 unfoldable pub near : ℕ → ℕ → Bool
 unfolding distance_of
 near a b = is_by (distance_of a b)
 
-abbrev pub is_behind : Apart → Bool
-is_behind (By (pos n)) = false
-is_behind (By (negsuc n)) = true
-is_behind Far = false
+abbrev pub is_behind : Option ℤ → Bool
+is_behind (Some (pos n)) = false
+is_behind (Some (negsuc n)) = true
+is_behind None = false
 
 -- "Number a is before b when a − b is negative (P)."; [5]: "no caller orders such numbers": of two that are far apart neither is before the other
 unfoldable pub before : ℕ → ℕ → Bool
 unfolding distance_of
 before a b = is_behind (distance_of a b)
 
-abbrev pub past_as : Apart → ℕ
-past_as (By (pos n)) = n
-past_as (By (negsuc n)) = 2 ^ 30
-past_as Far = 2 ^ 30
+abbrev pub past_as : Option ℤ → ℕ
+past_as (Some (pos n)) = n
+past_as (Some (negsuc n)) = 2 ^ 30
+past_as None = 2 ^ 30
 
 -- how many numbers past b a is: 2^30, more than any size, where it is before b or far from it
 unfoldable pub past : ℕ → ℕ → ℕ
@@ -68,38 +66,38 @@ stands d =
     ]
 
 module _ (a b : ℕ) where
-  pub distance-ahead : minus a b < 2 ^ 30 → distance_of a b ≡ By (signed (minus a b))
+  pub distance-ahead : minus a b < 2 ^ 30 → distance_of a b ≡ Some (signed (minus a b))
   unfolding distance_of
   distance-ahead h =
       let e = signed_low (minus a b) (omega arith) in
-      ap (λ z. cond (is_far z) Far (By z)) e ∙ (simp (lt-leb (2 ^ 30) (minus a b) h)) ∙ sym (ap By e)
+      ap (λ z. cond (is_far z) None (Some z)) e ∙ (simp (lt-leb (2 ^ 30) (minus a b) h)) ∙ sym (ap Some e)
 
-  pub distance-behind : 2 ^ 32 - 2 ^ 30 < minus a b → distance_of a b ≡ By (signed (minus a b))
+  pub distance-behind : 2 ^ 32 - 2 ^ 30 < minus a b → distance_of a b ≡ Some (signed (minus a b))
   unfolding distance_of
   distance-behind h =
       let e = signed_high (minus a b) (omega arith) in
-      ap (λ z. cond (is_far z) Far (By z)) e ∙ (simp (lt-leb (2 ^ 30) (2 ^ 32 - 1 - minus a b + 1) (omega (arith, minus-lt a b)))) ∙ sym (ap By e)
+      ap (λ z. cond (is_far z) None (Some z)) e ∙ (simp (lt-leb (2 ^ 30) (2 ^ 32 - 1 - minus a b + 1) (omega (arith, minus-lt a b)))) ∙ sym (ap Some e)
 
-  pub distance-far : 2 ^ 30 ≤ minus a b → minus a b ≤ 2 ^ 32 - 2 ^ 30 → distance_of a b ≡ Far
+  pub distance-far : 2 ^ 30 ≤ minus a b → minus a b ≤ 2 ^ 32 - 2 ^ 30 → distance_of a b ≡ None
   unfolding distance_of
   distance-far low high =
       cases (nat_lt (minus a b) (2 ^ 31))
       (λ t.
       let e = signed_low (minus a b) (ltb-true (minus a b) (2 ^ 31) t) in
-      ap (λ z. cond (is_far z) Far (By z)) e ∙ simp (le-leb (2 ^ 30) (minus a b) low))
+      ap (λ z. cond (is_far z) None (Some z)) e ∙ simp (le-leb (2 ^ 30) (minus a b) low))
       (λ f.
       let e = signed_high (minus a b) (ltb-false (minus a b) (2 ^ 31) f) in
-      ap (λ z. cond (is_far z) Far (By z)) e ∙ simp (le-leb (2 ^ 30) (2 ^ 32 - 1 - minus a b + 1) (omega arith)))
+      ap (λ z. cond (is_far z) None (Some z)) e ∙ simp (le-leb (2 ^ 30) (2 ^ 32 - 1 - minus a b + 1) (omega arith)))
 
   -- the same without `signed`
-  pub is-ahead : minus a b < 2 ^ 30 → distance_of a b ≡ By (pos (minus a b))
-  is-ahead h = distance-ahead h ∙ ap By (signed_low (minus a b) (omega arith))
+  pub is-ahead : minus a b < 2 ^ 30 → distance_of a b ≡ Some (pos (minus a b))
+  is-ahead h = distance-ahead h ∙ ap Some (signed_low (minus a b) (omega arith))
 
-  pub is-behind : 2 ^ 32 - 2 ^ 30 < minus a b → distance_of a b ≡ By (negsuc (2 ^ 32 - 1 - minus a b))
-  is-behind h = distance-behind h ∙ ap By (signed_high (minus a b) (omega arith))
+  pub is-behind : 2 ^ 32 - 2 ^ 30 < minus a b → distance_of a b ≡ Some (negsuc (2 ^ 32 - 1 - minus a b))
+  is-behind h = distance-behind h ∙ ap Some (signed_high (minus a b) (omega arith))
 
   -- a distance that is told is the wrapped difference, read as signed ..
-  pub by-signed : (d : ℤ) → distance_of a b ≡ By d → signed (minus a b) ≡ d
+  pub by-signed : (d : ℤ) → distance_of a b ≡ Some d → signed (minus a b) ≡ d
   by-signed d e =
       elim (stands (minus a b)) [
         | ahead h ↦ let z = sym (distance-ahead h) ∙ e in cc
@@ -108,7 +106,7 @@ module _ (a b : ℕ) where
       ]
 
   -- .. and below 2^30, either way
-  pub by-small : (d : ℤ) → distance_of a b ≡ By d → mag d < 2 ^ 30
+  pub by-small : (d : ℤ) → distance_of a b ≡ Some d → mag d < 2 ^ 30
   by-small d e =
       elim (stands (minus a b)) [
         | ahead h ↦ let same : pos (minus a b) ≡ d = let z = sym (is-ahead h) ∙ e in cc in omega (arith, ap mag same)
@@ -131,8 +129,8 @@ module _ (a b : ℕ) where
       ]
 
   -- .. and told by the one place
-  pub past-told : past a b < 2 ^ 30 → distance_of a b ≡ By (pos (past a b))
-  past-told h = let e = past_near h in is-ahead (omega (arith, e)) ∙ ap (λ d. By (pos d)) (sym e)
+  pub past-told : past a b < 2 ^ 30 → distance_of a b ≡ Some (pos (past a b))
+  past-told h = let e = past_near h in is-ahead (omega (arith, e)) ∙ ap (λ d. Some (pos d)) (sym e)
 
   pub before-behind : 2 ^ 32 - 2 ^ 30 < minus a b → before a b ≡ true
   unfolding before
@@ -199,17 +197,17 @@ module _ (a b : ℕ) (ha : a < 2 ^ 32) (hb : b < 2 ^ 32) where
 -- ---- laws of two numbers that were counted from one start: less than 2^30 apart, all is as it is for the counts
 
 module _ (s k l : ℕ) where
-  counted-ahead : l ≤ k → k < l + 2 ^ 30 → distance_of (plus s k) (plus s l) ≡ By (pos (k - l))
+  counted-ahead : l ≤ k → k < l + 2 ^ 30 → distance_of (plus s k) (plus s l) ≡ Some (pos (k - l))
   unfolding plus minus
   counted-ahead h g =
       let e : minus (plus s k) (plus s l) ≡ k - l = omega arith in
-      is-ahead (plus s k) (plus s l) (omega (arith, e)) ∙ ap (λ d. By (pos d)) e
+      is-ahead (plus s k) (plus s l) (omega (arith, e)) ∙ ap (λ d. Some (pos d)) e
 
-  counted-behind : k < l → l < k + 2 ^ 30 → distance_of (plus s k) (plus s l) ≡ By (negsuc (l - k - 1))
+  counted-behind : k < l → l < k + 2 ^ 30 → distance_of (plus s k) (plus s l) ≡ Some (negsuc (l - k - 1))
   unfolding plus minus
   counted-behind h g =
       let n : 2 ^ 32 - 1 - minus (plus s k) (plus s l) ≡ l - k - 1 = omega arith in
-      is-behind (plus s k) (plus s l) (omega arith) ∙ ap (λ d. By (negsuc d)) n
+      is-behind (plus s k) (plus s l) (omega arith) ∙ ap (λ d. Some (negsuc d)) n
 
   pub past-counted : l ≤ k → k < l + 2 ^ 30 → past (plus s k) (plus s l) ≡ k - l
   unfolding plus minus

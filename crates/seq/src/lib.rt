@@ -6,15 +6,8 @@ ghost use Rattle.seq.specs.Numbers.{seq_of, plus, minus, signed, USABLE_INTERVAL
 ghost use Rattle.seq.specs.Distance.{distance_of, near, before, past};
 
 // A sequence number.
-#[derive(Clone, Copy)]
+#[derive(Clone, Copy, PartialEq, Eq)]
 pub struct Seq(pub u32);
-
-// How far a number is from another: by so many, negative where it is before it, or too far for the two to be put in an order.
-#[derive(Clone, Copy)]
-pub enum Apart {
-    By(i32),
-    Far,
-}
 
 impl Seq {
     pub const ZERO: Self = Self(0);
@@ -57,18 +50,19 @@ impl Seq {
         std::num::wrapping_sub_u32(a, b)
     }
 
-    // The one place that says how far this number is from other, or that it is far from it.
-    pub fn distance(self, other: Self) -> Apart
+    // The one place that says how far this number is from other: negative where it is before it, none where the two are too far from
+    // each other to be put in an order.
+    pub fn distance(self, other: Self) -> Option<i32>
         ensures { result ≡ distance_of self.0 other.0 }
     {
         let d = self.difference(other);
         if d < Self::FAR {
-            return Apart::By(as_signed(d));
+            return Some(as_signed(d));
         }
         if 0xFFFF_FFFF - d < Self::FAR - 1 {
-            return Apart::By(as_signed(d));
+            return Some(as_signed(d));
         }
-        Apart::Far
+        None
     }
 
     // Whether the two are not far from each other.
@@ -76,8 +70,8 @@ impl Seq {
         ensures { result ≡ near self.0 other.0 }
     {
         match self.distance(other) {
-            Apart::By(_) => true,
-            Apart::Far => false,
+            Some(_) => true,
+            None => false,
         }
     }
 
@@ -86,8 +80,8 @@ impl Seq {
         ensures { result ≡ before self.0 other.0 }
     {
         match self.distance(other) {
-            Apart::By(d) => d < 0,
-            Apart::Far => false,
+            Some(d) => d < 0,
+            None => false,
         }
     }
 
@@ -96,13 +90,13 @@ impl Seq {
         ensures { result ≡ past self.0 other.0 }
     {
         match self.distance(other) {
-            Apart::By(d) => {
+            Some(d) => {
                 if 0 <= d {
                     return d as u32;
                 }
                 Self::FAR
             }
-            Apart::Far => Self::FAR,
+            None => Self::FAR,
         }
     }
 }

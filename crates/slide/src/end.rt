@@ -4,12 +4,9 @@ use crate::air;
 use crate::air::{Air, PLACES, RADIO, ROOM, Room, part};
 use crate::plan::SentStore;
 use crate::tally::{AGAIN, AHEAD, DOUBTED, REFUSED, RESENT, Tally, WINDOW, count};
-use engine::{
-    ConfirmTimeout, DATA_BYTES, Outcome, PACKETS, ResendAnswer, SendAnswer, State, TakeAck, row_of,
-};
+use engine::{ConfirmTimeout, DATA_BYTES, PACKETS, State, row_of};
 use link::AckTimeout;
-use msg::reliable::FromLink;
-use msg::{LinkMsg, Reading, ReliableMsg, Written};
+use msg::{LinkMsg, ReliableMsg};
 use refusal::Refusal;
 use seq::Seq;
 
@@ -21,8 +18,8 @@ fn post(tally: &mut Tally, air: &mut Air, slot: u8, to: u8, msg: LinkMsg, payloa
     let mut frame = [0u8; 9];
     let written = msg::write(msg, &mut frame);
     match written {
-        Written::Bytes(n) => air::put(air, slot, to, part(&frame, 0, n), payload, tally),
-        Written::No(_) => count(tally, REFUSED),
+        Ok(n) => air::put(air, slot, to, part(&frame, 0, n), payload, tally),
+        Err(_) => count(tally, REFUSED),
     }
 }
 
@@ -41,7 +38,7 @@ pub fn give(
 ) -> State {
     let result = engine::send(s, sent, slot, now, msg, payload);
     let answer = result.answer;
-    let SendAnswer::Number(seq) = answer else {
+    let Ok(seq) = answer else {
         return s;
     };
     count(tally, what);
@@ -65,10 +62,10 @@ fn refuse(tally: &mut Tally, why: Refusal) {
     }
 }
 
-fn note_refusal(tally: &mut Tally, outcome: Outcome) {
+fn note_refusal(tally: &mut Tally, outcome: Result<(), Refusal>) {
     match outcome {
-        Outcome::Done => {}
-        Outcome::No(why) => refuse(tally, why),
+        Ok(()) => {}
+        Err(why) => refuse(tally, why),
     }
 }
 
@@ -112,13 +109,13 @@ fn arrive(
 ) -> State {
     let slot = air::slot_of(room);
     let reading = msg::read(air::frame_of(room));
-    let Reading::Message(msg) = reading else {
+    let Ok(msg) = reading else {
         count(tally, REFUSED);
         return s;
     };
     let carried = ReliableMsg::from_link_msg(msg);
     match carried {
-        FromLink::Reliable(reliable, seq) => receive(
+        Some((reliable, seq)) => receive(
             s,
             received,
             records,
@@ -128,7 +125,7 @@ fn arrive(
             seq,
             air::payload_of(room),
         ),
-        FromLink::Other => ack(s, tally, slot, msg, now),
+        None => ack(s, tally, slot, msg, now),
     }
 }
 
@@ -174,7 +171,7 @@ fn send_acks(s: State, tally: &mut Tally, air: &mut Air, slot: u8, to: u8) -> St
     for _ in 0..row.ack_count {
         let taken = engine::take_ack(out, slot);
         let answer = taken.answer;
-        let TakeAck::Number(received) = answer else {
+        let Ok(received) = answer else {
             return out;
         };
         post(tally, air, slot, to, LinkMsg::Ack { received }, b"");
@@ -216,11 +213,11 @@ fn give_up(s: State, tally: &mut Tally, slot: u8, flushed: bool, now: u64) -> St
 // second is asked with the word on that link: the radio's round trip says little.
 fn watch(s: State, tally: &mut Tally, now: u64) -> State {
     let asked = engine::earliest_confirm_timeout(s, timeout(), false);
-    let ConfirmTimeout::Packet(slot, flushed, _) = asked else {
+    let Ok(Some((slot, flushed, _))) = asked else {
         return s;
     };
     let named = engine::earliest_confirm_timeout(s, timeout(), slot == RADIO);
-    let ConfirmTimeout::Packet(_, _, deadline) = named else {
+    let Ok(Some((_, _, deadline))) = named else {
         return s;
     };
     if now < deadline {
@@ -247,7 +244,7 @@ fn resend(
     let seq = queue[0];
     let result = engine::resend(s, slot, now, seq);
     let answer = result.answer;
-    let ResendAnswer::Message(msg, len) = answer else {
+    let Ok((msg, len)) = answer else {
         return s;
     };
     count(tally, RESENT);

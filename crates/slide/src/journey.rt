@@ -6,7 +6,6 @@ use crate::plan::{Plan, SentStore, SmallRecords, SmallStore};
 use crate::tally::{BARRED, DIED, EVENT, FINISHED, LATE, RETURNED, TICKS, Tally, count};
 use crate::{air, end, plan, scanner, server};
 use engine::{DATA_BYTES, PACKETS, State};
-use link::MaxPing;
 use seq::Seq;
 
 // 512 numbers before the wrap.
@@ -30,7 +29,7 @@ struct Ends {
 }
 
 fn with_link(s: State, id: u64) -> State {
-    let added = engine::add(s, id, 0, MaxPing::Unlimited, false, false);
+    let added = engine::add(s, id, 0, None, false, false);
     added.state
 }
 

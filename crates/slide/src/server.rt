@@ -6,8 +6,9 @@ use crate::map::Row;
 use crate::picture::shade;
 use crate::plan::{Plan, SentStore, is_stalled};
 use crate::tally::{EVENT, FINISHED, GOOD, TOLD, Tally, WAITED, WRAPPED, WRONG, count, raise};
-use engine::{Due, HandOut, State};
+use engine::{HandOut, State};
 use msg::ReliableMsg;
+use refusal::Refusal;
 use seq::Seq;
 use tiles::{TILES, is_tile};
 
@@ -86,7 +87,7 @@ fn take_ready(
         let shown = engine::show(out, received, records);
         let taken = engine::take(out, records);
         let answer = taken.answer;
-        let HandOut::Message(msg, seq, _) = answer else {
+        let Ok((msg, seq, _)) = answer else {
             return out;
         };
         look_at(plan, msg, seq, shown, tally, row, tick);
@@ -95,10 +96,10 @@ fn take_ready(
     out
 }
 
-fn is_due(due: Due) -> bool {
+fn is_due(due: Result<bool, Refusal>) -> bool {
     match due {
-        Due::Is(required) => required,
-        Due::No(_) => false,
+        Ok(required) => required,
+        Err(_) => false,
     }
 }
 

@@ -1,11 +1,9 @@
 -- Lower-case hexadecimal: what each of the 256 bytes is worth as a digit, and the digits of a number. Assumes nothing.
-use Rattle.std.specs.Prelude.{cond, ◌&&◌, ◌||◌, List, [], ◌∷◌, ◌≡◌, ℕ, ◌+◌, ◌-◌, ◌*◌, ◌/◌, ◌%◌, ◌<◌, leb, ltb}
+use Rattle.std.specs.Prelude.{cond, ◌&&◌, ◌||◌, List, [], ◌∷◌, ◌≡◌, ℕ, ◌+◌, ◌-◌, ◌*◌, ◌/◌, ◌%◌, ◌<◌, leb, ltb, Some, None, Option}
 use Rattle.std.proofs.Common.{ap, arith, le-leb, ltb-true, ltb-false}
 use Rattle.std.proofs.lemmas.Bool.{lt-leb}
 use borrow.Table.Steps.{cases}
 use Rattle.io.specs.Digits.{hex_digit_ascii}
-use Rattle.text.specs.declared.hex.HexByte.{HexByte}
-use Rattle.text.specs.declared.hex.HexByte.TheVariants.{Byte, Bad}
 
 -- `0` to `9` are worth 0 to 9, `a` to `f` 10 to 15; 16 says that a byte is no digit
 unfoldable pub hex_value : ℕ → ℕ
@@ -16,8 +14,8 @@ unfoldable pub hex_digit : ℕ → ℕ
 hex_digit n = hex_digit_ascii (n % 16)
 
 -- what two digits read as
-unfoldable pub hex_byte : ℕ → ℕ → HexByte
-hex_byte high low = cond (leb 16 (hex_value high) || leb 16 (hex_value low)) Bad (Byte (hex_value high * 16 + hex_value low))
+unfoldable pub hex_byte : ℕ → ℕ → Option ℕ
+hex_byte high low = cond (leb 16 (hex_value high) || leb 16 (hex_value low)) None (Some (hex_value high * 16 + hex_value low))
 
 -- a byte's two digits
 abbrev pub hex_pair : ℕ → List ℕ
@@ -37,8 +35,8 @@ a-digit-is-worth-its-number n =
     let h = ltb-false (n % 16) 10 f in
     simp (f, le-leb 48 (87 + n % 16) (omega arith), lt-leb (87 + n % 16) 57 (omega arith), le-leb 97 (87 + n % 16) (omega arith), le-leb (87 + n % 16) 102 (omega arith)) (omega arith))
 
-pub a-byte-reads-back : (b : ℕ) → b < 256 → hex_byte (hex_digit (b / 16)) (hex_digit b) ≡ Byte b
+pub a-byte-reads-back : (b : ℕ) → b < 256 → hex_byte (hex_digit (b / 16)) (hex_digit b) ≡ Some b
 unfolding hex_byte
 a-byte-reads-back b h =
     let e : b / 16 % 16 * 16 + b % 16 ≡ b = omega arith in
-    simp (a-digit-is-worth-its-number, lt-leb 16 (b / 16 % 16) (omega arith), lt-leb 16 (b % 16) (omega arith)) (ap Byte e)
+    simp (a-digit-is-worth-its-number, lt-leb 16 (b / 16 % 16) (omega arith), lt-leb 16 (b % 16) (omega arith)) (ap Some e)

@@ -1,26 +1,22 @@
 -- Runs of lower-case hexadecimal digits, two a byte: which runs spell bytes, which bytes those are, and what a buffer that they are read
 -- into holds afterwards, for every run. Assumes nothing.
 use Rattle.std.proofs.Math.Path.{◌≡◌, sym, ap}
-use Rattle.std.specs.Prelude.{refl, Bool, true, false, cond, ◌&&◌, List, [], ◌∷◌, ◌++◌, ℕ, suc, ◌+◌, ◌*◌, ◌/◌, ◌%◌, ◌≤◌, ◌<◌, leb, eqb, get_or, set}
+use Rattle.std.specs.Prelude.{refl, Bool, true, false, cond, ◌&&◌, List, [], ◌∷◌, ◌++◌, ℕ, suc, ◌+◌, ◌*◌, ◌/◌, ◌%◌, ◌≤◌, ◌<◌, leb, eqb, get_or, set, Some, None, Option}
 use Rattle.std.proofs.Common.{◌∙◌, add-one, arith, drop_of_length-le, take-append-drop, drop-cons, take-suc-set}
 use Rattle.std.proofs.Math.ListN.{length, take, drop}
 use Rattle.std.proofs.Math.Seq.{append_snoc, length-take-le, take-append_seam}
 use borrow.Author.Tests.{eqb-true, eqb-false, le-leb, lt-leb, leb-true}
 use borrow.Table.Steps.{cases}
-use Rattle.text.specs.declared.hex.HexByte.{HexByte}
-use Rattle.text.specs.declared.hex.HexByte.TheVariants.{Byte, Bad}
-use Rattle.text.specs.declared.hex.HexRun.{HexRun}
-use Rattle.text.specs.declared.hex.HexRun.TheVariants as runs
 use Rattle.text.specs.Hex.{hex_byte}
 
-abbrev pub is_byte : HexByte → Bool
-is_byte (Byte b) = true
-is_byte Bad = false
+abbrev pub is_byte : Option ℕ → Bool
+is_byte (Some b) = true
+is_byte None = false
 
 -- a byte before others; nothing where there is none
-abbrev pub before : HexByte → List ℕ → List ℕ
-before (Byte b) rest = b ∷ rest
-before Bad rest = []
+abbrev pub before : Option ℕ → List ℕ → List ℕ
+before (Some b) rest = b ∷ rest
+before None rest = []
 
 -- pairs of digits and nothing else
 unfoldable pub spells : List ℕ → Bool
@@ -35,8 +31,8 @@ spelt (high ∷ []) = []
 spelt (high ∷ low ∷ rest) = before (hex_byte high low) (spelt rest)
 
 -- how many bytes a run spells, where it spells bytes and there is room for them
-unfoldable pub read_hex_of : List ℕ → ℕ → HexRun
-read_hex_of run room = cond (leb (length run / 2) room && spells run) (runs.Count (length run / 2)) runs.Bad
+unfoldable pub read_hex_of : List ℕ → ℕ → Option ℕ
+read_hex_of run room = cond (leb (length run / 2) room && spells run) (Some (length run / 2)) None
 
 -- the buffer afterwards: the spelt bytes at its start and the rest as it was, or all as it was where there is no room
 unfoldable pub read_hex_in : List ℕ → List ℕ → List ℕ
@@ -56,20 +52,20 @@ module _ (run : List ℕ) (i : ℕ) (h : i * 2 + 1 < length run) where
       ∙ ap (λ k. get_or run k 0 ∷ drop (suc (suc (i * 2))) run) next
       ∙ ap (λ k. get_or run (i * 2 + 1) 0 ∷ drop k run) after)
 
-  pub spells-good : (b : ℕ) → hex_byte (get_or run (i * 2) 0) (get_or run (i * 2 + 1) 0) ≡ Byte b → spells (drop (i * 2) run) ≡ spells (drop ((i + 1) * 2) run)
+  pub spells-good : (b : ℕ) → hex_byte (get_or run (i * 2) 0) (get_or run (i * 2 + 1) 0) ≡ Some b → spells (drop (i * 2) run) ≡ spells (drop ((i + 1) * 2) run)
   unfolding spells
   spells-good b e = ap spells pair-first ∙ simp e
 
-  pub spells-bad : hex_byte (get_or run (i * 2) 0) (get_or run (i * 2 + 1) 0) ≡ Bad → spells (drop (i * 2) run) ≡ false
+  pub spells-bad : hex_byte (get_or run (i * 2) 0) (get_or run (i * 2 + 1) 0) ≡ None → spells (drop (i * 2) run) ≡ false
   unfolding spells
   spells-bad e = ap spells pair-first ∙ simp e
 
-  pub spelt-bad : hex_byte (get_or run (i * 2) 0) (get_or run (i * 2 + 1) 0) ≡ Bad → spelt (drop (i * 2) run) ≡ []
+  pub spelt-bad : hex_byte (get_or run (i * 2) 0) (get_or run (i * 2 + 1) 0) ≡ None → spelt (drop (i * 2) run) ≡ []
   unfolding spelt
   spelt-bad e = ap spelt pair-first ∙ simp e
 
   -- one byte more stands in the buffer, and one less is to come
-  pub spelt-good : (out : List ℕ) (b : ℕ) → i < length out → hex_byte (get_or run (i * 2) 0) (get_or run (i * 2 + 1) 0) ≡ Byte b
+  pub spelt-good : (out : List ℕ) (b : ℕ) → i < length out → hex_byte (get_or run (i * 2) 0) (get_or run (i * 2 + 1) 0) ≡ Some b
       → take (i + 1) (set out i b) ++ spelt (drop ((i + 1) * 2) run) ≡ take i out ++ spelt (drop (i * 2) run)
   unfolding spelt
   spelt-good out b room e =
@@ -104,15 +100,15 @@ module _ (run : List ℕ) where
       (λ f. ap spelt (digit-left (eqb-false (length run % 2) 0 f)))
 
   -- the cases of the answer
-  pub hex-counted : (room : ℕ) → length run / 2 ≤ room → spells run ≡ true → runs.Count (length run / 2) ≡ read_hex_of run room
+  pub hex-counted : (room : ℕ) → length run / 2 ≤ room → spells run ≡ true → Some (length run / 2) ≡ read_hex_of run room
   unfolding read_hex_of
   hex-counted room h t = simp (le-leb (length run / 2) room h, t)
 
-  pub hex-bad : (room : ℕ) → length run / 2 ≤ room → spells run ≡ false → runs.Bad ≡ read_hex_of run room
+  pub hex-bad : (room : ℕ) → length run / 2 ≤ room → spells run ≡ false → None ≡ read_hex_of run room
   unfolding read_hex_of
   hex-bad room h f = simp (le-leb (length run / 2) room h, f)
 
-  pub hex-no-room : (into : List ℕ) → length into < length run / 2 → (runs.Bad ≡ read_hex_of run (length into)) × (into ≡ read_hex_in run into)
+  pub hex-no-room : (into : List ℕ) → length into < length run / 2 → (None ≡ read_hex_of run (length into)) × (into ≡ read_hex_in run into)
   unfolding read_hex_of read_hex_in
   hex-no-room into h = (simp (lt-leb (length run / 2) (length into) h), simp (lt-leb (length run / 2) (length into) h))
 
@@ -129,7 +125,7 @@ module _ (run : List ℕ) where
 -- ---- what the answer says of a run
 
 module _ (run : List ℕ) (room : ℕ) where
-  pub count-says : (n : ℕ) → read_hex_of run room ≡ runs.Count n → (n ≡ length run / 2) × (n ≤ room) × (spells run ≡ true)
+  pub count-says : (n : ℕ) → read_hex_of run room ≡ Some n → (n ≡ length run / 2) × (n ≤ room) × (spells run ≡ true)
   unfolding read_hex_of
   count-says n e =
       cases (leb (length run / 2) room)
@@ -141,16 +137,16 @@ module _ (run : List ℕ) (room : ℕ) where
       (λ f. let z : ◌≡◌ {A = ℕ} 0 1 = cc (simp (l, f) at e) in absurd (omega arith)))
       (λ l. let z : ◌≡◌ {A = ℕ} 0 1 = cc (simp l at e) in absurd (omega arith))
 
-  pub bad-says : read_hex_of run room ≡ runs.Bad → length run / 2 ≤ room → spells run ≡ false
+  pub bad-says : read_hex_of run room ≡ None → length run / 2 ≤ room → spells run ≡ false
   unfolding read_hex_of
   bad-says e h =
       cases (spells run)
       (λ t. let z : ◌≡◌ {A = ℕ} 0 1 = cc (simp (le-leb (length run / 2) room h, t) at e) in absurd (omega arith))
       (λ f. f)
 
-spelt-byte : (b : HexByte) (rest : List ℕ) → is_byte b ≡ true → length (before b rest) ≡ suc (length rest)
-spelt-byte (Byte b) rest e = refl
-spelt-byte Bad rest e = let z : ◌≡◌ {A = ℕ} 0 1 = cc in absurd (omega arith)
+spelt-byte : (b : Option ℕ) (rest : List ℕ) → is_byte b ≡ true → length (before b rest) ≡ suc (length rest)
+spelt-byte (Some b) rest e = refl
+spelt-byte None rest e = let z : ◌≡◌ {A = ℕ} 0 1 = cc in absurd (omega arith)
 
 -- a run that spells bytes spells one for each pair
 pub spelt-length : (run : List ℕ) → spells run ≡ true → length (spelt run) ≡ length run / 2
@@ -170,7 +166,7 @@ hex-start run into t h =
     (ap (λ k. take k (spelt run ++ drop (length (spelt run)) into)) (sym (spelt-length run t))
     ∙ take-append_seam (spelt run) (drop (length (spelt run)) into))
 
-pub counted_start : (run into left : List ℕ) (n : ℕ) → read_hex_of run (length into) ≡ runs.Count n → left ≡ read_hex_in run into → take n left ≡ spelt run
+pub counted_start : (run into left : List ℕ) (n : ℕ) → read_hex_of run (length into) ≡ Some n → left ≡ read_hex_in run into → take n left ≡ spelt run
 counted_start run into left n e now =
     let said = count-says run (length into) n e in
     ap (λ k. take k left) said.0 ∙ ap (take (length run / 2)) now ∙ hex-start run into said.2 (omega (arith, said.0, said.1))

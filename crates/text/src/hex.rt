@@ -23,35 +23,22 @@ pub fn hex_digit(n: u8) -> u8
 }
 
 // What two digits read as.
-#[derive(Clone, Copy)]
-pub enum HexByte {
-    Byte(u8),
-    Bad,
-}
-
-pub fn hex_byte(high: u8, low: u8) -> HexByte
+pub fn hex_byte(high: u8, low: u8) -> Option<u8>
     ensures { result ≡ hex_byte high low }
 {
     let h = hex_value(high);
     let l = hex_value(low);
     if 16 <= h {
-        return HexByte::Bad;
+        return None;
     }
     if 16 <= l {
-        return HexByte::Bad;
+        return None;
     }
-    HexByte::Byte(h * 16 + l)
-}
-
-// What a run of digits reads as: how many bytes, now at the start of the buffer.
-#[derive(Clone, Copy)]
-pub enum HexRun {
-    Count(usize),
-    Bad,
+    Some(h * 16 + l)
 }
 
 // The byte that the pair of digits number i spells.
-fn pair_at(run: &[u8], i: usize) -> HexByte
+fn pair_at(run: &[u8], i: usize) -> Option<u8>
     requires { i * 2 + 1 < length run.now }
     ensures { result ≡ hex_byte (get_or run.now (i * 2) 0) (get_or run.now (i * 2 + 1) 0) }
 {
@@ -60,25 +47,25 @@ fn pair_at(run: &[u8], i: usize) -> HexByte
 
 // Reads all of a run, two digits a byte. Bad where a byte is no digit, one digit is left over, or the buffer is too short; the
 // bytes before a bad pair have then been written.
-pub fn read_hex(run: &[u8], into: &mut [u8]) -> HexRun
+pub fn read_hex(run: &[u8], into: &mut [u8]) -> Option<usize>
     ensures value { result ≡ read_hex_of run.now (length into.old) }
     ensures into_after { into.new ≡ read_hex_in run.now into.old }
 {
     let n = run.len() / 2;
     if into.len() < n {
-        return HexRun::Bad;
+        return None;
     }
     let mut i: usize = 0;
     while i < n {
         let pair = pair_at(run, i);
-        let HexByte::Byte(b) = pair else {
-            return HexRun::Bad;
+        let Some(b) = pair else {
+            return None;
         };
         into[i] = b;
         i += 1;
     }
     if run.len() % 2 != 0 {
-        return HexRun::Bad;
+        return None;
     }
-    HexRun::Count(n)
+    Some(n)
 }

@@ -5,6 +5,6 @@ pub mod hex;
 pub mod reading;
 pub mod writing;
 
-pub use hex::{HexByte, HexRun, hex_byte, hex_digit, hex_value, read_hex};
-pub use reading::{Decimal, read_decimal};
+pub use hex::{hex_byte, hex_digit, hex_value, read_hex};
+pub use reading::read_decimal;
 pub use writing::{put, put_decimal, put_hex};

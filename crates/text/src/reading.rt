@@ -2,13 +2,6 @@
 ghost use Rattle.std.specs.Prelude.{◌≡◌};
 ghost use Rattle.text.specs.Decimal.{digit_value, read_from, decimal_of};
 
-// What a word reads as.
-#[derive(Clone, Copy)]
-pub enum Decimal {
-    Number(u64),
-    Bad,
-}
-
 // What a digit is worth, 0 to 9, and 10 for every byte that is no digit.
 fn digit_value(b: u8) -> u64
     ensures { result ≡ digit_value b }
@@ -20,7 +13,7 @@ fn digit_value(b: u8) -> u64
 }
 
 // The number that digits spell, up to the limit. The tests come before the product and the sum, so that neither wraps.
-fn spelt(word: &[u8], limit: u64) -> Decimal
+fn spelt(word: &[u8], limit: u64) -> Option<u64>
     ensures { result ≡ read_from 0 word.now limit }
 {
     let mut n: u64 = 0;
@@ -28,32 +21,32 @@ fn spelt(word: &[u8], limit: u64) -> Decimal
     while i < word.len() {
         let d = digit_value(word[i]);
         if 10 <= d {
-            return Decimal::Bad;
+            return None;
         }
         if limit / 10 < n {
-            return Decimal::Bad;
+            return None;
         }
         if limit - n * 10 < d {
-            return Decimal::Bad;
+            return None;
         }
         n = n * 10 + d;
         i += 1;
     }
-    Decimal::Number(n)
+    Some(n)
 }
 
 // Reads a number without leading zeros, at most the limit, from all of a word.
-pub fn read_decimal(word: &[u8], limit: u64) -> Decimal
+pub fn read_decimal(word: &[u8], limit: u64) -> Option<u64>
     ensures { result ≡ decimal_of word.now limit }
 {
     if word.len() == 0 {
-        return Decimal::Bad;
+        return None;
     }
     if word.len() == 1 {
         return spelt(word, limit);
     }
     if word[0] == b'0' {
-        return Decimal::Bad;
+        return None;
     }
     spelt(word, limit)
 }

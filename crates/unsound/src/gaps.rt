@@ -4,7 +4,6 @@ use crate::good::{ROOM, ReceivedStore, Records, WORDS};
 use crate::hand::outcome;
 use crate::{good, report, set};
 use engine::State;
-use link::MaxPing;
 
 // Not a record, and the record of a message.
 const NONE: u64 = 0x08;
@@ -57,7 +56,7 @@ fn round(s: State, received: &mut ReceivedStore, records: &mut Records) {
 
 fn fresh(records: &mut Records) -> State {
     let state = good::fresh(0xFFFF_FFFC, records);
-    let added = engine::add(state, 11, 50, MaxPing::Unlimited, false, false);
+    let added = engine::add(state, 11, 50, None, false, false);
     added.state
 }
 

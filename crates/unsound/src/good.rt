@@ -9,7 +9,6 @@
 ghost use Rattle.std.specs.Prelude.{◌≤◌};
 
 use engine::{Changed, LEAST_CELLS, SENT_BYTES, State};
-use link::MaxPing;
 use msg::ReliableMsg;
 use seq::Seq;
 
@@ -37,7 +36,7 @@ pub const FIRST: u32 = 0xFFFF_FFFE;
 pub const SECOND: u32 = 0xFFFF_FFFF;
 
 fn add(s: State, id: u64) -> State {
-    let added = engine::add(s, id, 50, MaxPing::UpTo(40), false, false);
+    let added = engine::add(s, id, 50, Some(40), false, false);
     added.state
 }
 

@@ -3,12 +3,10 @@
 use crate::good::{FIRST, ROOM, ReceivedStore, Records, SentStore, fit};
 use crate::report::{Tally, answered};
 use crate::{report, same};
-use engine::{
-    AddAnswer, Changed, ConfirmTimeout, DATA_BYTES, Due, HandOut, Outcome, ResendAnswer,
-    SendAnswer, State, TakeAck, TakeResult,
-};
-use link::{AckTimeout, MaxPing};
+use engine::{Changed, ConfirmTimeout, DATA_BYTES, HandOut, State, TakeResult};
+use link::AckTimeout;
 use msg::ReliableMsg;
+use refusal::Refusal;
 use seq::Seq;
 
 // What the calls that are lent the records are to answer, and what the others.
@@ -46,10 +44,10 @@ fn told(number: u8, before: State, after: State) -> u8 {
 }
 
 // The number of an outcome by itself.
-pub fn outcome(outcome: Outcome) -> u8 {
+pub fn outcome(outcome: Result<(), Refusal>) -> u8 {
     match outcome {
-        Outcome::Done => 0,
-        Outcome::No(e) => e.number(),
+        Ok(()) => 0,
+        Err(e) => e.number(),
     }
 }
 
@@ -57,18 +55,18 @@ fn changed(before: State, out: Changed) -> u8 {
     let outcome = out.outcome;
     let after = out.state;
     match outcome {
-        Outcome::Done => 0,
-        Outcome::No(e) => told(e.number(), before, after),
+        Ok(()) => 0,
+        Err(e) => told(e.number(), before, after),
     }
 }
 
 fn add(s: State) -> u8 {
-    let out = engine::add(s, 14, 50, MaxPing::Unlimited, false, false);
+    let out = engine::add(s, 14, 50, None, false, false);
     let answer = out.answer;
     let after = out.state;
     match answer {
-        AddAnswer::Slot(_) => 0,
-        AddAnswer::No(e) => told(e.number(), s, after),
+        Ok(_) => 0,
+        Err(e) => told(e.number(), s, after),
     }
 }
 
@@ -77,8 +75,8 @@ pub fn send(s: State, sent: &mut [u8], payload: &[u8]) -> u8 {
     let answer = out.answer;
     let after = out.state;
     match answer {
-        SendAnswer::Number(_) => 0,
-        SendAnswer::No(e) => told(e.number(), s, after),
+        Ok(_) => 0,
+        Err(e) => told(e.number(), s, after),
     }
 }
 
@@ -96,8 +94,8 @@ fn resend(s: State) -> u8 {
     let answer = out.answer;
     let after = out.state;
     match answer {
-        ResendAnswer::Message(_, _) => 0,
-        ResendAnswer::No(e) => told(e.number(), s, after),
+        Ok((_, _)) => 0,
+        Err(e) => told(e.number(), s, after),
     }
 }
 
@@ -143,8 +141,8 @@ fn showing(s: State, received: &[u8], records: Records, lent: Lent) -> u8 {
     let n = fit(lent.words, ROOM);
     let answer = engine::showing(s, &received[0..m], &records[0..n]);
     match answer {
-        HandOut::Message(_, _, _) => 0,
-        HandOut::No(e) => e.number(),
+        Ok((_, _, _)) => 0,
+        Err(e) => e.number(),
     }
 }
 
@@ -160,8 +158,8 @@ fn take_of(s: State, out: TakeResult) -> u8 {
     let answer = out.answer;
     let after = out.state;
     match answer {
-        HandOut::Message(_, _, _) => 0,
-        HandOut::No(e) => told(e.number(), s, after),
+        Ok((_, _, _)) => 0,
+        Err(e) => told(e.number(), s, after),
     }
 }
 
@@ -177,16 +175,16 @@ fn take_ack(s: State) -> u8 {
     let answer = out.answer;
     let after = out.state;
     match answer {
-        TakeAck::Number(_) => 0,
-        TakeAck::No(e) => told(e.number(), s, after),
+        Ok(_) => 0,
+        Err(e) => told(e.number(), s, after),
     }
 }
 
 fn is_due(s: State) -> u8 {
     let answer = engine::is_consume_ack_required(s);
     match answer {
-        Due::Is(_) => 0,
-        Due::No(e) => e.number(),
+        Ok(_) => 0,
+        Err(e) => e.number(),
     }
 }
 
@@ -200,9 +198,9 @@ fn deadline(s: State) -> u8 {
     };
     let answer = engine::earliest_confirm_timeout(s, timeout, true);
     match answer {
-        ConfirmTimeout::Packet(_, _, _) => 0,
-        ConfirmTimeout::Nothing => NONE_NAMED,
-        ConfirmTimeout::No(e) => e.number(),
+        Ok(Some((_, _, _))) => 0,
+        Ok(None) => NONE_NAMED,
+        Err(e) => e.number(),
     }
 }
 

@@ -2,8 +2,8 @@
 use crate::report::named;
 use crate::set;
 use engine::State;
+use link::LinkRow;
 use link::sizes::MAX_TIME;
-use link::{LinkRow, MaxPing};
 
 fn identity(s: State, slot: usize, id: u64) -> State {
     let mut row = set::row_of(s, slot);
@@ -19,11 +19,7 @@ fn trip(s: State, time: u64) -> State {
 
 // A link more, with this identity and `max_ping`.
 fn more(s: State, id: u64, max: u64) -> State {
-    set::row(
-        s,
-        7,
-        LinkRow::fresh(id, 50, MaxPing::UpTo(max), false, false),
-    )
+    set::row(s, 7, LinkRow::fresh(id, 50, Some(max), false, false))
 }
 
 // Of live links.
@@ -60,7 +56,7 @@ fn left(s: State, row: LinkRow) -> State {
 }
 
 fn once(id: u64, trip: u64, max: u64) -> LinkRow {
-    LinkRow::fresh(id, trip, MaxPing::UpTo(max), false, false)
+    LinkRow::fresh(id, trip, Some(max), false, false)
 }
 
 // An empty slot has no link, so that Sound asks nothing of what stands there.

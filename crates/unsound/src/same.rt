@@ -1,10 +1,10 @@
 // Whether two states are the same in every field, and two record spaces in every word.
 use crate::good::{ROOM, Records};
 use engine::{
-    Flushed, InFlight, PACKETS, Receiving, SLOTS, Sending, SentReliable, SentReliableStatus, State,
+    InFlight, PACKETS, Receiving, SLOTS, Sending, SentReliable, SentReliableStatus, State,
 };
+use link::LinkRow;
 use link::sizes::ACKS;
-use link::{Limit, LinkRow, MaxPing, Ping};
 use msg::ReliableMsg;
 use seq::Seq;
 
@@ -30,41 +30,41 @@ fn alike(a: Case, b: Case) -> bool {
     a.which == b.which && a.held == b.held
 }
 
-fn max_ping(max: MaxPing) -> Case {
+fn max_ping(max: Option<u64>) -> Case {
     match max {
-        MaxPing::Unlimited => Case { which: 0, held: 0 },
-        MaxPing::UpTo(time) => Case {
+        None => Case { which: 0, held: 0 },
+        Some(time) => Case {
             which: 1,
             held: time,
         },
     }
 }
 
-fn is_clear(limit: Limit) -> bool {
+fn is_clear(limit: Option<Seq>) -> bool {
     match limit {
-        Limit::Clear => true,
-        Limit::At(_) => false,
+        None => true,
+        Some(_) => false,
     }
 }
 
-fn is_at(limit: Limit, mark: Seq) -> bool {
+fn is_at(limit: Option<Seq>, mark: Seq) -> bool {
     match limit {
-        Limit::Clear => false,
-        Limit::At(at) => at.eq(mark),
+        None => false,
+        Some(at) => at.eq(mark),
     }
 }
 
-fn limits(a: Limit, b: Limit) -> bool {
+fn limits(a: Option<Seq>, b: Option<Seq>) -> bool {
     match a {
-        Limit::Clear => is_clear(b),
-        Limit::At(x) => is_at(b, x),
+        None => is_clear(b),
+        Some(x) => is_at(b, x),
     }
 }
 
-fn ping(ping: Ping) -> Case {
+fn ping(ping: Option<u64>) -> Case {
     match ping {
-        Ping::Idle => Case { which: 0, held: 0 },
-        Ping::Since(time) => Case {
+        None => Case { which: 0, held: 0 },
+        Some(time) => Case {
             which: 1,
             held: time,
         },
@@ -113,10 +113,10 @@ fn message(a: ReliableMsg, b: ReliableMsg) -> bool {
     a.kind() == b.kind() && a.count() == b.count()
 }
 
-fn flushed(flushed: Flushed) -> Case {
+fn flushed(flushed: Option<u64>) -> Case {
     match flushed {
-        Flushed::Unflushed => Case { which: 0, held: 0 },
-        Flushed::FlushedAt(time) => Case {
+        None => Case { which: 0, held: 0 },
+        Some(time) => Case {
             which: 1,
             held: time,
         },
@@ -144,7 +144,7 @@ fn flight(status: SentReliableStatus) -> InFlight {
         SentReliableStatus::Sent(flight) => flight,
         _ => InFlight {
             sent: 0,
-            flushed: Flushed::Unflushed,
+            flushed: None,
             slot: 0,
             link: 0,
             resent: false,

@@ -3,7 +3,7 @@ use crate::good::{FIRST, SECOND};
 use crate::report::named;
 use crate::set;
 use crate::set::flight;
-use engine::{Flushed, InFlight, SentReliable, SentReliableStatus, State};
+use engine::{InFlight, SentReliable, SentReliableStatus, State};
 use msg::ReliableMsg;
 use seq::Seq;
 
@@ -47,7 +47,7 @@ pub fn numbers(k: usize, s: State) -> State {
 pub fn resent(s: State) -> State {
     let again = InFlight {
         sent: 1,
-        flushed: Flushed::FlushedAt(4),
+        flushed: Some(4),
         slot: 0,
         link: 11,
         resent: true,

@@ -1,7 +1,7 @@
 // A state with a field set, and records with a word.
 use crate::good::{FIRST, ROOM, Records, fit};
 use engine::{
-    Flushed, InFlight, PACKETS, Receiving, SLOTS, Sending, SentReliable, SentReliableStatus, State,
+    InFlight, PACKETS, Receiving, SLOTS, Sending, SentReliable, SentReliableStatus, State,
 };
 use link::LinkRow;
 use msg::ReliableMsg;
@@ -73,7 +73,7 @@ pub fn first(s: State, msg: ReliableMsg, len: u32, status: SentReliableStatus) -
 pub fn flight(slot: u8, link: u64) -> SentReliableStatus {
     SentReliableStatus::Sent(InFlight {
         sent: 1,
-        flushed: Flushed::Unflushed,
+        flushed: None,
         slot,
         link,
         resent: false,

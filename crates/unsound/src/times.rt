@@ -1,9 +1,9 @@
 // Times; the last accepted one is 5.
 use crate::report::named;
 use crate::set;
-use engine::{Flushed, InFlight, SentReliableStatus, State};
+use engine::{InFlight, SentReliableStatus, State};
+use link::LinkRow;
 use link::sizes::MAX_TIME;
-use link::{LinkRow, Ping};
 use msg::ReliableMsg;
 
 const NEVER: u64 = 0xFFFF_FFFF_FFFF_FFFF;
@@ -14,7 +14,7 @@ fn last(s: State, time: u64) -> State {
     out
 }
 
-fn packet(s: State, time: u64, flushed: Flushed) -> State {
+fn packet(s: State, time: u64, flushed: Option<u64>) -> State {
     let flight = InFlight {
         sent: time,
         flushed,
@@ -43,7 +43,7 @@ fn ping(s: State, time: u64) -> State {
             unconfirmed: false,
             zero_estimate: false,
             limit_increased,
-            current_ping_sent: Ping::Since(time),
+            current_ping_sent: Some(time),
             txed_unacked_data: 7,
             tx_ack_queue,
             ack_count: 3,
@@ -52,20 +52,14 @@ fn ping(s: State, time: u64) -> State {
 }
 
 pub fn kinds(k: usize, s: State) -> State {
-    let later = packet(s, 1, Flushed::FlushedAt(6));
-    let never = packet(s, 1, Flushed::FlushedAt(NEVER));
+    let later = packet(s, 1, Some(6));
+    let never = packet(s, 1, Some(NEVER));
     match k {
         0 => named(b"the last accepted time 2^56 + 1", last(s, MAX_TIME + 1)),
         1 => named(b"the last accepted time 2^64 - 1", last(s, NEVER)),
         2 => named(b"the last accepted time before the others", last(s, 0)),
-        3 => named(
-            b"a send time after the last",
-            packet(s, 6, Flushed::Unflushed),
-        ),
-        4 => named(
-            b"a send time of 2^64 - 1",
-            packet(s, NEVER, Flushed::Unflushed),
-        ),
+        3 => named(b"a send time after the last", packet(s, 6, None)),
+        4 => named(b"a send time of 2^64 - 1", packet(s, NEVER, None)),
         5 => named(b"a flush time after the last", later),
         6 => named(b"a flush time of 2^64 - 1", never),
         7 => named(b"a ping time after the last", ping(s, 6)),

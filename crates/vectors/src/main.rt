@@ -10,7 +10,7 @@
 
 ghost use Rattle.std.specs.Prelude.{◌+◌, ◌^◌, ◌≤◌, ◌<◌, length};
 
-use seq::{Apart, Seq};
+use seq::Seq;
 
 const STDIN_FILENO: i32 = 0;
 
@@ -132,11 +132,11 @@ fn signed(word: u32) -> i32 {
 }
 
 // Whether the crate seq says the line's distance, and "far" where that is 2^30 or more either way.
-fn says(apart: Apart, distance: i32) -> bool {
+fn says(apart: Option<i32>, distance: i32) -> bool {
     let is_far = distance <= -0x4000_0000 || 0x4000_0000 <= distance;
     match apart {
-        Apart::By(d) => !is_far && d == distance,
-        Apart::Far => is_far,
+        Some(d) => !is_far && d == distance,
+        None => is_far,
     }
 }
 

@@ -1,25 +1,16 @@
 -- The words that a part of the state is written as, and that they say it again. Assumes nothing.
-use Rattle.std.specs.Prelude.{◌≡◌, refl, Bool, true, false, cond, List, [], ◌∷◌, ℕ, ◌^◌, ◌<◌, replicate, set}
+use Rattle.std.specs.Prelude.{◌≡◌, refl, Bool, true, false, cond, List, [], ◌∷◌, ℕ, ◌^◌, ◌<◌, replicate, set, Some, None, Option}
 use Rattle.std.proofs.Common.{sym, ap, ◌∙◌, mod-eq_of_lt}
 use Rattle.refusal.specs.Answers.{flag}
 use Rattle.seq.specs.declared.Seq.{Seq}
 use Rattle.seq.specs.Numbers.{seq_of}
 use Rattle.link.specs.declared.row.LinkRow.{LinkRow}
-use Rattle.link.specs.declared.row.MaxPing.{MaxPing}
-use Rattle.link.specs.declared.row.MaxPing.TheVariants.{Unlimited, UpTo}
-use Rattle.link.specs.declared.row.Limit.{Limit}
-use Rattle.link.specs.declared.row.Limit.TheVariants.{Clear, At}
-use Rattle.link.specs.declared.row.Ping.{Ping}
-use Rattle.link.specs.declared.row.Ping.TheVariants.{Idle, Since}
 use Rattle.link.specs.Fields.{with_acks}
 use Rattle.link.specs.Sizes.{ACKS}
-use Rattle.engine.specs.declared.state.Flushed.{Flushed}
-use Rattle.engine.specs.declared.state.Flushed.TheVariants.{Unflushed, FlushedAt}
 use Rattle.engine.specs.declared.state.InFlight.{InFlight}
 use Rattle.engine.specs.declared.state.SentReliableStatus.{SentReliableStatus}
 use Rattle.engine.specs.declared.state.SentReliableStatus.TheVariants.{Sent, Received, ResendQueued}
 use Rattle.engine.specs.declared.state.SentReliable.{SentReliable}
-use Rattle.engine.specs.declared.state.Held.TheVariants.{Message}
 use Rattle.engine.specs.declared.state.Sending.{Sending}
 use Rattle.engine.specs.declared.state.Receiving.{Receiving}
 use Rattle.engine.specs.Records.{record_of, held-record}
@@ -141,29 +132,29 @@ no_acks = replicate ACKS (seq_of 0)
 abbrev pub bare : LinkRow → LinkRow
 bare r = with_acks r no_acks r.ack_count
 
-abbrev pub max_ping_some : MaxPing → ℕ
-max_ping_some Unlimited = 0
-max_ping_some (UpTo v) = 1
+abbrev pub max_ping_some : Option ℕ → ℕ
+max_ping_some None = 0
+max_ping_some (Some v) = 1
 
-abbrev pub max_ping_word : MaxPing → ℕ
-max_ping_word Unlimited = 0
-max_ping_word (UpTo v) = v
+abbrev pub max_ping_word : Option ℕ → ℕ
+max_ping_word None = 0
+max_ping_word (Some v) = v
 
-abbrev pub limit_some : Limit → ℕ
-limit_some Clear = 0
-limit_some (At m) = 1
+abbrev pub limit_some : Option Seq → ℕ
+limit_some None = 0
+limit_some (Some m) = 1
 
-abbrev pub limit_word : Limit → ℕ
-limit_word Clear = 0
-limit_word (At m) = m.0
+abbrev pub limit_word : Option Seq → ℕ
+limit_word None = 0
+limit_word (Some m) = m.0
 
-abbrev pub ping_some : Ping → ℕ
-ping_some Idle = 0
-ping_some (Since t) = 1
+abbrev pub ping_some : Option ℕ → ℕ
+ping_some None = 0
+ping_some (Some t) = 1
 
-abbrev pub ping_word : Ping → ℕ
-ping_word Idle = 0
-ping_word (Since t) = t
+abbrev pub ping_word : Option ℕ → ℕ
+ping_word None = 0
+ping_word (Some t) = t
 
 abbrev pub row_words : LinkRow → List ℕ
 row_words r =
@@ -183,26 +174,26 @@ row_words r =
     ∷ r.ack_count
     ∷ []
 
-max-ping-back : (m : MaxPing) → max_ping_of (max_ping_some m) (max_ping_word m) ≡ m
-max-ping-back Unlimited = refl
-max-ping-back (UpTo v) = refl
+max-ping-back : (m : Option ℕ) → max_ping_of (max_ping_some m) (max_ping_word m) ≡ m
+max-ping-back None = refl
+max-ping-back (Some v) = refl
 
 -- a mark is a number of 32 bits
-abbrev pub SmallLimit : Limit → Type 0
-SmallLimit Clear = Unit
-SmallLimit (At m) = m.0 < 2 ^ 32
+abbrev pub SmallLimit : Option Seq → Type 0
+SmallLimit None = Unit
+SmallLimit (Some m) = m.0 < 2 ^ 32
 
-pub small-limit : (l : Limit) → limit_word l < 2 ^ 32 → SmallLimit l
-small-limit Clear h = tt
-small-limit (At m) h = h
+pub small-limit : (l : Option Seq) → limit_word l < 2 ^ 32 → SmallLimit l
+small-limit None h = tt
+small-limit (Some m) h = h
 
-pub limit-back : (l : Limit) → SmallLimit l → limit_of (limit_some l) (limit_word l) ≡ l
-limit-back Clear h = refl
-limit-back (At m) h = ap At (seq-small m h)
+pub limit-back : (l : Option Seq) → SmallLimit l → limit_of (limit_some l) (limit_word l) ≡ l
+limit-back None h = refl
+limit-back (Some m) h = ap Some (seq-small m h)
 
-ping-back : (p : Ping) → ping_of (ping_some p) (ping_word p) ≡ p
-ping-back Idle = refl
-ping-back (Since t) = refl
+ping-back : (p : Option ℕ) → ping_of (ping_some p) (ping_word p) ≡ p
+ping-back None = refl
+ping-back (Some t) = refl
 
 pub row_back : (r : LinkRow) (acks : List Seq) → r.txed_unacked_data < 2 ^ 32 → SmallLimit r.limit_increased → row_of (row_words r) acks ≡ with_acks r acks r.ack_count
 unfolding row_of
@@ -240,18 +231,18 @@ flight_in (Sent flight) = flight
 flight_in Received = new_flight 0 0 0 false
 flight_in (ResendQueued link) = new_flight 0 0 link false
 
-abbrev pub flushed_some : Flushed → ℕ
-flushed_some Unflushed = 0
-flushed_some (FlushedAt t) = 1
+abbrev pub flushed_some : Option ℕ → ℕ
+flushed_some None = 0
+flushed_some (Some t) = 1
 
-abbrev pub flushed_word : Flushed → ℕ
-flushed_word Unflushed = 0
-flushed_word (FlushedAt t) = t
+abbrev pub flushed_word : Option ℕ → ℕ
+flushed_word None = 0
+flushed_word (Some t) = t
 
 abbrev pub packet_words : SentReliable → List ℕ
 packet_words p =
     p.seq.0
-    ∷ record_of (Message p.msg p.len)
+    ∷ record_of (Some (p.msg, p.len))
     ∷ status_word p.status
     ∷ (flight_in p.status).slot
     ∷ (flight_in p.status).link
@@ -260,9 +251,9 @@ packet_words p =
     ∷ flushed_word (flight_in p.status).flushed
     ∷ []
 
-flushed-back : (f : Flushed) → flushed_of (flushed_some f) (flushed_word f) ≡ f
-flushed-back Unflushed = refl
-flushed-back (FlushedAt t) = refl
+flushed-back : (f : Option ℕ) → flushed_of (flushed_some f) (flushed_word f) ≡ f
+flushed-back None = refl
+flushed-back (Some t) = refl
 
 abbrev pub SmallSlot : SentReliableStatus → Type 0
 SmallSlot (Sent flight) = flight.slot < 256
@@ -296,4 +287,4 @@ pub packet-back : (p : SentReliable) → p.seq.0 < 2 ^ 32 → p.len < 2 ^ 24 →
 unfolding packet_of
 packet-back p n l s =
     ap (λ h. packet_held h (seq_of (half p.seq.0)) (status_of (packet_words p))) (held-record p.msg p.len l)
-    ∙ (λ i. new_packet (seq-small p.seq n i) p.msg p.len (status-back p.seq.0 (record_of (Message p.msg p.len)) p.status s i))
+    ∙ (λ i. new_packet (seq-small p.seq n i) p.msg p.len (status-back p.seq.0 (record_of (Some (p.msg, p.len))) p.status s i))

@@ -1,26 +1,17 @@
 -- What the words of a state say. Every list of words says some state: a number of 32 bits is its word's lower half, a slot its word's lowest byte, a flag
 -- is set by any word but 0. A tag that is none makes a packet that no sound state has, and so does a message word that is none; words of any other length say a
 -- state without cells, which is not sound. Assumes nothing.
-use Rattle.std.specs.Prelude.{◌≡◌, Bool, true, false, cond, not, List, [], map, ℕ, ◌%◌, eqb, length, get_or}
+use Rattle.std.specs.Prelude.{◌≡◌, Bool, true, false, cond, not, List, [], map, ℕ, ◌%◌, eqb, length, get_or, Some, None, Option}
+use Rattle.engine.specs.Held.{Held}
 use Rattle.std.proofs.Common.{eq-eqb}
 use Rattle.seq.specs.declared.Seq.{Seq}
 use Rattle.seq.specs.Numbers.{seq_of}
 use Rattle.msg.specs.declared.reliable.ReliableMsg.TheVariants.{Data}
 use Rattle.link.specs.declared.row.LinkRow.{LinkRow}
-use Rattle.link.specs.declared.row.MaxPing.{MaxPing}
-use Rattle.link.specs.declared.row.MaxPing.TheVariants.{Unlimited, UpTo}
-use Rattle.link.specs.declared.row.Limit.{Limit}
-use Rattle.link.specs.declared.row.Limit.TheVariants.{Clear, At}
-use Rattle.link.specs.declared.row.Ping.{Ping}
-use Rattle.link.specs.declared.row.Ping.TheVariants.{Idle, Since}
-use Rattle.engine.specs.declared.state.Flushed.{Flushed}
-use Rattle.engine.specs.declared.state.Flushed.TheVariants.{Unflushed, FlushedAt}
 use Rattle.engine.specs.declared.state.InFlight.{InFlight}
 use Rattle.engine.specs.declared.state.SentReliableStatus.{SentReliableStatus}
 use Rattle.engine.specs.declared.state.SentReliableStatus.TheVariants.{Sent, Received, ResendQueued}
 use Rattle.engine.specs.declared.state.SentReliable.{SentReliable}
-use Rattle.engine.specs.declared.state.Held.{Held}
-use Rattle.engine.specs.declared.state.Held.TheVariants.{Nothing, Message}
 use Rattle.engine.specs.declared.state.Sending.{Sending}
 use Rattle.engine.specs.declared.state.Receiving.{Receiving}
 use Rattle.engine.specs.declared.state.State.{State}
@@ -40,17 +31,17 @@ abbrev pub is_set : ℕ → Bool
 is_set v = not (eqb v 0)
 
 -- what may be missing: a flag, and the value where it is set
-abbrev pub max_ping_of : ℕ → ℕ → MaxPing
-max_ping_of some v = cond (is_set some) (UpTo v) Unlimited
+abbrev pub max_ping_of : ℕ → ℕ → Option ℕ
+max_ping_of some v = cond (is_set some) (Some v) None
 
-abbrev pub limit_of : ℕ → ℕ → Limit
-limit_of some v = cond (is_set some) (At (seq_word v)) Clear
+abbrev pub limit_of : ℕ → ℕ → Option Seq
+limit_of some v = cond (is_set some) (Some (seq_word v)) None
 
-abbrev pub ping_of : ℕ → ℕ → Ping
-ping_of some v = cond (is_set some) (Since v) Idle
+abbrev pub ping_of : ℕ → ℕ → Option ℕ
+ping_of some v = cond (is_set some) (Some v) None
 
-abbrev pub flushed_of : ℕ → ℕ → Flushed
-flushed_of some v = cond (is_set some) (FlushedAt v) Unflushed
+abbrev pub flushed_of : ℕ → ℕ → Option ℕ
+flushed_of some v = cond (is_set some) (Some v) None
 
 -- a row, with its acks
 unfoldable pub row_of : List ℕ → List Seq → LinkRow
@@ -90,8 +81,8 @@ status_of xs =
 
 -- its message is in one word, as in the record space
 abbrev pub packet_held : Held → Seq → SentReliableStatus → SentReliable
-packet_held (Message msg len) seq status = new_packet seq msg len status
-packet_held Nothing seq status = new_packet seq Data NO_LENGTH status
+packet_held (Some (msg, len)) seq status = new_packet seq msg len status
+packet_held None seq status = new_packet seq Data NO_LENGTH status
 
 unfoldable pub packet_of : List ℕ → SentReliable
 unfolding status_of

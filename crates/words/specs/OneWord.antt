@@ -1,5 +1,6 @@
 -- One word of a state's words is written where it stands: the field that it says is another, and no other is. Assumes nothing.
-use Rattle.std.specs.Prelude.{◌≡◌, Bool, List, [], ◌∷◌, ◌++◌, set, take, drop}
+use Rattle.std.specs.Prelude.{◌≡◌, Bool, List, [], ◌∷◌, ◌++◌, set, take, drop, Some, None}
+use Rattle.engine.specs.Held.{Held}
 use Rattle.std.proofs.Math.Path.{refl, ap}
 use Rattle.std.proofs.Common.{sym, ◌∙◌, length-set, take-append-drop, ext_get_or, length-take-le}
 use Prim.Native.Nat.{ℕ, zero, suc, ◌+◌, ◌^◌, ◌≤◌, ◌<◌}
@@ -12,8 +13,6 @@ use Rattle.link.specs.Fields.{with_acks, with_sending}
 use Rattle.link.specs.Row.{with_unacked}
 use Rattle.engine.specs.declared.state.SentReliable.{SentReliable}
 use Rattle.engine.specs.declared.state.SentReliableStatus.TheVariants.{Received}
-use Rattle.engine.specs.declared.state.Held.{Held}
-use Rattle.engine.specs.declared.state.Held.TheVariants.{Nothing, Message}
 use Rattle.engine.specs.declared.state.Receiving.{Receiving}
 use Rattle.engine.specs.declared.state.Sending.{Sending}
 use Rattle.engine.specs.declared.state.State.{State}
@@ -207,8 +206,8 @@ module _ (w : List ℕ) (long : length w ≡ WORDS) where
   -- ---- a packet: its tag says that it was Received
 
   received-held : (h : Held) (seq : Seq) (st : _) → packet_held h seq Received ≡ with_status (packet_held h seq st) Received
-  received-held (Message msg len) seq st = refl
-  received-held Nothing seq st = refl
+  received-held (Some (msg, len)) seq st = refl
+  received-held None seq st = refl
 
   pub received-put : (k : ℕ) → k < 64
       → state_of (set w (packet_start k + 2) 3) ≡ with_tx (state_of w) (with_packets (state_of w).tx (set (state_of w).tx.txed_packets k (with_status (get_or (state_of w).tx.txed_packets k no_packet) Received)))

@@ -1,5 +1,6 @@
 -- What stands at the places of a state's words: the state's parts, word by word. Assumes nothing.
-use Rattle.std.specs.Prelude.{◌≡◌, ℕ, ◌+◌, ◌-◌, ◌^◌, ◌<◌, length, take, drop}
+use Rattle.std.specs.Prelude.{◌≡◌, ℕ, ◌+◌, ◌-◌, ◌^◌, ◌<◌, length, take, drop, Some, None}
+use Rattle.engine.specs.Held.{Held}
 use Rattle.std.proofs.Common.{sym, ◌∙◌}
 use Rattle.std.proofs.Math.Path.{ap}
 use mathlib.Core.List.{List, map}
@@ -9,8 +10,6 @@ use Rattle.seq.specs.declared.Seq.{Seq}
 use Rattle.seq.specs.Numbers.{seq_of}
 use Rattle.link.specs.declared.row.LinkRow.{LinkRow}
 use Rattle.link.specs.Row.{no_row}
-use Rattle.engine.specs.declared.state.Held.{Held}
-use Rattle.engine.specs.declared.state.Held.TheVariants.{Nothing, Message}
 use Rattle.engine.specs.declared.state.SentReliableStatus.{SentReliableStatus}
 use Rattle.engine.specs.declared.state.State.{State}
 use Rattle.engine.specs.Packets.{no_packet}
@@ -26,8 +25,8 @@ run_at : (a n i : ℕ) (w : List ℕ) → i < n → get_or (map seq_word (part a
 run_at a n i w h = get_or-map seq_word (part a n w) i 0 ∙ ap seq_word (part_at a n i w h)
 
 packet-short : (h : Held) (seq : Seq) (st : SentReliableStatus) → RecordFits h → (packet_held h seq st).len < 2 ^ 24
-packet-short (Message msg len) seq st f = f
-packet-short Nothing seq st f = omega arith
+packet-short (Some (msg, len)) seq st f = f
+packet-short None seq st f = omega arith
 
 -- a packet that is read has a length that can be written
 pub packet-fits : (xs : List ℕ) → (packet_of xs).len < 2 ^ 24

@@ -9,7 +9,7 @@ ghost use Rattle.words.specs.Encoded.{status_word, flight_in, flushed_some, flus
 use crate::bits::{is_set, seq_word};
 use crate::layout::{PACKET, PACKETS_START};
 use engine::records::record_of;
-use engine::{Flushed, Held, InFlight, SentReliable, SentReliableStatus, held_of};
+use engine::{Held, InFlight, SentReliable, SentReliableStatus, held_of};
 use msg::ReliableMsg;
 use seq::Seq;
 
@@ -21,13 +21,13 @@ const NO_LENGTH: u32 = 0xFF_FFFF;
 // The tag of a packet that was Received.
 const RECEIVED: u64 = 3;
 
-fn flushed_of(some: u64, at: u64) -> Flushed
+fn flushed_of(some: u64, at: u64) -> Option<u64>
     ensures { result ≡ flushed_of some at }
 {
     if is_set(some) {
-        return Flushed::FlushedAt(at);
+        return Some(at);
     }
-    Flushed::Unflushed
+    None
 }
 
 fn flight_in(part: &[u64], slot: u8, resent: bool) -> InFlight
@@ -69,8 +69,8 @@ fn packet_held(held: Held, seq: Seq, status: SentReliableStatus) -> SentReliable
     ensures { result ≡ packet_held held seq status }
 {
     match held {
-        Held::Message(msg, len) => SentReliable::new(seq, msg, len, status),
-        Held::Nothing => SentReliable::new(seq, ReliableMsg::Data, NO_LENGTH, status),
+        Some((msg, len)) => SentReliable::new(seq, msg, len, status),
+        None => SentReliable::new(seq, ReliableMsg::Data, NO_LENGTH, status),
     }
 }
 
@@ -121,21 +121,21 @@ fn flight_of(status: SentReliableStatus) -> InFlight
     }
 }
 
-fn flushed_some(flushed: Flushed) -> u64
+fn flushed_some(flushed: Option<u64>) -> u64
     ensures { result ≡ flushed_some flushed }
 {
     match flushed {
-        Flushed::Unflushed => 0,
-        Flushed::FlushedAt(_) => 1,
+        None => 0,
+        Some(_) => 1,
     }
 }
 
-fn flushed_word(flushed: Flushed) -> u64
+fn flushed_word(flushed: Option<u64>) -> u64
     ensures { result ≡ flushed_word flushed }
 {
     match flushed {
-        Flushed::Unflushed => 0,
-        Flushed::FlushedAt(at) => at,
+        None => 0,
+        Some(at) => at,
     }
 }
 
@@ -149,7 +149,7 @@ fn write_packet(part: &mut [u64], p: SentReliable)
     let flight = flight_of(status);
     let flushed = flight.flushed;
     part[0] = p.seq.0 as u64;
-    part[1] = record_of(Held::Message(msg, p.len));
+    part[1] = record_of(Some((msg, p.len)));
     part[2] = status_word(status);
     part[3] = flight.slot as u64;
     part[4] = flight.link;

@@ -10,35 +10,35 @@ ghost use Rattle.words.specs.Encoded.{no_acks, bare, max_ping_some, max_ping_wor
 
 use crate::bits::{flag, half, is_set, seq_word};
 use crate::layout::{ACK_COUNT, ROW, ROW_WORDS, ROWS};
+use link::LinkRow;
 use link::sizes::ACKS;
-use link::{Limit, LinkRow, MaxPing, Ping};
 use seq::Seq;
 
-fn max_ping_of(some: u64, limit: u64) -> MaxPing
+fn max_ping_of(some: u64, limit: u64) -> Option<u64>
     ensures { result ≡ max_ping_of some limit }
 {
     if is_set(some) {
-        return MaxPing::UpTo(limit);
+        return Some(limit);
     }
-    MaxPing::Unlimited
+    None
 }
 
-fn limit_of(some: u64, mark: u64) -> Limit
+fn limit_of(some: u64, mark: u64) -> Option<Seq>
     ensures { result ≡ limit_of some mark }
 {
     if is_set(some) {
-        return Limit::At(seq_word(mark));
+        return Some(seq_word(mark));
     }
-    Limit::Clear
+    None
 }
 
-fn ping_of(some: u64, since: u64) -> Ping
+fn ping_of(some: u64, since: u64) -> Option<u64>
     ensures { result ≡ ping_of some since }
 {
     if is_set(some) {
-        return Ping::Since(since);
+        return Some(since);
     }
-    Ping::Idle
+    None
 }
 
 fn row_in(part: &[u64]) -> LinkRow
@@ -74,58 +74,58 @@ pub fn row_at(words: &[u64], slot: usize) -> LinkRow
     row_in(&words[start..end])
 }
 
-fn max_ping_some(max_ping: MaxPing) -> u64
+fn max_ping_some(max_ping: Option<u64>) -> u64
     ensures { result ≡ max_ping_some max_ping }
 {
     match max_ping {
-        MaxPing::Unlimited => 0,
-        MaxPing::UpTo(_) => 1,
+        None => 0,
+        Some(_) => 1,
     }
 }
 
-fn max_ping_word(max_ping: MaxPing) -> u64
+fn max_ping_word(max_ping: Option<u64>) -> u64
     ensures { result ≡ max_ping_word max_ping }
 {
     match max_ping {
-        MaxPing::Unlimited => 0,
-        MaxPing::UpTo(limit) => limit,
+        None => 0,
+        Some(limit) => limit,
     }
 }
 
-fn limit_some(limit: Limit) -> u64
+fn limit_some(limit: Option<Seq>) -> u64
     ensures { result ≡ limit_some limit }
 {
     match limit {
-        Limit::Clear => 0,
-        Limit::At(_) => 1,
+        None => 0,
+        Some(_) => 1,
     }
 }
 
-fn limit_word(limit: Limit) -> u64
+fn limit_word(limit: Option<Seq>) -> u64
     ensures value { result ≡ limit_word limit }
     ensures upper_bound { result < 2 ^ 32 }
 {
     match limit {
-        Limit::Clear => 0,
-        Limit::At(mark) => mark.0 as u64,
+        None => 0,
+        Some(mark) => mark.0 as u64,
     }
 }
 
-fn ping_some(ping: Ping) -> u64
+fn ping_some(ping: Option<u64>) -> u64
     ensures { result ≡ ping_some ping }
 {
     match ping {
-        Ping::Idle => 0,
-        Ping::Since(_) => 1,
+        None => 0,
+        Some(_) => 1,
     }
 }
 
-fn ping_word(ping: Ping) -> u64
+fn ping_word(ping: Option<u64>) -> u64
     ensures { result ≡ ping_word ping }
 {
     match ping {
-        Ping::Idle => 0,
-        Ping::Since(since) => since,
+        None => 0,
+        Some(since) => since,
     }
 }
 

@@ -4,4 +4,4 @@ use Rattle.text.specs.Decimal.{a-number-read-is-within}
 use Rattle.calls.proofs.words.byte_of.Goals as goal
 
 pub overflow_cast-result : goal.overflow_cast-result
-overflow_cast-result c = omega (arith, a-number-read-is-within _ _ _ (sym c.in-Number.ensures))
+overflow_cast-result c = omega (arith, a-number-read-is-within _ _ _ (sym c.in-Some.ensures))

@@ -10,19 +10,19 @@ use Rattle.comparing.proofs.listing.list_conflict.Goals as goal
 pub returns-then-flag-eq0 : goal.returns-then-flag-eq0
 unfolding words_for
 returns-then-flag-eq0 c = let a = c.args in
-    let e : conflict_as (flag_held a.held) a.d ≡ _ = ap (λ h. conflict_as (flag_held h) a.d) c.in-At.is in
+    let e : conflict_as (flag_held a.held) a.d ≡ _ = ap (λ h. conflict_as (flag_held h) a.d) c.in-Some.is in
     rw e (simp (eq-eqb _ _ c.if-flag-eq0.true) (pushed_none a.list.now a.n))
 
 pub push-requires : goal.push-requires
 push-requires c =
-    record { n_in_bounds = omega (arith, c.requires.held_in_bounds, ap has_of c.in-At.is); fits = c.requires.fits }
+    record { n_in_bounds = omega (arith, c.requires.held_in_bounds, ap has_of c.in-Some.is); fits = c.requires.fits }
 
-pub returns-in-Not : goal.returns-in-Not
+pub returns-in-None : goal.returns-in-None
 unfolding words_for
-returns-in-Not c = let a = c.args in
-    rw c.in-Not.is (pushed_none a.list.now a.n)
+returns-in-None c = let a = c.args in
+    rw c.in-None.is (pushed_none a.list.now a.n)
 
 pub returns-else-flag-eq0 : goal.returns-else-flag-eq0
 returns-else-flag-eq0 c = let a = c.args in
-    let e : conflict_as (flag_held a.held) a.d ≡ _ = ap (λ h. conflict_as (flag_held h) a.d) c.in-At.is in
+    let e : conflict_as (flag_held a.held) a.d ≡ _ = ap (λ h. conflict_as (flag_held h) a.d) c.in-Some.is in
     rw e (simp (ne_eqb _ _ c.if-flag-eq0.false) c.push.ensures)

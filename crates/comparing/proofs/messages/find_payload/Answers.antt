@@ -8,4 +8,4 @@ pub returns-in_default : goal.returns-in_default
 returns-in_default c = simp (payload-bad-says c.args.text.now [] (sym c.read_payload.ensures.value ∙ c.in_default.is))
 
 pub returns : goal.returns
-returns c = simp (payload-says c.args.text.now [] _ (sym c.read_payload.ensures.value ∙ c.in-Count.is)).2
+returns c = simp (payload-says c.args.text.now [] _ (sym c.read_payload.ensures.value ∙ c.in-Some.is)).2

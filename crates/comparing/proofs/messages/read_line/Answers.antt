@@ -2,10 +2,10 @@
 use Rattle.comparing.specs.Messages.{line_found}
 use Rattle.comparing.proofs.messages.read_line.Goals as goal
 
-pub returns-in-Frame : goal.returns-in-Frame
+pub returns-in-None : goal.returns-in-None
 unfolding line_found
-returns-in-Frame c = simp (c.in-Frame.is, c.find_reading.ensures, c.read_frame.ensures)
+returns-in-None c = simp (c.in-None.is, c.find_reading.ensures, c.read_frame.ensures)
 
-pub returns-in-Payload : goal.returns-in-Payload
+pub returns-in-Some : goal.returns-in-Some
 unfolding line_found
-returns-in-Payload c = simp (c.in-Payload.is, c.find_payload.ensures)
+returns-in-Some c = simp (c.in-Some.is, c.find_payload.ensures)

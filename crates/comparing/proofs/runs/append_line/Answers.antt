@@ -20,14 +20,14 @@ returns-in_default c = let a = c.args in
     record { run_after = take_put a.n (length a.run.now - a.n) a.run.now read.new.into (omega arith) ∙ put-none a.run.now (line_bytes a.line.now) a.n (bytes-bad a.line.now bad); upper_bound = omega arith }
 
 pub overflow_add-result : goal.overflow_add-result
-overflow_add-result c = let said = count-says c.args.line.now _ _ (sym c.read_hex.ensures.value ∙ c.in-Count.is) in
+overflow_add-result c = let said = count-says c.args.line.now _ _ (sym c.read_hex.ensures.value ∙ c.in-Some.is) in
     omega arith
 
 pub returns : goal.returns
 returns c = let a = c.args in
     let short = c.if-line-gt-MAX_LINE.false in
     let read = c.read_hex in
-    let count = sym read.ensures.value ∙ c.in-Count.is in
+    let count = sym read.ensures.value ∙ c.in-Some.is in
     let said = count-says a.line.now _ _ count in
     let bytes = counted_start a.line.now _ _ _ count read.ensures.into_after ∙ sym (bytes_good a.line.now short said.2) in
     record { run_after = put-behind a.run.now read.new.into _ a.n _ (omega arith) (omega arith) ∙ ap (λ l. take a.n a.run.now ++ l) bytes; upper_bound = omega arith }

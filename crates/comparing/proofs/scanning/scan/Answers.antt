@@ -26,12 +26,12 @@ returns-in_default c = let input = c.args.input.now in
 
 pub scan_body-requires : goal.scan_body-requires
 scan_body-requires c =
-    let read = sym c.read_start.ensures ∙ c.in-Number.is in
+    let read = sym c.read_start.ensures ∙ c.in-Some.is in
     let long = first-long c.args.input.now c.line_end-end.result (omega (arith, c.line_end-end.ensures)) _ read in
     record { cells_len = c.requires; le_from = omega (arith, long, c.next_line.ensures) }
 
 pub returns : goal.returns
 returns c = let input = c.args.input.now in
-    let read = sym c.read_start.ensures ∙ c.in-Number.is in
+    let read = sym c.read_start.ensures ∙ c.in-Some.is in
     let good = first_good input c.line_end-end.result (omega (arith, c.line_end-end.ensures)) _ read in
     rw (good.1, good.0, ← c.next_line.ensures) c.scan_body.ensures

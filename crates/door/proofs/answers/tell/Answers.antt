@@ -1,5 +1,5 @@
 -- By the outcome.
 use Rattle.door.proofs.answers.tell.Goals as goal
 
-pub returns-in-No : goal.returns-in-No
-returns-in-No c = simp c.in-No.is c.refused.ensures
+pub returns-in-Err : goal.returns-in-Err
+returns-in-Err c = simp c.in-Err.is c.refused.ensures

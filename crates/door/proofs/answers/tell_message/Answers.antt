@@ -2,8 +2,8 @@
 use mathlib.Core.Path.{refl}
 use Rattle.door.proofs.answers.tell_message.Goals as goal
 
-pub returns-in-No : goal.returns-in-No
-returns-in-No c = simp c.in-No.is record { value = c.refused.ensures; values_after = refl }
+pub returns-in-Err : goal.returns-in-Err
+returns-in-Err c = simp c.in-Err.is record { value = c.refused.ensures; values_after = refl }
 
-pub returns-in-Message : goal.returns-in-Message
-returns-in-Message c = simp (c.in-Message.is, c.word.ensures, c.kind.ensures) record { value = refl; values_after = refl }
+pub returns-in-Ok : goal.returns-in-Ok
+returns-in-Ok c = simp (c.in-Ok.is, c.word.ensures, c.kind.ensures) record { value = refl; values_after = refl }

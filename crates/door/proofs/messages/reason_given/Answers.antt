@@ -1,12 +1,12 @@
 -- The number picks its row of the table; past the rows it names none.
 -- a number that is none of the four names none
+use Rattle.std.specs.Prelude.{None}
 use mathlib.Core.Path.{◌≡◌, refl, ◌∙◌}
 use Prim.Native.Nat.{ℕ, zero, suc}
 use Rattle.door.specs.Messages.{reason_given}
-use Rattle.door.specs.declared.messages.LinkGiven.TheVariants.{Nothing}
 use Rattle.door.proofs.messages.reason_given.Goals as goal
 
-other : (n : ℕ) → (n ≡ 1 → ⊥) → (n ≡ 2 → ⊥) → (n ≡ 3 → ⊥) → (n ≡ 4 → ⊥) → Nothing ≡ reason_given n
+other : (n : ℕ) → (n ≡ 1 → ⊥) → (n ≡ 2 → ⊥) → (n ≡ 3 → ⊥) → (n ≡ 4 → ⊥) → None ≡ reason_given n
 unfolding reason_given
 other zero a b c d = refl
 other (suc zero) a b c d = absurd (a refl)

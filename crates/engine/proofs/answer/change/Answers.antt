@@ -1,8 +1,8 @@
 -- By the verdict.
 use Rattle.engine.proofs.answer.change.Goals as goal
 
-pub returns-in-Pass : goal.returns-in-Pass
-returns-in-Pass c = simp c.in-Pass.is
+pub returns-in-Ok : goal.returns-in-Ok
+returns-in-Ok c = simp c.in-Ok.is
 
-pub returns-in-No : goal.returns-in-No
-returns-in-No c = simp c.in-No.is
+pub returns-in-Err : goal.returns-in-Err
+returns-in-Err c = simp c.in-Err.is

@@ -5,14 +5,14 @@ use Rattle.engine.specs.Deadlines.{first_sent, confirm_timeout_told, earliest_co
 use Rattle.engine.proofs.deadlines.earliest_confirm_timeout.Goals as goal
 
 pub named-requires : goal.named-requires
-named-requires c = sym c.confirm_timeout_verdict-verdict.ensures ∙ c.in-Pass.is
+named-requires c = sym c.confirm_timeout_verdict-verdict.ensures ∙ c.in-Ok.is
 
-pub returns-in-No : goal.returns-in-No
+pub returns-in-Err : goal.returns-in-Err
 unfolding earliest_confirm_timeout_of
-returns-in-No c = let e = sym c.confirm_timeout_verdict-verdict.ensures ∙ c.in-No.is in record { value = simp e; result_value = simp e }
+returns-in-Err c = let e = sym c.confirm_timeout_verdict-verdict.ensures ∙ c.in-Err.is in record { value = simp e; result_value = simp e }
 
-pub returns-in-Pass : goal.returns-in-Pass
+pub returns-in-Ok : goal.returns-in-Ok
 unfolding earliest_confirm_timeout_of
-returns-in-Pass c = let a = c.args in
-    let e = sym c.confirm_timeout_verdict-verdict.ensures ∙ c.in-Pass.is in
+returns-in-Ok c = let a = c.args in
+    let e = sym c.confirm_timeout_verdict-verdict.ensures ∙ c.in-Ok.is in
     record { value = simp (e, c.named.ensures); result_value = simp e (ap confirm_timeout_told c.named.ensures ∙ named-told (first_sent (packets a.s.tx)) a.s a.timeout a.unreliable) }

@@ -9,11 +9,11 @@ first_sent-first-requires c = (timeout-passed c.args.s c.args.timeout c.requires
 pub deadline-at-requires : goal.deadline-at-requires
 deadline-at-requires c = let a = c.args in
     let passed = timeout-passed a.s a.timeout c.requires in
-    let first = sym c.first_sent-first.ensures ∙ c.in-Is.is in
-    (first-within a.s c.in-Is.flight passed.fine first, passed.within)
+    let first = sym c.first_sent-first.ensures ∙ c.in-Some.is in
+    (first-within a.s c.in-Some.flight passed.fine first, passed.within)
 
-pub returns-in-Nothing : goal.returns-in-Nothing
-returns-in-Nothing c = let first = sym c.first_sent-first.ensures ∙ c.in-Nothing.is in simp first
+pub returns-in-None : goal.returns-in-None
+returns-in-None c = let first = sym c.first_sent-first.ensures ∙ c.in-None.is in simp first
 
-pub returns-in-Is : goal.returns-in-Is
-returns-in-Is c = let first = sym c.first_sent-first.ensures ∙ c.in-Is.is in simp (first, c.was_flushed.ensures, c.deadline-at.ensures)
+pub returns-in-Some : goal.returns-in-Some
+returns-in-Some c = let first = sym c.first_sent-first.ensures ∙ c.in-Some.is in simp (first, c.was_flushed.ensures, c.deadline-at.ensures)

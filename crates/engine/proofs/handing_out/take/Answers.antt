@@ -18,18 +18,18 @@ hand_out-answer-requires c = λ e.
 
 pub take_message-next-requires : goal.take_message-next-requires
 take_message-next-requires c = let s = c.args.s in
-    let m = c.in-Message in
-    let t = taking s c.args.records.now m.msg m.field-1 m.len (rw (← c.take_verdict.ensures) (sym c.hand_out-answer.ensures ∙ c.in-Message.is)) in
+    let m = c.in-Ok in
+    let t = taking s c.args.records.now m.msg m.field-0-1 m.len (rw (← c.take_verdict.ensures) (sym c.hand_out-answer.ensures ∙ c.in-Ok.is)) in
     (record { some = (cell-count s.rx.cells t.fine.cell-count).some; all = t.recorded.long }, rw c.data_length.ensures t.total)
 
-pub returns-in-No : goal.returns-in-No
+pub returns-in-Err : goal.returns-in-Err
 unfolding take_of take_records
-returns-in-No c = let v = sym c.take_verdict.ensures in
+returns-in-Err c = let v = sym c.take_verdict.ensures in
     let h = sym c.hand_out-answer.ensures in
-    let m = c.in-No.is in record { value = simp (v, h, m); answer_value = hand-told c.take_verdict.result _ (table_of c.args.s.rx c.args.records.now) c.hand_out-answer.ensures c.take_verdict.ensures; records_after = simp (v, h, m) }
+    let m = c.in-Err.is in record { value = simp (v, h, m); answer_value = hand-told c.take_verdict.result _ (table_of c.args.s.rx c.args.records.now) c.hand_out-answer.ensures c.take_verdict.ensures; records_after = simp (v, h, m) }
 
-pub returns-in-Message : goal.returns-in-Message
+pub returns-in-Ok : goal.returns-in-Ok
 unfolding take_of take_records
-returns-in-Message c = let v = sym c.take_verdict.ensures in
+returns-in-Ok c = let v = sym c.take_verdict.ensures in
     let h = sym c.hand_out-answer.ensures in
-    let m = c.in-Message.is in record { value = simp (v, h, m, c.with_rx.ensures, c.take_message-next.ensures.value, c.data_length.ensures); answer_value = ap hand_out_told (sym c.in-Message.is) ∙ hand-told c.take_verdict.result _ (table_of c.args.s.rx c.args.records.now) c.hand_out-answer.ensures c.take_verdict.ensures; records_after = simp (v, h, m, c.take_message-next.ensures.records_after, c.data_length.ensures) }
+    let m = c.in-Ok.is in record { value = simp (v, h, m, c.with_rx.ensures, c.take_message-next.ensures.value, c.data_length.ensures); answer_value = ap hand_out_told (sym c.in-Ok.is) ∙ hand-told c.take_verdict.result _ (table_of c.args.s.rx c.args.records.now) c.hand_out-answer.ensures c.take_verdict.ensures; records_after = simp (v, h, m, c.take_message-next.ensures.records_after, c.data_length.ensures) }

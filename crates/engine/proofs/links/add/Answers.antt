@@ -3,10 +3,10 @@ use Rattle.std.proofs.Common.{sym, ◌∙◌}
 use Rattle.engine.specs.Links.{add_of}
 use Rattle.engine.proofs.links.add.Goals as goal
 
-pub returns-in-No : goal.returns-in-No
+pub returns-in-Err : goal.returns-in-Err
 unfolding add_of
-returns-in-No c = let e = sym c.add_verdict-verdict.ensures ∙ c.in-No.is in record { value = simp e; answer_value = simp e }
+returns-in-Err c = let e = sym c.add_verdict-verdict.ensures ∙ c.in-Err.is in record { value = simp e; answer_value = simp e }
 
-pub returns-in-Pass : goal.returns-in-Pass
+pub returns-in-Ok : goal.returns-in-Ok
 unfolding add_of
-returns-in-Pass c = let e = sym c.add_verdict-verdict.ensures ∙ c.in-Pass.is in record { value = simp (e, c.with_row.ensures, c.fresh-row.ensures, c.lowest_empty-slot.ensures.value); answer_value = simp (e, c.lowest_empty-slot.ensures.value) }
+returns-in-Ok c = let e = sym c.add_verdict-verdict.ensures ∙ c.in-Ok.is in record { value = simp (e, c.with_row.ensures, c.fresh-row.ensures, c.lowest_empty-slot.ensures.value); answer_value = simp (e, c.lowest_empty-slot.ensures.value) }

@@ -2,10 +2,10 @@
 use Rattle.std.proofs.Common.{◌^◌, ◌<◌, arith}
 use Rattle.engine.proofs.records.record_of.Goals as goal
 
-pub overflow_add-result-in-Message : goal.overflow_add-result-in-Message
-overflow_add-result-in-Message c =
-    let short : c.in-Message.len < 2 ^ 24 = rw c.in-Message.is at c.requires in
+pub overflow_add-result-in-Some : goal.overflow_add-result-in-Some
+overflow_add-result-in-Some c =
+    let short : c.in-Some.len < 2 ^ 24 = rw c.in-Some.is at c.requires in
     omega arith
 
-pub returns-in-Message : goal.returns-in-Message
-returns-in-Message c = simp (c.in-Message.is, c.count-count.ensures, c.kind-kind.ensures)
+pub returns-in-Some : goal.returns-in-Some
+returns-in-Some c = simp (c.in-Some.is, c.count-count.ensures, c.kind-kind.ensures)

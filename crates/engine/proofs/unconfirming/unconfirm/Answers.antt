@@ -5,12 +5,12 @@ use Rattle.engine.specs.Gates.{slot-passed}
 use Rattle.engine.proofs.unconfirming.unconfirm.Goals as goal
 
 pub unconfirmed_state-requires : goal.unconfirmed_state-requires
-unconfirmed_state-requires c = (slot-passed c.args.s c.args.slot (sym c.slot_verdict-verdict.ensures ∙ c.in-Pass.is)).fine.packet-count
+unconfirmed_state-requires c = (slot-passed c.args.s c.args.slot (sym c.slot_verdict-verdict.ensures ∙ c.in-Ok.is)).fine.packet-count
 
-pub returns-in-No : goal.returns-in-No
+pub returns-in-Err : goal.returns-in-Err
 unfolding unconfirm_of
-returns-in-No c = let e = sym c.slot_verdict-verdict.ensures ∙ c.in-No.is in record { value = simp e; outcome_value = simp e }
+returns-in-Err c = let e = sym c.slot_verdict-verdict.ensures ∙ c.in-Err.is in record { value = simp e; outcome_value = simp e }
 
-pub returns-in-Pass : goal.returns-in-Pass
+pub returns-in-Ok : goal.returns-in-Ok
 unfolding unconfirm_of
-returns-in-Pass c = let e = sym c.slot_verdict-verdict.ensures ∙ c.in-Pass.is in record { value = simp (e, c.unconfirmed_state.ensures); outcome_value = simp e }
+returns-in-Ok c = let e = sym c.slot_verdict-verdict.ensures ∙ c.in-Ok.is in record { value = simp (e, c.unconfirmed_state.ensures); outcome_value = simp e }

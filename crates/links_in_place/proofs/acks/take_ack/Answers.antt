@@ -1,8 +1,8 @@
 -- By the slot and by whether an ack waits.
+use Rattle.std.specs.Prelude.{Ok}
 use native.Mathlib.Omega.{arith}
 use mathlib.Core.Path.{refl, sym, ap, ◌∙◌}
 use Rattle.link.specs.declared.row.LinkRow.{LinkRow}
-use Rattle.engine.specs.declared.handing_out.TakeAck.TheVariants.{Number}
 use Rattle.words.specs.Meaning.{state_of}
 use Rattle.links_in_place.specs.Acks.{ack-no-slot, ack-none, ack-taken}
 use Rattle.links_in_place.specs.Gated.{slot_small}
@@ -25,4 +25,4 @@ drop_ack-requires c = (c.requires.long, slot_small (state_of c.args.words.now) c
 
 pub returns : goal.returns
 returns c = let e = ack-taken (state_of c.args.words.now) c.requires.judged c.args.slot (sym c.slot_ok.ensures ∙ c.if-not-slot_ok.false) (λ z. c.if-row-eq0.false (ap (λ (r : LinkRow). r.ack_count) c.row_at-row.ensures ∙ z)) in
-    simp e record { value = ap Number c.first_ack-seq.ensures; words_after = c.drop_ack.ensures; left = λ ne. absurd (ne refl) }
+    simp e record { value = ap Ok c.first_ack-seq.ensures; words_after = c.drop_ack.ensures; left = λ ne. absurd (ne refl) }

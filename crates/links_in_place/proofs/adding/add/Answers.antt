@@ -1,10 +1,10 @@
 -- By the tests, in the order of their numbers.
+use Rattle.std.specs.Prelude.{Ok}
 use mathlib.Core.Path.{refl, sym, ap, ◌∙◌}
 use mathlib.Core.Bool.{◌&&◌}
 use lib.Dec.{leb}
 use Rattle.link.specs.Fields.{with_acks}
 use Rattle.link.specs.Sizes.{MAX_TIME}
-use Rattle.engine.specs.declared.links.AddAnswer.TheVariants.{Slot}
 use Rattle.engine.specs.Fields.{with_row}
 use Rattle.engine.specs.Links.{lowest_in}
 use Rattle.words.specs.Encoded.{no_acks}
@@ -33,7 +33,7 @@ returns c = let a = c.args in
     let low = c.lowest_empty-slot.ensures.value in
     let e = add_done (state_of c.args.words.now) c.requires.judged a.link_id a.roundtrip a.max_ping a.blocked a.unconfirmed (ap (λ x. leb a.roundtrip MAX_TIME && x) (sym c.max_ping_within.ensures) ∙ sym c.both.ensures ∙ c.if-not-both.false) (rw low at c.if-slot-ge-SLOT_END.false) (sym c.is_taken.ensures ∙ c.if-is_taken.false) in
     simp e record {
-      value = ap Slot low;
+      value = ap Ok low;
       words_after = c.put_new.ensures
           ∙ (λ i. let row = c.fresh-row.ensures i in with_row s (low i) (with_acks row no_acks row.ack_count))
           ∙ ap (with_row s (lowest_in s)) (fresh-acks a.link_id a.roundtrip a.max_ping a.blocked a.unconfirmed);

@@ -13,18 +13,18 @@ oldest_ready-held-requires c = let a = c.args in
     let long = rw c.rx_of-rx.ensures at (sym c.lengths_ok.ensures ∙ c.if-not-lengths_ok.false) in
     rw c.rx_of-rx.ensures (ready-lent a.words.now a.records.now c.requires (cells-lent a.words.now a.records.now a.store long))
 
-pub returns-in-Nothing : goal.returns-in-Nothing
+pub returns-in-None : goal.returns-in-None
 unfolding showing_of show_verdict hand_out_by
-returns-in-Nothing c = let a = c.args in
+returns-in-None c = let a = c.args in
     let long = rw c.rx_of-rx.ensures at (sym c.lengths_ok.ensures ∙ c.if-not-lengths_ok.false) in
     let ok = c.requires.recorded (cells-lent a.words.now a.records.now a.store long) in
-    let none = rw c.rx_of-rx.ensures at (sym c.oldest_ready-held.ensures ∙ c.in-Nothing.is) in
+    let none = rw c.rx_of-rx.ensures at (sym c.oldest_ready-held.ensures ∙ c.in-None.is) in
     simp (long, ok, none)
 
-pub returns-in-Message : goal.returns-in-Message
+pub returns-in-Some : goal.returns-in-Some
 unfolding showing_of show_verdict hand_out_by
-returns-in-Message c = let a = c.args in
+returns-in-Some c = let a = c.args in
     let long = rw c.rx_of-rx.ensures at (sym c.lengths_ok.ensures ∙ c.if-not-lengths_ok.false) in
     let ok = c.requires.recorded (cells-lent a.words.now a.records.now a.store long) in
-    let one = rw c.rx_of-rx.ensures at (sym c.oldest_ready-held.ensures ∙ c.in-Message.is) in
+    let one = rw c.rx_of-rx.ensures at (sym c.oldest_ready-held.ensures ∙ c.in-Some.is) in
     simp (long, ok, one, c.rx_of-rx.ensures)

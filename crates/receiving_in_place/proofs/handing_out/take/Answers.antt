@@ -34,22 +34,22 @@ take_message-next-requires c = let a = c.args in
 pub put_taken-requires : goal.put_taken-requires
 put_taken-requires c = c.requires.ready.long
 
-pub returns-in-Nothing : goal.returns-in-Nothing
+pub returns-in-None : goal.returns-in-None
 unfolding take_of take_records take_verdict taken_state hand_out_by
-returns-in-Nothing c = let a = c.args in
+returns-in-None c = let a = c.args in
     let cells = rw c.rx_of-rx.ensures at c.if-records-rx.false in
     let long = eq-eqb _ _ cells in
     let ok = c.requires.recorded cells in
-    let total = rw (c.ready_bytes-bytes.ensures, c.in-Nothing.is, c.rx_of-rx.ensures) at (sym c.sum_fits.ensures ∙ c.if-not-sum_fits.false) in
-    let none = rw c.rx_of-rx.ensures at (sym c.oldest_ready-held.ensures ∙ c.in-Nothing.is) in
+    let total = rw (c.ready_bytes-bytes.ensures, c.in-None.is, c.rx_of-rx.ensures) at (sym c.sum_fits.ensures ∙ c.if-not-sum_fits.false) in
+    let none = rw c.rx_of-rx.ensures at (sym c.oldest_ready-held.ensures ∙ c.in-None.is) in
     record { value = simp (long, ok, none, total); words_after = simp (long, ok, none, total); records_after = simp (long, ok, none, total); left = λ ne. refl }
 
-pub returns-in-Message : goal.returns-in-Message
+pub returns-in-Some : goal.returns-in-Some
 unfolding take_of take_records take_verdict taken_state hand_out_by
-returns-in-Message c = let a = c.args in
+returns-in-Some c = let a = c.args in
     let cells = rw c.rx_of-rx.ensures at c.if-records-rx.false in
     let long = eq-eqb _ _ cells in
     let ok = c.requires.recorded cells in
-    let total = rw (c.ready_bytes-bytes.ensures, c.in-Message.is, c.rx_of-rx.ensures) at (sym c.sum_fits.ensures ∙ c.if-not-sum_fits.false) in
-    let one = rw c.rx_of-rx.ensures at (sym c.oldest_ready-held.ensures ∙ c.in-Message.is) in
-    let bytes = c.ready_bytes-bytes.ensures ∙ ap ready_bytes c.in-Message.is in record { value = simp (long, ok, one, total, c.rx_of-rx.ensures); words_after = simp (long, ok, one, total) (rw (c.put_taken.ensures, c.take_message-next.ensures.value, c.rx_of-rx.ensures, bytes) (ap (with_rx (state_of a.words.now)) (sym (taken-moves (state_of a.words.now).rx.cells (table_of (state_of a.words.now).rx a.records.now) _)))); records_after = simp (long, ok, one, total) (rw (c.take_message-next.ensures.records_after, c.rx_of-rx.ensures)); left = λ ne. absurd (ne refl) }
+    let total = rw (c.ready_bytes-bytes.ensures, c.in-Some.is, c.rx_of-rx.ensures) at (sym c.sum_fits.ensures ∙ c.if-not-sum_fits.false) in
+    let one = rw c.rx_of-rx.ensures at (sym c.oldest_ready-held.ensures ∙ c.in-Some.is) in
+    let bytes = c.ready_bytes-bytes.ensures ∙ ap ready_bytes c.in-Some.is in record { value = simp (long, ok, one, total, c.rx_of-rx.ensures); words_after = simp (long, ok, one, total) (rw (c.put_taken.ensures, c.take_message-next.ensures.value, c.rx_of-rx.ensures, bytes) (ap (with_rx (state_of a.words.now)) (sym (taken-moves (state_of a.words.now).rx.cells (table_of (state_of a.words.now).rx a.records.now) _)))); records_after = simp (long, ok, one, total) (rw (c.take_message-next.ensures.records_after, c.rx_of-rx.ensures)); left = λ ne. absurd (ne refl) }

@@ -26,7 +26,7 @@ queue_ack-requires c = let a = c.args in
     let long = rw c.rx_of-rx.ensures at (sym c.lengths_ok.ensures ∙ c.if-not-lengths_ok.false) in
     let v =
     receive-judged a.words.now a.records.now (length a.store.now) a.slot a.msg a.seq.0 (length a.payload.now) c.requires long
-    ∙ sym c.message_verdict-verdict.ensures ∙ c.in-Pass.is in
+    ∙ sym c.message_verdict-verdict.ensures ∙ c.in-Ok.is in
     let p = receive-passed (state_of a.words.now) _ a.records.now a.slot a.msg a.seq.0 _ v in
     (c.requires.ready.long, p.at.small, rw (row-of (state_of a.words.now) a.slot p.at.small) at p.room)
 
@@ -36,7 +36,7 @@ returns-then-is_repeat c = let a = c.args in
     let long = rw c.rx_of-rx.ensures at (sym c.lengths_ok.ensures ∙ c.if-not-lengths_ok.false) in
     let v =
     receive-judged a.words.now a.records.now (length a.store.now) a.slot a.msg a.seq.0 (length a.payload.now) c.requires long
-    ∙ sym c.message_verdict-verdict.ensures ∙ c.in-Pass.is in
+    ∙ sym c.message_verdict-verdict.ensures ∙ c.in-Ok.is in
     let r = rw c.rx_of-rx.ensures at (sym c.is_repeat.ensures ∙ c.if-is_repeat.true) in
     record { value = simp v; words_after = simp v (simp r c.queue_ack.ensures); store_after = simp v (simp r); records_after = simp v (simp r); left = λ ne. absurd (ne refl) }
 
@@ -45,17 +45,17 @@ receive_new-requires c = let a = c.args in
     let long = rw c.rx_of-rx.ensures at (sym c.lengths_ok.ensures ∙ c.if-not-lengths_ok.false) in
     let v =
     receive-judged a.words.now a.records.now (length a.store.now) a.slot a.msg a.seq.0 (length a.payload.now) c.requires long
-    ∙ sym c.message_verdict-verdict.ensures ∙ c.in-Pass.is in
+    ∙ sym c.message_verdict-verdict.ensures ∙ c.in-Ok.is in
     let r = rw c.rx_of-rx.ensures at (sym c.is_repeat.ensures ∙ c.if-is_repeat.false) in
     record { words_len = (c.requires.ready.long, c.rx_of-rx.ensures); payload_value = v; seq_value = r }
 
-pub returns-in-No : goal.returns-in-No
+pub returns-in-Err : goal.returns-in-Err
 unfolding receive_of receive_store receive_records
-returns-in-No c = let a = c.args in
+returns-in-Err c = let a = c.args in
     let long = rw c.rx_of-rx.ensures at (sym c.lengths_ok.ensures ∙ c.if-not-lengths_ok.false) in
     let v =
     receive-judged a.words.now a.records.now (length a.store.now) a.slot a.msg a.seq.0 (length a.payload.now) c.requires long
-    ∙ sym c.message_verdict-verdict.ensures ∙ c.in-No.is in
+    ∙ sym c.message_verdict-verdict.ensures ∙ c.in-Err.is in
     record { value = simp v; words_after = simp v; store_after = simp v; records_after = simp v; left = λ ne. refl }
 
 pub returns-else-is_repeat : goal.returns-else-is_repeat
@@ -64,7 +64,7 @@ returns-else-is_repeat c = let a = c.args in
     let long = rw c.rx_of-rx.ensures at (sym c.lengths_ok.ensures ∙ c.if-not-lengths_ok.false) in
     let v =
     receive-judged a.words.now a.records.now (length a.store.now) a.slot a.msg a.seq.0 (length a.payload.now) c.requires long
-    ∙ sym c.message_verdict-verdict.ensures ∙ c.in-Pass.is in
+    ∙ sym c.message_verdict-verdict.ensures ∙ c.in-Ok.is in
     let r = rw c.rx_of-rx.ensures at (sym c.is_repeat.ensures ∙ c.if-is_repeat.false) in
     let new = c.receive_new.ensures in
     record { value = simp v; words_after = simp v (simp r new.words_after); store_after = simp v (simp r new.store_after); records_after = simp v (simp r new.records_after); left = λ ne. absurd (ne refl) }

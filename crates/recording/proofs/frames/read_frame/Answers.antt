@@ -18,14 +18,14 @@ returns-in_default c = let line = c.args.line.now in
     sym (frame-bad line (omega (arith, c.if-line-gt-MAX_LINE.false)) bad)
 
 pub slice_bounds-bytes-end : goal.slice_bounds-bytes-end
-slice_bounds-bytes-end c = omega (arith, (count-says _ _ _ (sym c.read_hex.ensures.value ∙ c.in-Count.is)).1)
+slice_bounds-bytes-end c = omega (arith, (count-says _ _ _ (sym c.read_hex.ensures.value ∙ c.in-Some.is)).1)
 
 pub slice_bounds-read-end : goal.slice_bounds-read-end
-slice_bounds-read-end c = sym (length-take-le _ _ (omega (arith, (count-says _ _ _ (sym c.read_hex.ensures.value ∙ c.in-Count.is)).1)))
+slice_bounds-read-end c = sym (length-take-le _ _ (omega (arith, (count-says _ _ _ (sym c.read_hex.ensures.value ∙ c.in-Some.is)).1)))
 
 pub returns : goal.returns
 returns c = let line = c.args.line.now in
     let said = c.read_hex in
-    let counted = count-says line _ _ (sym said.ensures.value ∙ c.in-Count.is) in
-    let bytes = counted_start line _ _ _ (sym said.ensures.value ∙ c.in-Count.is) said.ensures.into_after in
+    let counted = count-says line _ _ (sym said.ensures.value ∙ c.in-Some.is) in
+    let bytes = counted_start line _ _ _ (sym said.ensures.value ∙ c.in-Some.is) said.ensures.into_after in
     c.read.ensures.value ∙ ap read_of bytes ∙ sym (frame-good line (omega (arith, c.if-line-gt-MAX_LINE.false)) counted.2)

@@ -22,19 +22,19 @@ returns-in_default c = let a = c.args in
 
 pub slice_bounds-bytes-end : goal.slice_bounds-bytes-end
 slice_bounds-bytes-end c = let read = c.read_payload in
-    rw read.ensures.into_after (payload-room _ _ _ (search rules) (sym read.ensures.value ∙ c.in-Count.is))
+    rw read.ensures.into_after (payload-room _ _ _ (search rules) (sym read.ensures.value ∙ c.in-Some.is))
 
 pub slice_bounds-receive_frame-end : goal.slice_bounds-receive_frame-end
 slice_bounds-receive_frame-end c =
     let read = c.read_payload in
-    let room : c.in-Count.n ≤ length read.new.into = rw read.ensures.into_after (payload-room _ _ _ (search rules) (sym read.ensures.value ∙ c.in-Count.is)) in
+    let room : c.in-Some.n ≤ length read.new.into = rw read.ensures.into_after (payload-room _ _ _ (search rules) (sym read.ensures.value ∙ c.in-Some.is)) in
     sym (length-take-le _ _ room)
 
 pub returns : goal.returns
 returns c = let a = c.args in
     let h = recorded a.s a.records.now in
     let read = c.read_payload in
-    let said = sym read.ensures.value ∙ c.in-Count.is in
+    let said = sym read.ensures.value ∙ c.in-Some.is in
     let t = (payload-says a.line.now [] _ said).2 in
-    let bytes : take c.in-Count.n read.new.into ≡ spelt a.line.now = rw read.ensures.into_after (payload-start _ _ _ (search rules) said) in
+    let bytes : take c.in-Some.n read.new.into ≡ spelt a.line.now = rw read.ensures.into_after (payload-start _ _ _ (search rules) said) in
     c.receive_frame.ensures ∙ ap (received h a.store.now Data a.seq) bytes ∙ sym (payload-good h a.store.now a.seq a.line.now t)

@@ -2,8 +2,8 @@
 use mathlib.Core.Path.{◌∙◌}
 use Rattle.runs.proofs.answers.tell_sent.Goals as goal
 
-pub returns-in-No : goal.returns-in-No
-returns-in-No c = simp c.in-No.is c.refused.ensures
+pub returns-in-Err : goal.returns-in-Err
+returns-in-Err c = simp c.in-Err.is c.refused.ensures
 
-pub returns-in-Number : goal.returns-in-Number
-returns-in-Number c = simp c.in-Number.is (c.done.ensures ∙ simp c.word.ensures)
+pub returns-in-Ok : goal.returns-in-Ok
+returns-in-Ok c = simp c.in-Ok.is (c.done.ensures ∙ simp c.word.ensures)

@@ -9,10 +9,10 @@ pub returns-then-call-ge-HALF : goal.returns-then-call-ge-HALF
 unfolding receive_asked
 returns-then-call-ge-HALF c = λ s. none-did _ _ _ (simp (le-ltb _ _ c.if-call-ge-HALF.true)) c.no_call.ensures s c.args.received.now c.args.records.now
 
-pub returns-in-Nothing : goal.returns-in-Nothing
+pub returns-in-None : goal.returns-in-None
 unfolding receive_asked
-returns-in-Nothing c = λ s. none-did _ _ _ (simp (lt-ltb _ _ c.if-call-ge-HALF.false, (sym c.message_given-given.ensures ∙ c.in-Nothing.is))) c.no_call-in-Nothing.ensures s c.args.received.now c.args.records.now
+returns-in-None c = λ s. none-did _ _ _ (simp (lt-ltb _ _ c.if-call-ge-HALF.false, (sym c.message_given-given.ensures ∙ c.in-None.is))) c.no_call-in-None.ensures s c.args.received.now c.args.records.now
 
-pub returns-in-Message : goal.returns-in-Message
+pub returns-in-Some : goal.returns-in-Some
 unfolding receive_asked
-returns-in-Message c = simp (lt-ltb _ _ c.if-call-ge-HALF.false, (sym c.message_given-given.ensures ∙ c.in-Message.is)) c.receive_message.ensures
+returns-in-Some c = simp (lt-ltb _ _ c.if-call-ge-HALF.false, (sym c.message_given-given.ensures ∙ c.in-Some.is)) c.receive_message.ensures

@@ -11,12 +11,12 @@ first_sent-first-requires c =
 
 pub deadline-at-requires : goal.deadline-at-requires
 deadline-at-requires c =
-    (c.requires.0.long, first-within (state_of c.args.words.now) c.in-Is.flight (ready-sound c.args.words.now c.requires.0) (sym c.first_sent-first.ensures ∙ c.in-Is.is), c.requires.1)
+    (c.requires.0.long, first-within (state_of c.args.words.now) c.in-Some.flight (ready-sound c.args.words.now c.requires.0) (sym c.first_sent-first.ensures ∙ c.in-Some.is), c.requires.1)
 
-pub returns-in-Nothing : goal.returns-in-Nothing
-returns-in-Nothing c = let first = sym c.first_sent-first.ensures ∙ c.in-Nothing.is in
+pub returns-in-None : goal.returns-in-None
+returns-in-None c = let first = sym c.first_sent-first.ensures ∙ c.in-None.is in
     simp first
 
-pub returns-in-Is : goal.returns-in-Is
-returns-in-Is c = let first = sym c.first_sent-first.ensures ∙ c.in-Is.is in
+pub returns-in-Some : goal.returns-in-Some
+returns-in-Some c = let first = sym c.first_sent-first.ensures ∙ c.in-Some.is in
     simp (first, c.was_flushed.ensures, c.deadline-at.ensures)

@@ -8,12 +8,12 @@ pub put_flushed-requires : goal.put_flushed-requires
 put_flushed-requires c =
     (c.requires.long, (ready-sound c.args.words.now c.requires).packet-count)
 
-pub returns-in-No : goal.returns-in-No
+pub returns-in-Err : goal.returns-in-Err
 unfolding flush_of
-returns-in-No c = let e = sym c.timed_verdict-verdict.ensures ∙ c.in-No.is in
+returns-in-Err c = let e = sym c.timed_verdict-verdict.ensures ∙ c.in-Err.is in
     record { value = simp e; words_after = simp e; left = λ ne. refl }
 
-pub returns-in-Pass : goal.returns-in-Pass
+pub returns-in-Ok : goal.returns-in-Ok
 unfolding flush_of
-returns-in-Pass c = let e = (sym c.timed_verdict-verdict.ensures ∙ c.in-Pass.is) in
+returns-in-Ok c = let e = (sym c.timed_verdict-verdict.ensures ∙ c.in-Ok.is) in
     record { value = simp e; words_after = simp (e, c.put_flushed.ensures); left = λ ne. absurd (ne refl) }

@@ -14,22 +14,22 @@ pub put_resent-requires : goal.put_resent-requires
 unfolding packet_of
 put_resent-requires c =
     let s = state_of c.args.words.now in
-    let e = sym c.resend_verdict-verdict.ensures ∙ c.in-Pass.is in
+    let e = sym c.resend_verdict-verdict.ensures ∙ c.in-Ok.is in
     let u32 : c.args.seq.0 < 2 ^ 32 = omega (arith, c.well_formed) in
     let shaped = (shaped-words c.args.words.now c.requires.long (λ i. (c.slice_known-1.given i).fits)) in
     let here : c.packet_at-p.result ≡ looked_at s.tx c.args.seq.0 = c.packet_at-p.ensures.value ∙ ap (λ n. get_or s.tx.txed_packets n no_packet) c.cell_of.ensures.value ∙ resend-cell s c.args.slot c.args.time c.args.seq.0 shaped u32 e in
     (c.requires, e, here)
 
-pub returns-in-No : goal.returns-in-No
+pub returns-in-Err : goal.returns-in-Err
 unfolding resend_of
-returns-in-No c = let e = sym c.resend_verdict-verdict.ensures ∙ c.in-No.is in
+returns-in-Err c = let e = sym c.resend_verdict-verdict.ensures ∙ c.in-Err.is in
     record { value = simp e; words_after = simp e; left = λ ne. refl }
 
-pub returns-in-Pass : goal.returns-in-Pass
+pub returns-in-Ok : goal.returns-in-Ok
 unfolding resend_of packet_of
-returns-in-Pass c =
+returns-in-Ok c =
     let s = state_of c.args.words.now in
-    let e = sym c.resend_verdict-verdict.ensures ∙ c.in-Pass.is in
+    let e = sym c.resend_verdict-verdict.ensures ∙ c.in-Ok.is in
     let u32 : c.args.seq.0 < 2 ^ 32 = omega (arith, c.well_formed) in
     let shaped = (shaped-words c.args.words.now c.requires.long (λ i. (c.slice_known-1.given i).fits)) in
     let here : c.packet_at-p.result ≡ looked_at s.tx c.args.seq.0 = c.packet_at-p.ensures.value ∙ ap (λ n. get_or s.tx.txed_packets n no_packet) c.cell_of.ensures.value ∙ resend-cell s c.args.slot c.args.time c.args.seq.0 shaped u32 e in

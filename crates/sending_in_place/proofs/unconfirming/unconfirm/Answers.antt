@@ -8,14 +8,14 @@ use Rattle.sending_in_place.proofs.unconfirming.unconfirm.Goals as goal
 
 pub put_unconfirmed-requires : goal.put_unconfirmed-requires
 put_unconfirmed-requires c =
-    (c.requires.long, (slot-passed (state_of c.args.words.now) c.args.slot (sym c.slot_verdict-verdict.ensures ∙ c.in-Pass.is)).small, (ready-sound c.args.words.now c.requires).packet-count)
+    (c.requires.long, (slot-passed (state_of c.args.words.now) c.args.slot (sym c.slot_verdict-verdict.ensures ∙ c.in-Ok.is)).small, (ready-sound c.args.words.now c.requires).packet-count)
 
-pub returns-in-No : goal.returns-in-No
+pub returns-in-Err : goal.returns-in-Err
 unfolding unconfirm_of
-returns-in-No c = let e = sym c.slot_verdict-verdict.ensures ∙ c.in-No.is in
+returns-in-Err c = let e = sym c.slot_verdict-verdict.ensures ∙ c.in-Err.is in
     record { value = simp e; words_after = simp e; left = λ ne. refl }
 
-pub returns-in-Pass : goal.returns-in-Pass
+pub returns-in-Ok : goal.returns-in-Ok
 unfolding unconfirm_of
-returns-in-Pass c = let e = (sym c.slot_verdict-verdict.ensures ∙ c.in-Pass.is) in
+returns-in-Ok c = let e = (sym c.slot_verdict-verdict.ensures ∙ c.in-Ok.is) in
     record { value = simp e; words_after = simp (e, c.put_unconfirmed.ensures); left = λ ne. absurd (ne refl) }

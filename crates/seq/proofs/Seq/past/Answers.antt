@@ -8,8 +8,8 @@ use Rattle.seq.proofs.Seq.past.Goals as goal
 
 pub overflow_cast-result : goal.overflow_cast-result
 overflow_cast-result c = let a = c.args in
-    let d = c.in-By.d in
-    let e = sym c.distance.ensures ∙ c.in-By.is in
+    let d = c.in-Some.d in
+    let e = sym c.distance.ensures ∙ c.in-Some.is in
     let read = read_back a.self.0 a.other.0 d e in
     subst⁻¹ (λ (z : ℤ). T (non_neg z) × Fits w32 (nat_abs z)) read
     (past_fits d (by-small a.self.0 a.other.0 d e) (sym (ap (le_z (pos 0)) read) ∙ c.if-d-ge0.true))
@@ -17,19 +17,19 @@ overflow_cast-result c = let a = c.args in
 pub returns-then-d-ge0 : goal.returns-then-d-ge0
 unfolding past
 returns-then-d-ge0 c = let a = c.args in
-    let d = c.in-By.d in
-    let e = sym c.distance.ensures ∙ c.in-By.is in
+    let d = c.in-Some.d in
+    let e = sym c.distance.ensures ∙ c.in-Some.is in
     let read = read_back a.self.0 a.other.0 d e in
     ap nat_abs read ∙ past_is d (sym (ap (le_z (pos 0)) read) ∙ c.if-d-ge0.true) ∙ sym (ap past_as e)
 
 pub returns-else-d-ge0 : goal.returns-else-d-ge0
 unfolding past
 returns-else-d-ge0 c = let a = c.args in
-    let d = c.in-By.d in
-    let e = sym c.distance.ensures ∙ c.in-By.is in
+    let d = c.in-Some.d in
+    let e = sym c.distance.ensures ∙ c.in-Some.is in
     let read = read_back a.self.0 a.other.0 d e in
     behind-is d (sym (ap (le_z (pos 0)) read) ∙ c.if-d-ge0.false) ∙ sym (ap past_as e)
 
-pub returns-in-Far : goal.returns-in-Far
+pub returns-in-None : goal.returns-in-None
 unfolding past
-returns-in-Far c = ap past_as (sym c.in-Far.is ∙ c.distance.ensures)
+returns-in-None c = ap past_as (sym c.in-None.is ∙ c.distance.ensures)

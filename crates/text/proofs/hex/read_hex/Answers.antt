@@ -45,9 +45,9 @@ pub loop-i-preserved : goal.loop-i-preserved
 loop-i-preserved c = let l = c.loop-i in
     let a = c.args in
     let run = a.run.now in
-    let b = c.in-Byte.b in
+    let b = c.in-Some.b in
     let h : l.i * 2 + 1 < length run = omega arith in
-    let e = sym c.pair_at-pair.ensures ∙ c.in-Byte.is in
+    let e = sym c.pair_at-pair.ensures ∙ c.in-Some.is in
     let rest : drop (l.i + 1) l.into ≡ drop (l.i + 1) a.into.now = sym (drop-drop 1 l.i l.into) ∙ ap (drop 1) l.invariant.6 ∙ drop-drop 1 l.i a.into.now in
     (simp length-set l.invariant.0, refl, omega arith, simp length-set l.invariant.3, sym (spells-good run l.i h b e) ∙ l.invariant.4, spelt-good run l.i h l.into b (omega arith) e ∙ l.invariant.5, drop-set-lt (l.i + 1) l.into l.i b (omega arith) ∙ rest)
 

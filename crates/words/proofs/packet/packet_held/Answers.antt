@@ -1,8 +1,8 @@
 -- By what the word says.
 use Rattle.words.proofs.packet.packet_held.Goals as goal
 
-pub returns-in-Message : goal.returns-in-Message
-returns-in-Message c = simp c.in-Message.is c.new.ensures
+pub returns-in-Some : goal.returns-in-Some
+returns-in-Some c = simp c.in-Some.is c.new.ensures
 
-pub returns-in-Nothing : goal.returns-in-Nothing
-returns-in-Nothing c = simp c.in-Nothing.is c.new-in-Nothing.ensures
+pub returns-in-None : goal.returns-in-None
+returns-in-None c = simp c.in-None.is c.new-in-None.ensures

@@ -1,11 +1,11 @@
 -- By the flag.
+use Rattle.std.specs.Prelude.{Some}
 use mathlib.Core.Path.{sym, ap, ◌∙◌}
-use Rattle.link.specs.declared.row.Limit.TheVariants.{At}
 use mathlib.Core.Path.{sym, ◌∙◌}
 use Rattle.words.proofs.row.limit_of.Goals as goal
 
 pub returns-then-is_set : goal.returns-then-is_set
-returns-then-is_set c = simp (sym c.is_set.ensures ∙ c.if-is_set.true) (ap At c.seq_word.ensures)
+returns-then-is_set c = simp (sym c.is_set.ensures ∙ c.if-is_set.true) (ap Some c.seq_word.ensures)
 
 pub returns : goal.returns
 returns c = simp (sym c.is_set.ensures ∙ c.if-is_set.false)

@@ -2,10 +2,10 @@
 use Rattle.link.specs.Slow.{above_max_ping}
 use Rattle.link.proofs.row.LinkRow.is_above_max_ping.Goals as goal
 
-pub returns-in-Unlimited : goal.returns-in-Unlimited
+pub returns-in-None : goal.returns-in-None
 unfolding above_max_ping
-returns-in-Unlimited c = simp c.in-Unlimited.is
+returns-in-None c = simp c.in-None.is
 
-pub returns-in-UpTo : goal.returns-in-UpTo
+pub returns-in-Some : goal.returns-in-Some
 unfolding above_max_ping
-returns-in-UpTo c = simp c.in-UpTo.is
+returns-in-Some c = simp c.in-Some.is

@@ -6,10 +6,10 @@ pub returns-then-self : goal.returns-then-self
 unfolding slow_row
 returns-then-self c = simp c.if-self.true
 
-pub returns-in-Unlimited : goal.returns-in-Unlimited
+pub returns-in-None : goal.returns-in-None
 unfolding slow_row
-returns-in-Unlimited c = simp (c.if-self.false, c.in-Unlimited.is)
+returns-in-None c = simp (c.if-self.false, c.in-None.is)
 
-pub returns-in-UpTo : goal.returns-in-UpTo
+pub returns-in-Some : goal.returns-in-Some
 unfolding slow_row
-returns-in-UpTo c = simp (c.if-self.false, c.in-UpTo.is)
+returns-in-Some c = simp (c.if-self.false, c.in-Some.is)

@@ -2,10 +2,10 @@
 use Rattle.link.specs.Roundtrip.{ponged_as}
 use Rattle.link.proofs.row.LinkRow.pong.Goals as goal
 
-pub returns-in-Idle : goal.returns-in-Idle
+pub returns-in-None : goal.returns-in-None
 unfolding ponged_as
-returns-in-Idle c = simp c.in-Idle.is
+returns-in-None c = simp c.in-None.is
 
-pub returns-in-Since : goal.returns-in-Since
+pub returns-in-Some : goal.returns-in-Some
 unfolding ponged_as
-returns-in-Since c = simp (c.in-Since.is, c.with_ping-out.ensures, c.less.ensures)
+returns-in-Some c = simp (c.in-Some.is, c.with_ping-out.ensures, c.less.ensures)
