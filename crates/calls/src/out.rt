@@ -1,4 +1,7 @@
-// Standard output, through a buffer. Each function takes the place up to which the buffer is full, and answers the new one.
+// Standard output, through a buffer.
+use engine::DATA_BYTES;
+use std::fmt;
+
 const STDOUT_FILENO: i32 = 1;
 
 const STDERR_FILENO: i32 = 2;
@@ -9,81 +12,110 @@ pub fn complain(what: &[u8]) {
     io::write_all(STDERR_FILENO, what);
 }
 
-// Whether a part could be written; where not, it is told.
-fn write(part: &[u8]) -> bool {
-    if io::write_all(STDOUT_FILENO, part) {
-        return true;
+#[derive(Drop)]
+pub struct Out<'a> {
+    buffer: &'a mut Buffer,
+    // up to where the buffer is full
+    length: usize,
+}
+
+impl<'a> Out<'a> {
+    pub fn new(buffer: &'a mut Buffer) -> Self {
+        Self { buffer, length: 0 }
     }
-    complain(b"calls: standard output cannot be written\n");
-    false
 }
 
-// Writes out what the buffer holds, and answers whether it could be written.
-pub fn write_out(out: &[u8], at: usize) -> bool {
-    if at <= out.len() {
-        return write(&out[0..at]);
+impl Out<'_> {
+    // Puts a run of bytes, where there is room for it.
+    fn try_put(&mut self, run: &[u8]) -> Option<()> {
+        let start = self.length;
+        let end = start.checked_add(run.len())?;
+        let room = self.buffer.get_mut(start..end)?;
+        room.copy_from_slice(run);
+        self.length = end;
+        Some(())
     }
-    complain(b"calls: a place past the output buffer\n");
-    false
-}
 
-// Makes room in the buffer.
-pub fn flush(out: &[u8], at: usize) -> usize {
-    write_out(out, at);
-    0
-}
-
-// Puts a run of bytes that is shorter than the buffer.
-pub fn put(out: &mut Buffer, at: usize, run: &[u8]) -> usize {
-    let end = text::put(run, out, at);
-    if end != at {
-        return end;
+    // Puts a run of bytes that is shorter than the buffer.
+    fn put(&mut self, run: &[u8]) {
+        if self.try_put(run).is_none() {
+            self.flush();
+            self.try_put(run);
+        }
     }
-    let start = flush(out, at);
-    text::put(run, out, start)
-}
 
-pub fn number(out: &mut Buffer, at: usize, n: u64) -> usize {
-    let end = text::put_decimal(n, out, at);
-    if end != at {
-        return end;
+    // Puts a text, or what `format_args!` makes.
+    pub fn say(&mut self, text: impl fmt::Display + Drop) {
+        let _ = fmt::Write::write(self, text);
     }
-    let start = flush(out, at);
-    text::put_decimal(n, out, start)
-}
 
-fn hex(out: &mut Buffer, at: usize, b: u8) -> usize {
-    let end = text::put_hex(b, out, at);
-    if end != at {
-        return end;
+    // Makes room in the buffer, and answers whether what it held could be written; where not, it is told.
+    pub fn flush(&mut self) -> bool {
+        let held = self.buffer.get(..self.length).unwrap_or(&[]);
+        self.length = 0;
+        if io::write_all(STDOUT_FILENO, held) {
+            return true;
+        }
+        complain(b"calls: standard output cannot be written\n");
+        false
     }
-    let start = flush(out, at);
-    text::put_hex(b, out, start)
 }
 
-fn hex_all(out: &mut Buffer, at: usize, bytes: &[u8]) -> usize {
-    let mut end = at;
-    for b in bytes {
-        end = hex(out, end, *b);
+impl fmt::Write for Out<'_> {
+    fn write_str(&mut self, text: &str) -> fmt::Result {
+        self.put(text.as_bytes());
+        Ok(())
     }
-    end
 }
 
-// Bytes behind a space, or `-` where there are none.
-pub fn bytes(out: &mut Buffer, at: usize, bytes: &[u8]) -> usize {
-    if bytes.len() == 0 {
-        return put(out, at, b" -");
+// Bytes in hexadecimal, or `-` where there are none.
+#[derive(Clone, Copy)]
+pub struct Hex<'a>(pub &'a [u8]);
+
+impl fmt::Display for Hex<'_> {
+    fn fmt<W: fmt::Write>(&self, f: &mut fmt::Formatter<W>) -> fmt::Result {
+        if self.0.is_empty() {
+            return f.write_str("-");
+        }
+        for b in self.0 {
+            write!(f, "{b:02x}")?;
+        }
+        Ok(())
     }
-    let start = put(out, at, b" ");
-    hex_all(out, start, bytes)
 }
 
-// A number behind a space.
-pub fn next(out: &mut Buffer, at: usize, n: u64) -> usize {
-    let start = put(out, at, b" ");
-    number(out, start, n)
+// A cell of a store: as many bytes of it as a length says. A sound state has no length past the cell, so that there are always those.
+#[derive(Clone, Copy)]
+pub struct Cell<'a>(Option<&'a [u8]>);
+
+impl<'a> Cell<'a> {
+    pub fn of(store: &'a [u8], cell: u32, length: u32) -> Self {
+        let start = cell as usize * DATA_BYTES;
+        Self(store.get(start..start + length as usize))
+    }
 }
 
-pub fn end(out: &mut Buffer, at: usize) -> usize {
-    put(out, at, b"\n")
+impl fmt::Display for Cell<'_> {
+    fn fmt<W: fmt::Write>(&self, f: &mut fmt::Formatter<W>) -> fmt::Result {
+        match self.0 {
+            Some(bytes) => {
+                let hex = Hex(bytes);
+                write!(f, "{hex}")
+            }
+            None => f.write_str("!"),
+        }
+    }
+}
+
+// A number, or `-` where there is none.
+#[derive(Clone, Copy)]
+pub struct Maybe(pub Option<u64>);
+
+impl fmt::Display for Maybe {
+    fn fmt<W: fmt::Write>(&self, f: &mut fmt::Formatter<W>) -> fmt::Result {
+        match self.0 {
+            Some(n) => write!(f, "{n}"),
+            None => f.write_str("-"),
+        }
+    }
 }

@@ -2,11 +2,10 @@
 // the store of the most cells. So a script is answered in a small room, and goes on in a large one from an accepted `fresh` on that asks
 // for more cells than the small one has. That one starts over with stores of zero bytes: nothing of the old store is carried over.
 use crate::call::MOST_RECEIVED_LENT;
-use crate::input::{Line, Piece};
-use crate::out::Buffer;
-use crate::run::{Payload, Records, SentStore};
-use crate::session::Session;
-use crate::{input, out, session, stack};
+use crate::input::Input;
+use crate::out::complain;
+use crate::run::End;
+use crate::stack;
 use engine::DATA_BYTES;
 use std::io::Read;
 use std::rt::Files;
@@ -25,154 +24,40 @@ type SmallStore = [u8; SMALL_ROOM];
 
 type LargeStore = [u8; MOST_RECEIVED_LENT];
 
-// Lends the store as a run of bytes. Where a store is made, the checker would count its bytes one by one for that.
-fn with_small_store(
-    s: Session,
-    source: &mut impl Read,
-    input: &mut Piece,
-    line: &mut Line,
-    payload: &mut Payload,
-    sent: &mut SentStore,
-    received: &mut SmallStore,
-    records: &mut Records,
-    out: &mut Buffer,
-) -> Session {
-    input::answer_all(
-        s, source, input, line, payload, sent, received, records, out,
-    )
+// Two for the two rooms: of one that is generic in the store's length, the check did not prove that the store it makes fits in memory.
+// Each lends its store as a run of bytes: where a store is made, the checker would count its bytes one by one for that.
+fn with_small_store(input: &mut Input<impl Read>, end: &mut End, received: &mut SmallStore) {
+    input.answer_all(end, received);
 }
 
-fn in_small_room(
-    s: Session,
-    source: &mut impl Read,
-    input: &mut Piece,
-    line: &mut Line,
-    payload: &mut Payload,
-    sent: &mut SentStore,
-    records: &mut Records,
-    out: &mut Buffer,
-) -> Session {
+fn with_large_store(input: &mut Input<impl Read>, end: &mut End, received: &mut LargeStore) {
+    input.answer_all(end, received);
+}
+
+fn in_small_room(input: &mut Input<impl Read>, end: &mut End) {
     let mut received = [0u8; SMALL_ROOM];
-    with_small_store(
-        s,
-        source,
-        input,
-        line,
-        payload,
-        sent,
-        &mut received,
-        records,
-        out,
-    )
+    with_small_store(input, end, &mut received);
 }
 
-fn with_large_store(
-    s: Session,
-    source: &mut impl Read,
-    input: &mut Piece,
-    line: &mut Line,
-    payload: &mut Payload,
-    sent: &mut SentStore,
-    received: &mut LargeStore,
-    records: &mut Records,
-    out: &mut Buffer,
-) -> Session {
-    input::answer_all(
-        s, source, input, line, payload, sent, received, records, out,
-    )
-}
-
-// Goes on in the large room to the end of the input; were the turns of `input` ever used up, with as many again. A function that calls
-// itself is never compiled into its caller. There its store would be in the caller's frame, and every script would take the large stack.
-fn in_large_room(
-    s: Session,
-    again: u64,
-    source: &mut impl Read,
-    input: &mut Piece,
-    line: &mut Line,
-    payload: &mut Payload,
-    sent: &mut SentStore,
-    records: &mut Records,
-    out: &mut Buffer,
-) -> Session {
+// Never compiled into its caller: there its store would be in the caller's frame, and every script would take the large stack.
+#[inline(never)]
+fn in_large_room(input: &mut Input<impl Read>, end: &mut End) {
     let mut received = [0u8; MOST_RECEIVED_LENT];
-    let end = with_large_store(
-        s,
-        source,
-        input,
-        line,
-        payload,
-        sent,
-        &mut received,
-        records,
-        out,
-    );
-    if !end.is_open {
-        return end;
-    }
-    if again == 0 {
-        return end;
-    }
-    in_large_room(
-        end,
-        again - 1,
-        source,
-        input,
-        line,
-        payload,
-        sent,
-        records,
-        out,
-    )
+    with_large_store(input, end, &mut received);
 }
 
-// Goes on with what the small room left, if the stack may grow so far. Where it may not, that is told, and nothing more is answered.
-fn go_on(
-    rt: &(impl Files + Alloc),
-    s: Session,
-    source: &mut impl Read,
-    input: &mut Piece,
-    line: &mut Line,
-    payload: &mut Payload,
-    sent: &mut SentStore,
-    records: &mut Records,
-    out: &mut Buffer,
-) -> Session {
-    if !s.is_open {
-        return s;
+// Answers every line. What the small room left goes on in the large one, if the stack may grow so far; where it may not, that is told, and
+// nothing more is answered.
+pub fn script(rt: &(impl Files + Alloc), input: &mut Input<impl Read>, end: &mut End) {
+    in_small_room(input, end);
+    if input.is_open() {
+        if stack::may_take(rt, LARGE_STACK) {
+            in_large_room(input, end);
+        } else {
+            complain(
+                b"calls: more than 4096 cells take a stack of 80 MiB, which its limit does not allow\n",
+            );
+        }
     }
-    if !stack::may_take(rt, LARGE_STACK) {
-        out::complain(
-            b"calls: more than 4096 cells take a stack of 80 MiB, which its limit does not allow\n",
-        );
-        return s;
-    }
-    in_large_room(
-        s,
-        u64::MAX,
-        source,
-        input,
-        line,
-        payload,
-        sent,
-        records,
-        out,
-    )
-}
-
-// Answers every line of a source.
-pub fn script(
-    rt: &(impl Files + Alloc),
-    source: &mut impl Read,
-    input: &mut Piece,
-    line: &mut Line,
-    payload: &mut Payload,
-    sent: &mut SentStore,
-    records: &mut Records,
-    out: &mut Buffer,
-) {
-    let start = session::start();
-    let s = in_small_room(start, source, input, line, payload, sent, records, out);
-    let end = go_on(rt, s, source, input, line, payload, sent, records, out);
-    out::flush(out, end.at);
+    end.out.flush();
 }

@@ -1,11 +1,10 @@
 // Runs each call, and prints what it answers.
-use crate::call::{Call, MOST_RECORDS_LENT, MOST_SENT_LENT, Plain, Stored};
-use crate::lending::within;
-use crate::out::Buffer;
-use crate::session::Session;
-use crate::words::first;
-use crate::{answer, dump, lending, message, out, rows};
-use engine::{Changed, DATA_BYTES};
+use crate::call::{Call, MOST_RECORDS_LENT, MOST_ROOM, MOST_SENT_LENT, OnState, parse};
+use crate::dump::{self, PACKET_ROUND};
+use crate::message::Told;
+use crate::out::{Cell, Hex, Out};
+use crate::rows;
+use engine::{Changed, DATA_BYTES, SENT_BYTES, State};
 use link::AckTimeout;
 use msg::{LinkMsg, ReliableMsg};
 use refusal::Refusal;
@@ -17,407 +16,324 @@ pub type SentStore = [u8; MOST_SENT_LENT];
 pub type Records = [u64; MOST_RECORDS_LENT];
 
 // The bytes of a call, and the buffer that `write` writes to.
-pub type Payload = [u8; 2048];
+pub type Payload = [u8; MOST_ROOM];
 
 // What the buffer that `write` lends is filled with.
 const FILLER: u8 = 0xee;
 
-pub fn unknown(s: Session, out: &mut Buffer) -> Session {
-    let at = answer::unknown(out, s.at);
-    s.to(at)
+// The first n, or all where there are fewer.
+pub fn first<T>(run: &[T], n: usize) -> &[T] {
+    &run[..n.min(run.len())]
 }
 
-fn changed(s: Session, res: Changed, out: &mut Buffer) -> Session {
-    let outcome = res.outcome;
-    let state = res.state;
-    let at = answer::outcome(out, s.at, outcome);
-    s.with(state, at)
+fn first_mut<T>(run: &mut [T], n: usize) -> &mut [T] {
+    let end = n.min(run.len());
+    &mut run[..end]
 }
 
-// How many records a `fresh` is lent: as many as it asks for, unless a `lend` said how many. Where it asks for more than there are, it is
-// lent all, and refused before they are counted.
-fn lent_to_fresh(s: Session, cells: u32) -> usize {
-    if s.are_records_set {
-        s.records
-    } else {
-        cells as usize
-    }
+// The bytes of a call. What the check knows of an array that a function made itself is too much for it to lend a part of it there.
+fn of_payload(payload: &Payload, length: usize) -> &[u8] {
+    first(payload, length)
 }
 
-// An accepted `fresh` starts over with stores of zero bytes: of the received one, the bytes of its cells.
-fn fresh(
-    s: Session,
-    start: u32,
-    buffer: u32,
-    cells: u32,
-    sent: &mut SentStore,
-    received: &mut [u8],
-    records: &mut [u64],
-    out: &mut Buffer,
-) -> Session {
-    let count = within(lent_to_fresh(s, cells), records.len());
-    let result = engine::fresh(Seq(start), buffer, cells, &mut records[0..count]);
-    let outcome = result.outcome;
-    let state = result.state;
-    let at = answer::outcome(out, s.at, outcome);
-    match outcome {
-        Ok(()) => {
-            *sent = [0; MOST_SENT_LENT];
-            lending::clear_first(received, cells as usize * DATA_BYTES);
-            s.over(state, cells, at)
-        }
-        Err(_) => s.to(at),
-    }
+// With how many bytes the stores are lent, and how many records, where a `lend` said so; else with as many as they have.
+#[derive(Clone, Copy)]
+struct Lent {
+    sent: Option<usize>,
+    received: Option<usize>,
+    records: Option<usize>,
 }
 
-fn add(
-    s: Session,
-    id: u64,
-    trip: u64,
-    max: Option<u64>,
-    blocked: bool,
-    unconfirmed: bool,
-    out: &mut Buffer,
-) -> Session {
-    let before = s.state;
-    let result = engine::add(before, id, trip, max, blocked, unconfirmed);
-    let answer = result.answer;
-    let state = result.state;
-    let at = answer::added(out, s.at, answer);
-    s.with(state, at)
+impl Lent {
+    const ALL: Self = Self {
+        sent: None,
+        received: None,
+        records: None,
+    };
 }
 
-fn remove(s: Session, slot: u8, out: &mut Buffer) -> Session {
-    let state = s.state;
-    changed(s, engine::remove(state, slot), out)
+// An end, and what its calls are lent; but for the received store, which is in one room or another.
+#[derive(Drop)]
+pub struct End<'a> {
+    // none until a `fresh` was accepted
+    state: Option<State>,
+    lent: Lent,
+    payload: &'a mut Payload,
+    sent: &'a mut SentStore,
+    records: &'a mut Records,
+    pub out: Out<'a>,
 }
 
-fn confirm(s: Session, slot: u8, out: &mut Buffer) -> Session {
-    let state = s.state;
-    changed(s, engine::confirm(state, slot), out)
-}
-
-fn unconfirm(s: Session, slot: u8, out: &mut Buffer) -> Session {
-    let state = s.state;
-    changed(s, engine::unconfirm(state, slot), out)
-}
-
-fn block(s: Session, slot: u8, blocked: bool, out: &mut Buffer) -> Session {
-    let state = s.state;
-    changed(s, engine::block(state, slot, blocked), out)
-}
-
-fn ping(s: Session, slot: u8, time: u64, out: &mut Buffer) -> Session {
-    let state = s.state;
-    changed(s, engine::ping(state, slot, time), out)
-}
-
-fn flush(s: Session, slot: u8, time: u64, out: &mut Buffer) -> Session {
-    let state = s.state;
-    changed(s, engine::flush(state, slot, time), out)
-}
-
-fn pong(s: Session, slot: u8, time: u64, out: &mut Buffer) -> Session {
-    let state = s.state;
-    changed(s, engine::pong(state, slot, time), out)
-}
-
-fn mark(s: Session, slot: u8, n: u32, out: &mut Buffer) -> Session {
-    let state = s.state;
-    changed(s, engine::mark(state, slot, Seq(n)), out)
-}
-
-fn ack(s: Session, slot: u8, time: u64, n: u32, out: &mut Buffer) -> Session {
-    let state = s.state;
-    changed(s, engine::ack(state, slot, time, Seq(n)), out)
-}
-
-fn send(
-    s: Session,
-    slot: u8,
-    time: u64,
-    msg: ReliableMsg,
-    payload: &[u8],
-    sent: &mut [u8],
-    out: &mut Buffer,
-) -> Session {
-    let lent = within(s.sent, sent.len());
-    let before = s.state;
-    let result = engine::send(before, &mut sent[0..lent], slot, time, msg, payload);
-    let answer = result.answer;
-    let state = result.state;
-    let at = answer::sent(out, s.at, answer);
-    s.with(state, at)
-}
-
-fn resend(s: Session, slot: u8, time: u64, n: u32, sent: &[u8], out: &mut Buffer) -> Session {
-    let before = s.state;
-    let result = engine::resend(before, slot, time, Seq(n));
-    let answer = result.answer;
-    let state = result.state;
-    let at = answer::resent(out, s.at, answer, sent, n);
-    s.with(state, at)
-}
-
-fn receive(
-    s: Session,
-    slot: u8,
-    msg: ReliableMsg,
-    n: u32,
-    payload: &[u8],
-    received: &mut [u8],
-    records: &mut [u64],
-    out: &mut Buffer,
-) -> Session {
-    let lent = within(s.received, received.len());
-    let count = within(s.records, records.len());
-    let state = s.state;
-    let result = engine::receive(
-        state,
-        &mut received[0..lent],
-        &mut records[0..count],
-        slot,
-        msg,
-        Seq(n),
-        payload,
-    );
-    changed(s, result, out)
-}
-
-fn show(s: Session, received: &[u8], records: &[u64], out: &mut Buffer) -> Session {
-    let state = s.state;
-    let store = first(received, s.received);
-    let lent = lending::first_records(records, s.records);
-    let answer = engine::showing(state, store, lent);
-    let at = answer::shown(out, s.at, answer, engine::show(state, store, lent));
-    s.to(at)
-}
-
-fn take(s: Session, records: &mut [u64], out: &mut Buffer) -> Session {
-    let count = within(s.records, records.len());
-    let before = s.state;
-    let result = engine::take(before, &mut records[0..count]);
-    let answer = result.answer;
-    let state = result.state;
-    let at = answer::taken(out, s.at, answer);
-    s.with(state, at)
-}
-
-fn take_ack(s: Session, slot: u8, out: &mut Buffer) -> Session {
-    let before = s.state;
-    let result = engine::take_ack(before, slot);
-    let answer = result.answer;
-    let state = result.state;
-    let at = answer::taken_ack(out, s.at, answer);
-    s.with(state, at)
-}
-
-fn due(s: Session, out: &mut Buffer) -> Session {
-    let state = s.state;
-    let at = answer::due(out, s.at, engine::is_consume_ack_required(state));
-    s.to(at)
-}
-
-fn close(s: Session, out: &mut Buffer) -> Session {
-    let state = s.state;
-    changed(s, engine::close_reader(state), out)
-}
-
-fn deadline(s: Session, timeout: AckTimeout, unreliable: bool, out: &mut Buffer) -> Session {
-    let state = s.state;
-    let answer = engine::earliest_confirm_timeout(state, timeout, unreliable);
-    let at = answer::deadline(out, s.at, answer);
-    s.to(at)
-}
-
-fn slow(s: Session, n: usize, out: &mut Buffer) -> Session {
-    let state = s.state;
-    let links = state.links;
-    let told = rows::slow(links, n);
-    let outcome = told.outcome;
-    let listed = told.links;
-    let at = answer::slow(out, s.at, outcome, listed);
-    s.to(at)
-}
-
-fn dump(s: Session, sent: &[u8], received: &[u8], records: &[u64], out: &mut Buffer) -> Session {
-    let state = s.state;
-    let at = dump::all(out, s.at, state, sent, received, records);
-    s.to(at)
-}
-
-fn read(s: Session, bytes: &[u8], out: &mut Buffer) -> Session {
-    match msg::read(bytes) {
-        Ok(msg) => {
-            let a = out::put(out, s.at, b"0");
-            let b = message::put(out, a, msg);
-            let at = out::end(out, b);
-            s.to(at)
-        }
-        Err(e) => {
-            let at = answer::no(out, s.at, e);
-            s.to(at)
-        }
-    }
-}
-
-// What was written, by its length.
-fn written(out: &mut Buffer, at: usize, buffer: &[u8], answer: Result<usize, Refusal>) -> usize {
-    match answer {
-        Ok(n) => {
-            let a = out::put(out, at, b"0");
-            let b = out::bytes(out, a, first(buffer, n));
-            out::end(out, b)
-        }
-        Err(e) => answer::no(out, at, e),
-    }
-}
-
-fn write(s: Session, room: usize, msg: LinkMsg, buffer: &mut [u8], out: &mut Buffer) -> Session {
-    if buffer.len() < room {
-        return unknown(s, out);
-    }
-    let answer = msg::write(msg, &mut buffer[0..room]);
-    let at = written(out, s.at, buffer, answer);
-    s.to(at)
-}
-
-fn write_filled(
-    s: Session,
-    room: usize,
-    msg: LinkMsg,
-    buffer: &mut Payload,
-    out: &mut Buffer,
-) -> Session {
-    *buffer = [FILLER; 2048];
-    write(s, room, msg, buffer, out)
-}
-
-fn lend_sent(s: Session, length: usize, out: &mut Buffer) -> Session {
-    let at = answer::done(out, s.at);
-    let mut next = s.to(at);
-    next.sent = length;
-    next
-}
-
-fn lend_received(s: Session, length: usize, out: &mut Buffer) -> Session {
-    let at = answer::done(out, s.at);
-    let mut next = s.to(at);
-    next.received = length;
-    next
-}
-
-fn lend_records(s: Session, length: usize, out: &mut Buffer) -> Session {
-    let at = answer::done(out, s.at);
-    let mut next = s.to(at);
-    next.records = length;
-    next.are_records_set = true;
-    next
-}
-
-// A call on a state that uses no store.
-fn on_state(s: Session, call: Plain, out: &mut Buffer) -> Session {
-    match call {
-        Plain::Add(id, trip, max, blocked, unconfirmed) => add(
-            s,
-            id,
-            trip,
-            max,
-            blocked,
-            unconfirmed,
-            out,
-        ),
-        Plain::Remove(slot) => remove(s, slot, out),
-        Plain::Confirm(slot) => confirm(s, slot, out),
-        Plain::Unconfirm(slot) => unconfirm(s, slot, out),
-        Plain::Block(slot, blocked) => block(s, slot, blocked, out),
-        Plain::Ping(slot, time) => ping(s, slot, time, out),
-        Plain::Flush(slot, time) => flush(s, slot, time, out),
-        Plain::Pong(slot, time) => pong(s, slot, time, out),
-        Plain::Mark(slot, n) => mark(s, slot, n, out),
-        Plain::Ack(slot, time, n) => ack(s, slot, time, n, out),
-        Plain::TakeAck(slot) => take_ack(s, slot, out),
-        Plain::Due => due(s, out),
-        Plain::Close => close(s, out),
-        Plain::Deadline(timeout, unreliable) => deadline(s, timeout, unreliable, out),
-        Plain::Slow(n) => slow(s, n, out),
-        Plain::LendSent(n) => lend_sent(s, n, out),
-        Plain::LendReceived(n) => lend_received(s, n, out),
-        Plain::LendRecords(n) => lend_records(s, n, out),
-    }
-}
-
-// A call on a state and its stores.
-fn on_stores(
-    s: Session,
-    call: Stored,
-    payload: &[u8],
-    sent: &mut SentStore,
-    received: &mut [u8],
-    records: &mut Records,
-    out: &mut Buffer,
-) -> Session {
-    match call {
-        Stored::Send(slot, time, msg, n) => send(s, slot, time, msg, first(payload, n), sent, out),
-        Stored::Resend(slot, time, n) => resend(s, slot, time, n, sent, out),
-        Stored::Receive(slot, msg, n, len) => receive(
-            s,
-            slot,
-            msg,
-            n,
-            first(payload, len),
-            received,
+impl<'a> End<'a> {
+    pub fn new(
+        payload: &'a mut Payload,
+        sent: &'a mut SentStore,
+        records: &'a mut Records,
+        out: Out<'a>,
+    ) -> Self {
+        Self {
+            state: None,
+            lent: Lent::ALL,
+            payload,
+            sent,
             records,
             out,
-        ),
-        Stored::Show => show(s, received, records, out),
-        Stored::Take => take(s, records, out),
-        Stored::Dump => dump(s, sent, received, records, out),
+        }
     }
 }
 
-// A call on a state, where there is one.
-fn on_begun(s: Session, call: Plain, out: &mut Buffer) -> Session {
-    if s.begun {
-        on_state(s, call, out)
-    } else {
-        unknown(s, out)
+impl End<'_> {
+    // Whether the cells take more than a received store of so many bytes.
+    pub fn has_outgrown(&self, room: usize) -> bool {
+        match &self.state {
+            Some(s) => room < s.rx.cells as usize * DATA_BYTES,
+            None => false,
+        }
     }
-}
 
-fn on_begun_stores(
-    s: Session,
-    call: Stored,
-    payload: &[u8],
-    sent: &mut SentStore,
-    received: &mut [u8],
-    records: &mut Records,
-    out: &mut Buffer,
-) -> Session {
-    if s.begun {
-        on_stores(s, call, payload, sent, received, records, out)
-    } else {
-        unknown(s, out)
+    // The answer to what is not a call of the table.
+    pub fn unknown(&mut self) {
+        self.out.say("?\n");
     }
-}
 
-pub fn run(
-    s: Session,
-    call: Call,
-    payload: &mut Payload,
-    sent: &mut SentStore,
-    received: &mut [u8],
-    records: &mut Records,
-    out: &mut Buffer,
-) -> Session {
-    match call {
-        Call::Fresh(start, buffer, cells) => fresh(
-            s, start, buffer, cells, sent, received, records, out,
-        ),
-        Call::Read(n) => read(s, first(payload, n), out),
-        Call::Write(room, msg) => write_filled(s, room, msg, payload, out),
-        Call::OnState(plain) => on_begun(s, plain, out),
-        Call::OnStores(stored) => on_begun_stores(s, stored, payload, sent, received, records, out),
-        Call::Unknown => unknown(s, out),
+    // Success, with nothing to tell.
+    fn done(&mut self) -> Result<(), Refusal> {
+        self.out.say("0\n");
+        Ok(())
+    }
+
+    // .. and with a number.
+    fn told(&mut self, n: u64) -> Result<(), Refusal> {
+        self.out.say(format_args!("0 {n}\n"));
+        Ok(())
+    }
+
+    fn change(&mut self, out: Changed) -> Result<(), Refusal> {
+        self.state = Some(out.state);
+        out.outcome?;
+        self.done()
+    }
+
+    // It is lent as many records as it asks for, unless a `lend` said how many. Where it asks for more than there are, it is lent all, and
+    // refused before they are counted. An accepted one starts over with stores of zero bytes: of the received one, the bytes of its cells.
+    fn fresh(
+        &mut self,
+        start: Seq,
+        buffer: u32,
+        cells: u32,
+        received: &mut [u8],
+    ) -> Result<(), Refusal> {
+        let lent = self.lent.records.unwrap_or(cells as usize);
+        let out = engine::fresh(start, buffer, cells, first_mut(self.records, lent));
+        out.outcome?;
+        self.state = Some(out.state);
+        self.lent = Lent::ALL;
+        self.sent.fill(0);
+        first_mut(received, cells as usize * DATA_BYTES).fill(0);
+        self.done()
+    }
+
+    fn read(&mut self, length: usize) -> Result<(), Refusal> {
+        let told = Told(msg::read(first(self.payload, length))?);
+        self.out.say(format_args!("0 {told}\n"));
+        Ok(())
+    }
+
+    fn write(&mut self, room: usize, msg: LinkMsg) -> Result<(), Refusal> {
+        self.payload.fill(FILLER);
+        let length = msg::write(msg, first_mut(self.payload, room))?;
+        let written = Hex(first(self.payload, length));
+        self.out.say(format_args!("0 {written}\n"));
+        Ok(())
+    }
+
+    fn send(
+        &mut self,
+        s: State,
+        slot: u8,
+        time: u64,
+        msg: ReliableMsg,
+        length: usize,
+    ) -> Result<(), Refusal> {
+        let lent = self.lent.sent.unwrap_or(SENT_BYTES);
+        let payload = *self.payload;
+        let bytes = of_payload(&payload, length);
+        let store = first_mut(self.sent, lent);
+        let out = engine::send(s, store, slot, time, msg, bytes);
+        self.state = Some(out.state);
+        self.told(u64::from(out.answer?.0))
+    }
+
+    fn resend(&mut self, s: State, slot: u8, time: u64, seq: Seq) -> Result<(), Refusal> {
+        let out = engine::resend(s, slot, time, seq);
+        self.state = Some(out.state);
+        let (msg, length) = out.answer?;
+        let kind = msg.kind();
+        let count = msg.count();
+        let cell = Cell::of(self.sent, seq.0 % PACKET_ROUND, length);
+        self.out
+            .say(format_args!("0 {kind} {count} {length} {cell}\n"));
+        Ok(())
+    }
+
+    // How much of the received store is lent, and how many of the records.
+    fn lent_to(&self, s: &State) -> (usize, usize) {
+        let cells = s.rx.cells as usize;
+        (
+            self.lent.received.unwrap_or(cells * DATA_BYTES),
+            self.lent.records.unwrap_or(cells),
+        )
+    }
+
+    fn receive(
+        &mut self,
+        s: State,
+        slot: u8,
+        msg: ReliableMsg,
+        seq: Seq,
+        length: usize,
+        received: &mut [u8],
+    ) -> Result<(), Refusal> {
+        let payload = *self.payload;
+        let bytes = of_payload(&payload, length);
+        let (most, count) = self.lent_to(&s);
+        let store = first_mut(received, most);
+        let records = first_mut(self.records, count);
+        let out = engine::receive(s, store, records, slot, msg, seq, bytes);
+        self.change(out)
+    }
+
+    fn show(&mut self, s: State, received: &[u8]) -> Result<(), Refusal> {
+        let (bytes, count) = self.lent_to(&s);
+        let store = first(received, bytes);
+        let records = first(self.records, count);
+        engine::showing(s, store, records)?;
+        let part = Hex(engine::show(s, store, records));
+        self.out.say(format_args!("0 {part}\n"));
+        Ok(())
+    }
+
+    fn take(&mut self, s: State) -> Result<(), Refusal> {
+        let (_, count) = self.lent_to(&s);
+        let out = engine::take(s, first_mut(self.records, count));
+        self.state = Some(out.state);
+        let (msg, seq, length) = out.answer?;
+        let kind = msg.kind();
+        let n = seq.0;
+        self.out.say(format_args!("0 {kind} {n} {length}\n"));
+        Ok(())
+    }
+
+    fn take_ack(&mut self, s: State, slot: u8) -> Result<(), Refusal> {
+        let out = engine::take_ack(s, slot);
+        self.state = Some(out.state);
+        self.told(u64::from(out.answer?.0))
+    }
+
+    fn add(
+        &mut self,
+        s: State,
+        identity: u64,
+        trip: u64,
+        max: Option<u64>,
+        is_blocked: bool,
+        is_unconfirmed: bool,
+    ) -> Result<(), Refusal> {
+        let out = engine::add(s, identity, trip, max, is_blocked, is_unconfirmed);
+        self.state = Some(out.state);
+        self.told(u64::from(out.answer?))
+    }
+
+    fn deadline(&mut self, s: State, timeout: AckTimeout, is_bad: bool) -> Result<(), Refusal> {
+        match engine::earliest_confirm_timeout(s, timeout, is_bad)? {
+            Some((slot, is_flushed, deadline)) => {
+                let flushed = u8::from(is_flushed);
+                self.out
+                    .say(format_args!("0 {slot} {flushed} {deadline}\n"));
+                Ok(())
+            }
+            None => self.done(),
+        }
+    }
+
+    fn slow(&mut self, s: State, rows: usize) -> Result<(), Refusal> {
+        let links = rows::slow(&s.links, rows)?;
+        self.out.say("0");
+        for slot in first(&links.slots, links.count) {
+            self.out.say(format_args!(" {slot}"));
+        }
+        self.out.say("\n");
+        Ok(())
+    }
+
+    fn lend(&mut self, lent: Lent) -> Result<(), Refusal> {
+        self.lent = lent;
+        self.done()
+    }
+
+    fn dump(&mut self, s: State, received: &[u8]) -> Result<(), Refusal> {
+        dump::all(&mut self.out, &s, self.sent, received, self.records);
+        Ok(())
+    }
+
+    fn on_state(&mut self, s: State, call: OnState, received: &mut [u8]) -> Result<(), Refusal> {
+        let lent = self.lent;
+        match call {
+            OnState::Add(identity, trip, max, is_blocked, is_unconfirmed) => {
+                self.add(s, identity, trip, max, is_blocked, is_unconfirmed)
+            }
+            OnState::Remove(slot) => self.change(engine::remove(s, slot)),
+            OnState::Confirm(slot) => self.change(engine::confirm(s, slot)),
+            OnState::Unconfirm(slot) => self.change(engine::unconfirm(s, slot)),
+            OnState::Block(slot, blocked) => self.change(engine::block(s, slot, blocked)),
+            OnState::Ping(slot, time) => self.change(engine::ping(s, slot, time)),
+            OnState::Flush(slot, time) => self.change(engine::flush(s, slot, time)),
+            OnState::Pong(slot, time) => self.change(engine::pong(s, slot, time)),
+            OnState::Mark(slot, seq) => self.change(engine::mark(s, slot, seq)),
+            OnState::Ack(slot, time, seq) => self.change(engine::ack(s, slot, time, seq)),
+            OnState::TakeAck(slot) => self.take_ack(s, slot),
+            OnState::Due => self.told(u64::from(engine::is_consume_ack_required(s)?)),
+            OnState::Close => self.change(engine::close_reader(s)),
+            OnState::Deadline(timeout, is_bad) => self.deadline(s, timeout, is_bad),
+            OnState::Slow(rows) => self.slow(s, rows),
+            OnState::LendSent(n) => self.lend(Lent {
+                sent: Some(n),
+                ..lent
+            }),
+            OnState::LendReceived(n) => self.lend(Lent {
+                received: Some(n),
+                ..lent
+            }),
+            OnState::LendRecords(n) => self.lend(Lent {
+                records: Some(n),
+                ..lent
+            }),
+            OnState::Send(slot, time, msg, n) => self.send(s, slot, time, msg, n),
+            OnState::Resend(slot, time, seq) => self.resend(s, slot, time, seq),
+            OnState::Receive(slot, msg, seq, n) => self.receive(s, slot, msg, seq, n, received),
+            OnState::Show => self.show(s, received),
+            OnState::Take => self.take(s),
+            OnState::Dump => self.dump(s, received),
+        }
+    }
+
+    // Answers a line.
+    pub fn answer(&mut self, line: &[u8], received: &mut [u8]) {
+        let Some(call) = parse(line, self.payload) else {
+            return self.unknown();
+        };
+        let answered = match call {
+            Call::Fresh(start, buffer, cells) => self.fresh(start, buffer, cells, received),
+            Call::Read(n) => self.read(n),
+            Call::Write(room, msg) => self.write(room, msg),
+            Call::OnState(call) => match self.state {
+                Some(s) => self.on_state(s, call, received),
+                None => return self.unknown(),
+            },
+        };
+        if let Err(refusal) = answered {
+            let n = refusal.number();
+            self.out.say(format_args!("{n}\n"));
+        }
     }
 }

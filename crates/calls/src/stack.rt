@@ -8,39 +8,24 @@ const LIMITS: &str = "/proc/self/limits";
 // What the line of the stack's limit starts with. Then come the limit that holds, in bytes, and the most that it may be raised to.
 const STACK: &str = "Max stack size";
 
-// A limit in bytes, the largest number where there is none; 0 where that is not what the word says.
-fn number_of(word: &str) -> u64 {
+// A limit in bytes, the largest number where there is none.
+fn number_of(word: &str) -> Option<u64> {
     if word == "unlimited" {
-        return u64::MAX;
+        return Some(u64::MAX);
     }
-    match word.parse::<u64>() {
-        Ok(n) => n,
-        Err(_) => 0,
-    }
+    word.parse::<u64>().ok()
 }
 
 // The stack's limit that holds, among the limits.
-fn limit_in(limits: &str) -> u64 {
-    for line in limits.lines() {
-        if let Some(rest) = line.strip_prefix(STACK) {
-            return match rest.split_whitespace().next() {
-                Some(word) => number_of(word),
-                None => 0,
-            };
-        }
-    }
-    0
+fn limit_in(limits: &str) -> Option<u64> {
+    let rest = limits.lines().find_map(|line| line.strip_prefix(STACK))?;
+    number_of(rest.split_whitespace().next()?)
 }
 
-// The limit in bytes; 0 where the system does not tell it.
-fn limit(rt: &(impl Files + Alloc)) -> u64 {
-    match fs::read_to_string(rt, LIMITS) {
-        Ok(limits) => limit_in(limits.as_str()),
-        Err(_) => 0,
-    }
-}
-
-// Whether so many bytes are within the limit.
+// Whether so many bytes are within the limit. Where the system does not tell it, none are.
 pub fn may_take(rt: &(impl Files + Alloc), bytes: u64) -> bool {
-    bytes <= limit(rt)
+    match fs::read_to_string(rt, LIMITS) {
+        Ok(limits) => limit_in(limits.as_str()).is_some_and(|limit| bytes <= limit),
+        Err(_) => false,
+    }
 }

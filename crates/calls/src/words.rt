@@ -1,124 +1,79 @@
 // A line's words, parted by one space each, and the numbers and bytes that a word can be.
+use seq::Seq;
 use text::read_decimal;
 
-// The most words that a call has.
-const MOST: usize = 7;
-
-// The words of a line: where each starts and ends. A count above the most says that there are more.
+// The words that are still to be read; none once the last was.
 #[derive(Clone, Copy)]
-pub struct Words {
-    pub count: usize,
-    starts: [usize; MOST],
-    ends: [usize; MOST],
-    next: usize,
+pub struct Words<'a> {
+    rest: Option<&'a [u8]>,
 }
 
-impl Words {
-    // With the word that ends at a place.
-    fn cut(self, at: usize) -> Words {
-        let n = self.count;
-        let mut out = self;
-        if MOST <= n {
-            out.count = MOST + 1;
-            return out;
-        }
-        out.starts[n] = self.next;
-        out.ends[n] = at;
-        out.count = n + 1;
-        out.next = std::num::wrapping_add_usize(at, 1);
-        out
+impl<'a> Words<'a> {
+    pub fn of(line: &'a [u8]) -> Self {
+        Self { rest: Some(line) }
     }
-}
 
-pub fn split(line: &[u8]) -> Words {
-    let mut words = Words {
-        count: 0,
-        starts: [0; MOST],
-        ends: [0; MOST],
-        next: 0,
-    };
-    for i in 0..line.len() {
-        if line[i] == b' ' {
-            words = words.cut(i);
+    pub fn next(&mut self) -> Option<&'a [u8]> {
+        let rest = self.rest?;
+        match rest.iter().position(|b| *b == b' ') {
+            Some(end) => {
+                self.rest = rest.get(end + 1..);
+                rest.get(..end)
+            }
+            None => {
+                self.rest = None;
+                Some(rest)
+            }
         }
     }
-    words.cut(line.len())
-}
 
-// The word at a place of the line, from 0; past the last an empty one, which reads as nothing.
-pub fn word(line: &[u8], words: Words, i: usize) -> &[u8] {
-    if MOST <= i {
-        return &line[0..0];
+    // Whether every word was read.
+    pub fn are_over(&self) -> bool {
+        self.rest.is_none()
     }
-    let start = words.starts[i];
-    let end = words.ends[i];
-    if end < start {
-        return &line[0..0];
-    }
-    if line.len() < end {
-        return &line[0..0];
-    }
-    &line[start..end]
-}
 
-pub fn byte_of(word: &[u8]) -> Option<u8> {
-    match read_decimal(word, 0xff) {
-        Some(n) => Some(n as u8),
-        None => None,
+    pub fn decimal(&mut self, limit: u64) -> Option<u64> {
+        read_decimal(self.next()?, limit)
     }
-}
 
-pub fn number_of(word: &[u8]) -> Option<u32> {
-    match read_decimal(word, 0xffff_ffff) {
-        Some(n) => Some(n as u32),
-        None => None,
+    pub fn byte(&mut self) -> Option<u8> {
+        u8::try_from(self.decimal(u64::MAX)?).ok()
     }
-}
 
-pub fn long_of(word: &[u8]) -> Option<u64> {
-    read_decimal(word, 0xffff_ffff_ffff_ffff)
-}
+    pub fn number(&mut self) -> Option<u32> {
+        u32::try_from(self.decimal(u64::MAX)?).ok()
+    }
 
-pub fn flag_of(word: &[u8]) -> Option<bool> {
-    match read_decimal(word, 1) {
-        Some(n) => Some(n == 1),
-        None => None,
+    pub fn seq(&mut self) -> Option<Seq> {
+        self.number().map(Seq)
     }
-}
 
-pub fn is_none(word: &[u8]) -> bool {
-    check::same(word, b"-")
-}
+    pub fn long(&mut self) -> Option<u64> {
+        self.decimal(u64::MAX)
+    }
 
-pub fn limit_of(word: &[u8]) -> Option<Option<u64>> {
-    if is_none(word) {
-        return Some(None);
+    pub fn size(&mut self, limit: usize) -> Option<usize> {
+        usize::try_from(self.decimal(limit as u64)?).ok()
     }
-    match long_of(word) {
-        Some(n) => Some(Some(n)),
-        None => None,
-    }
-}
 
-// The bytes of a word go to the start of `into`.
-pub fn bytes_of(word: &[u8], into: &mut [u8]) -> Option<usize> {
-    if is_none(word) {
-        return Some(0);
+    pub fn flag(&mut self) -> Option<bool> {
+        Some(self.decimal(1)? == 1)
     }
-    if word.len() == 0 {
-        return None;
-    }
-    match text::read_hex(word, into) {
-        Some(n) => Some(n),
-        None => None,
-    }
-}
 
-// The first n bytes, or all where there are fewer.
-pub fn first(bytes: &[u8], n: usize) -> &[u8] {
-    if n <= bytes.len() {
-        &bytes[0..n]
-    } else {
-        bytes
+    // A number, or `-` for none.
+    pub fn limit(&mut self) -> Option<Option<u64>> {
+        match self.next()? {
+            b"-" => Some(None),
+            word => Some(Some(read_decimal(word, u64::MAX)?)),
+        }
+    }
+
+    // The bytes of a word go to the start of `into`; `-` is for none.
+    pub fn bytes(&mut self, into: &mut [u8]) -> Option<usize> {
+        match self.next()? {
+            b"-" => Some(0),
+            b"" => None,
+            word => text::read_hex(word, into),
+        }
     }
 }

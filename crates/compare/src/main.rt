@@ -2,6 +2,8 @@
 // standard error a line that sums up, or says in words which file is refused, at which line and why.
 #![tactic(auto)]
 
+ghost use Rattle.std.specs.Prelude.{◌≤◌, length, IfOk, IfSome};
+
 use comparing::{
     Compared, DIFFERENCES, LINE, SUMMARY, Side, compare, write_difference, write_refused,
     write_summary,
@@ -23,9 +25,7 @@ const EINVAL: i32 = 22;
 
 const ENAMETOOLONG: i32 = 36;
 
-// The most bytes of a recording. The room for one has a byte more, by which a larger file shows itself.
-const MOST: usize = 24_576;
-
+// A recording has at most 24,576 bytes. The room for one has a byte more, by which a larger file shows itself.
 const ROOM: usize = 24_577;
 
 fn complain(what: &[u8]) {
@@ -60,47 +60,43 @@ fn complain_of(what: &[u8], error: Error) {
     complain(b"\n");
 }
 
-fn complain_of_size(name: &[u8]) {
-    complain(b"compare: ");
-    complain(name);
-    complain(b": more than 24,576 bytes\n");
-}
-
-// How the reading of a file ended.
+// Why a file gives no recording.
 #[derive(Clone, Copy)]
-enum Found {
-    // at its end, after so many bytes
-    Whole(usize),
+enum Fault {
     Larger,
-    Unread(Error),
+    Failed(Error),
 }
 
-// Reads up to the file's end or the room's. A turn that adds no byte is the last, so that the loop ends.
-fn read_all(file: &mut impl Read, into: &mut [u8]) -> Found {
+impl From<Error> for Fault {
+    fn from(error: Error) -> Fault {
+        Fault::Failed(error)
+    }
+}
+
+fn complain_of_fault(name: &[u8], fault: Fault) {
+    match fault {
+        Fault::Larger => {
+            complain(b"compare: ");
+            complain(name);
+            complain(b": more than 24,576 bytes\n");
+        }
+        Fault::Failed(error) => complain_of(name, error),
+    }
+}
+
+// Reads up to the file's end, and says how many bytes it has. A turn that adds no byte is the last, so that the loop ends. It goes on by what a read gave, which no `for` says plainer.
+fn read_all(file: &mut impl Read, into: &mut [u8]) -> Result<usize, Fault>
+    ensures { IfOk result (λ n. n ≤ length into.old) }
+{
     let mut n: usize = 0;
     while n < into.len() {
-        match file.read(&mut into[n..]) {
-            Ok(0) => return Found::Whole(n),
-            Ok(more) => n += more,
-            Err(error) => return Found::Unread(error),
+        let more = file.read(&mut into[n..])?;
+        if more == 0 {
+            return Ok(n);
         }
+        n += more;
     }
-    Found::Larger
-}
-
-// Reads an open file, and answers as `load` does.
-fn load_open(file: &mut impl Read, name: &[u8], into: &mut [u8]) -> usize {
-    match read_all(file, into) {
-        Found::Whole(n) => n,
-        Found::Larger => {
-            complain_of_size(name);
-            ROOM
-        }
-        Found::Unread(error) => {
-            complain_of(name, error);
-            ROOM
-        }
-    }
+    Err(Fault::Larger)
 }
 
 // Opens the file of a name. Of a name that is not UTF-8 std opens none.
@@ -111,15 +107,11 @@ fn open<R: Files>(rt: &R, name: &[u8]) -> std::io::Result<R::File> {
     }
 }
 
-// Reads the file of a name, and answers as `load` does.
-fn load_named(rt: &impl Files, name: &[u8], into: &mut [u8]) -> usize {
-    match open(rt, name) {
-        Ok(mut file) => load_open(&mut file, name, into),
-        Err(error) => {
-            complain_of(name, error);
-            ROOM
-        }
-    }
+fn read_named(rt: &impl Files, name: &[u8], into: &mut [u8]) -> Result<usize, Fault>
+    ensures { IfOk result (λ n. n ≤ length into.old) }
+{
+    let mut file = open(rt, name)?;
+    read_all(&mut file, into)
 }
 
 // Why an argument could not be had, in the system's words.
@@ -130,59 +122,66 @@ fn missed(error: FillError) -> Error {
     }
 }
 
-// Reads the file that an argument names, and says how many bytes it has: above MOST where it is no recording, and then why was said.
-fn load(rt: &(impl Env + Files), argument: usize, meaning: &[u8], into: &mut [u8]) -> usize {
+// Reads the file that an argument names, and says how many bytes it has: none where it is no recording, and then why was said.
+fn load(rt: &(impl Env + Files), argument: usize, meaning: &[u8], into: &mut [u8]) -> Option<usize>
+    ensures { IfSome result (λ n. n ≤ length into.old) }
+{
     let mut name = io::buffer();
-    match rt.arg(argument, &mut name) {
-        Ok(length) => load_named(rt, &name[..length], into),
+    let length = match rt.arg(argument, &mut name) {
+        Ok(length) => length,
         Err(error) => {
             complain_of(meaning, missed(error));
-            ROOM
+            return None;
+        }
+    };
+    let name = &name[..length];
+    match read_named(rt, name, into) {
+        Ok(n) => Some(n),
+        Err(fault) => {
+            complain_of_fault(name, fault);
+            None
         }
     }
 }
 
-// Writes the start of a text, and says whether it could be written. No text is as long as its room, so that the test always passes.
-fn write_start(fd: i32, text: &[u8], length: usize) -> bool {
-    if text.len() < length {
-        return false;
+// That standard output could not be written.
+#[derive(Clone, Copy)]
+struct Unwritten;
+
+// Writes the start of a text. No text is as long as its room, so that the text is always there.
+fn write_start(text: &[u8], length: usize) -> Result<(), Unwritten> {
+    let Some(text) = text.get(..length) else {
+        return Err(Unwritten);
+    };
+    if io::write_all(STDOUT_FILENO, text) {
+        Ok(())
+    } else {
+        Err(Unwritten)
     }
-    io::write_all(fd, &text[..length])
 }
 
-fn write_line(text: &[u8; LINE], length: usize) -> bool {
-    write_start(STDOUT_FILENO, text, length)
-}
-
-fn complain_sum(text: &[u8; SUMMARY], length: usize) {
-    write_start(STDERR_FILENO, text, length);
-}
-
-fn show_difference(word: u64) -> bool {
+fn show_difference(word: u64) -> Result<(), Unwritten> {
     let mut text = [0u8; LINE];
     let length = write_difference(word, &mut text);
-    write_line(&text, length)
+    write_start(&text, length)
 }
 
-// Writes the differences up to the first that cannot be written, and says whether all were.
-fn show_differences(list: &[u64; DIFFERENCES], n: usize) -> bool {
+// Writes a list, up to the first difference that cannot be written, and then what sums it up.
+fn show_list(
+    list: &[u64; DIFFERENCES],
+    n: usize,
+    first: usize,
+    second: usize,
+) -> Result<(), Unwritten> {
     for word in list.iter().take(n) {
-        if !show_difference(*word) {
-            return false;
-        }
-    }
-    true
-}
-
-// Writes a list, and then what sums it up.
-fn show_list(list: &[u64; DIFFERENCES], n: usize, first: usize, second: usize) -> bool {
-    if !show_differences(list, n) {
-        return false;
+        show_difference(*word)?;
     }
     let mut text = [0u8; SUMMARY];
     let length = write_summary(list, n, first, second, &mut text);
-    complain_sum(&text, length);
-    true
+    if let Some(text) = text.get(..length) {
+        complain(text);
+    }
+    Ok(())
 }
 
 fn argument_of(side: Side) -> usize {
@@ -220,17 +219,20 @@ fn explain(env: &impl Env, refusal: Refusal, side: Side, line: usize) {
 }
 
 // Writes the line of a refusal, and then what it means.
-fn show_refusal(env: &impl Env, refusal: Refusal, side: Side, line: usize) -> bool {
+fn show_refusal(
+    env: &impl Env,
+    refusal: Refusal,
+    side: Side,
+    line: usize,
+) -> Result<(), Unwritten> {
     let mut text = [0u8; LINE];
     let length = write_refused(refusal, side, line, &mut text);
-    if !write_line(&text, length) {
-        return false;
-    }
+    write_start(&text, length)?;
     explain(env, refusal, side, line);
-    true
+    Ok(())
 }
 
-fn show(env: &impl Env, compared: Compared, list: &[u64; DIFFERENCES]) -> bool {
+fn show(env: &impl Env, compared: Compared, list: &[u64; DIFFERENCES]) -> Result<(), Unwritten> {
     match compared {
         Ok((n, first, second)) => show_list(list, n, first, second),
         Err((refusal, side, line)) => show_refusal(env, refusal, side, line),
@@ -240,17 +242,14 @@ fn show(env: &impl Env, compared: Compared, list: &[u64; DIFFERENCES]) -> bool {
 fn compare_files(env: &impl Env, first: &[u8], second: &[u8]) {
     let mut list = [0u64; DIFFERENCES];
     let compared = compare(first, second, &mut list);
-    if !show(env, compared, &list) {
+    if show(env, compared, &list).is_err() {
         complain(b"compare: standard output cannot be written\n");
     }
 }
 
 // Whether the program was started with an argument of that number, of which 0 is its own name.
 fn has_argument(env: &impl Env, argument: usize) -> bool {
-    match env.arg(argument, &mut []) {
-        Err(FillError::NotPresent) => false,
-        _ => true,
-    }
+    !matches!(env.arg(argument, &mut []), Err(FillError::NotPresent))
 }
 
 // Both files are read before either ends the program, so that each is told of.
@@ -263,11 +262,11 @@ fn main(rt: HostRuntime) {
     let mut second = [0u8; ROOM];
     let n = load(&rt, 1, b"FIRST", &mut first);
     let m = load(&rt, 2, b"SECOND", &mut second);
-    if MOST < n {
+    let Some(n) = n else {
         return;
-    }
-    if MOST < m {
+    };
+    let Some(m) = m else {
         return;
-    }
+    };
     compare_files(&rt, &first[..n], &second[..m]);
 }

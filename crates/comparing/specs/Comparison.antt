@@ -1,5 +1,5 @@
 -- What two scanned recordings lead to. Assumes nothing.
-use Rattle.std.specs.Prelude.{◌≡◌, refl, List, [], ◌++◌, ℕ, ◌+◌, ◌^◌, ◌≤◌, drop, Ok, Result}
+use Rattle.std.specs.Prelude.{◌≡◌, refl, List, [], ◌++◌, ℕ, ◌+◌, ◌^◌, ◌≤◌, drop, None, Ok, Result}
 use Rattle.refusal.specs.declared.Refusal.{Refusal}
 use Rattle.comparing.specs.declared.comparison.Side.{Side}
 use Rattle.std.proofs.Math.Path.{sym, ap}
@@ -8,11 +8,10 @@ use Rattle.std.proofs.Math.ListN.{length}
 use Rattle.std.proofs.lemmas.List.Edits.{sets-eq}
 use Rattle.comparing.specs.declared.scanning.Scanned.{Scanned}
 use Rattle.comparing.specs.Messages.{body_of, start_of}
-use Rattle.comparing.specs.Rows.{Rising, rows_of}
-use Rattle.comparing.specs.Cells.{rows-length}
-use Rattle.comparing.specs.Table.{earliest, no_numbers, tabled}
+use Rattle.comparing.specs.Rows.{Rising}
+use Rattle.comparing.specs.Table.{no_numbers, tabled}
 use Rattle.comparing.specs.Differences.{Listed, list_below, list_of}
-use Rattle.comparing.specs.Judging.{far_line, many_line, starts_part, in_order, verdict_of, passed-says, order_same, starts-same}
+use Rattle.comparing.specs.Judging.{far_line, many_line, starts_part, starts_in, line_in, lines_in_order, verdict_of, passed-says, order_same, starts-in, starts-same}
 use Rattle.comparing.specs.Compared.{words_of, how_many, compared_as, compared_of, list_in, compared_list}
 use Rattle.comparing.specs.Says.{Says}
 use Rattle.comparing.specs.Sanity.{body-sane, start_small}
@@ -21,70 +20,74 @@ use Rattle.comparing.specs.Scanning.{Scans}
 use Rattle.comparing.specs.Listing.{Pushed, words-length}
 
 -- a recording that was scanned whole
-abbrev pub Scanning : List ℕ → Scanned → List ℕ → Type 0
-Scanning input found cells = Scans input (start_of input) (body_of input) found cells
+abbrev pub Scanning : List ℕ → Scanned → Type 0
+Scanning input found = Scans input (start_of input) (body_of input) found
 
 -- the refusals by what was scanned
 abbrev pub judged_of : Scanned → Scanned → Result Unit (Refusal × Side × ℕ)
-judged_of a b = in_order a.bad b.bad (starts_part a.start.0 b.start.0) a.counts.far b.counts.far a.counts.many b.counts.many
+judged_of a b = lines_in_order a.bad b.bad (starts_in a.start.0 b.start.0) a.table.far b.table.far a.table.many b.table.many
 
 -- ---- laws
 
-module _ (input : List ℕ) (found : Scanned) (cells : List ℕ) (scans : Scanning input found cells) where
-  far-found : found.counts.far ≡ far_line (start_of input) (body_of input).messages
-  unfolding earliest
-  far-found = ap (λ t. t.far) scans.tables ∙ tabled-far input (start_of input) no_numbers (body_of input).messages
+module _ (input : List ℕ) (found : Scanned) (scans : Scanning input found) where
+  far-found : found.table.far ≡ line_in (far_line (start_of input) (body_of input).messages)
+  far-found = ap (λ t. t.far) scans.tables ∙ tabled-far input (start_of input) (body_of input).messages (body-sane input)
 
-  rows-found : rows_of found.counts.count cells ≡ (tabled input (start_of input) no_numbers (body_of input).messages).rows
+  rows-found : found.table.rows.items ≡ (tabled input (start_of input) no_numbers (body_of input).messages).rows
   rows-found = ap (λ t. t.rows) scans.tables
 
-  rising-found : Rising 0 (rows_of found.counts.count cells)
+  rising-found : Rising 0 found.table.rows.items
   rising-found = rw rows-found (tabled-rising input (start_of input) (body_of input).messages)
 
   -- where no message is far, the table's count is that of the numbers
   module _ (near : far_line (start_of input) (body_of input).messages ≡ 0) where
-    many-found : found.counts.many ≡ many_line [] (body_of input).messages
+    many-found : found.table.many ≡ line_in (many_line [] (body_of input).messages)
     many-found = ap (λ t. t.many) scans.tables ∙ tabled-many input (start_of input) (start_small input) (body_of input).messages (body-sane input) near
 
-    none_found : many_line [] (body_of input).messages ≡ 0 → (tabled input (start_of input) no_numbers (body_of input).messages).many ≡ 0
-    none_found e = tabled-many input (start_of input) (start_small input) (body_of input).messages (body-sane input) near ∙ e
+    none_found : many_line [] (body_of input).messages ≡ 0 → (tabled input (start_of input) no_numbers (body_of input).messages).many ≡ None
+    none_found e = tabled-many input (start_of input) (start_small input) (body_of input).messages (body-sane input) near ∙ ap line_in e
 
-    count-found : length cells ≡ 3072 → many_line [] (body_of input).messages ≡ 0 → found.counts.count ≡ how_many input
+    count-found : many_line [] (body_of input).messages ≡ 0 → length found.table.rows.items ≡ how_many input
     unfolding how_many
-    count-found room none =
-        sym (rows-length found.counts.count cells (omega (arith, scans.counts)))
-        ∙ ap length rows-found
+    count-found none =
+        ap length rows-found
         ∙ tabled-count input (start_of input) (start_small input) (body_of input).messages (body-sane input) near (none_found none)
 
 -- what is known of two recordings that passed
-pub record Passed (first second : List ℕ) (a : Scanned) (x : List ℕ) (b : Scanned) (y : List ℕ) : Type 0 where
-  pub says : Says first second a.start.0 (rows_of a.counts.count x) (rows_of b.counts.count y)
-  pub rising-first : Rising 0 (rows_of a.counts.count x)
-  pub rising-second : Rising 0 (rows_of b.counts.count y)
-  pub count-first : a.counts.count ≡ how_many first
-  pub count-second : b.counts.count ≡ how_many second
+pub record Passed (first second : List ℕ) (a b : Scanned) : Type 0 where
+  pub says : Says first second a.start.0 a.table.rows.items b.table.rows.items
+  pub rising-first : Rising 0 a.table.rows.items
+  pub rising-second : Rising 0 b.table.rows.items
+  pub count-first : length a.table.rows.items ≡ how_many first
+  pub count-second : length b.table.rows.items ≡ how_many second
 
-module _ (first second : List ℕ) (a : Scanned) (x : List ℕ) (b : Scanned) (y : List ℕ) (scans-a : Scanning first a x) (scans-b : Scanning second b y) where
+module _ (first second : List ℕ) (a b : Scanned) (scans-a : Scanning first a) (scans-b : Scanning second b) where
   pub judged-same : judged_of a b ≡ verdict_of first second
   unfolding verdict_of
   judged-same =
-      rw (scans-a.starts, scans-a.bads, scans-b.starts, scans-b.bads, far-found first a x scans-a, far-found second b y scans-b)
-      (order_same (body_of first).bad (body_of second).bad (starts_part (start_of first) (start_of second)) _ _ _ _ _ _ (many-found first a x scans-a) (many-found second b y scans-b))
+      rw (scans-a.starts, scans-a.bads, scans-b.starts, scans-b.bads, far-found first a scans-a, far-found second b scans-b, starts-in (start_of first) (start_of second))
+      (order_same (body_of first).bad (body_of second).bad (starts_part (start_of first) (start_of second)) _ _ _ _ _ _ (many-found first a scans-a) (many-found second b scans-b))
 
-  pub passed : length x ≡ 3072 → length y ≡ 3072 → judged_of a b ≡ Ok tt → Passed first second a x b y
-  passed room-x room-y pass =
-      let said = passed-says _ _ _ _ _ _ _ pass in
-      let same : start_of first ≡ start_of second = sym scans-a.starts ∙ starts-same a.start.0 b.start.0 said.0 ∙ scans-b.starts in
-      let near-a = sym (far-found first a x scans-a) ∙ said.1 in
-      let near-b = sym (far-found second b y scans-b) ∙ said.2 in
-      let none-a = sym (many-found first a x scans-a near-a) ∙ said.3 in
-      let none-b = sym (many-found second b y scans-b near-b) ∙ said.4 in
+  passed-both : verdict_of first second ≡ Ok tt
+      → (starts_part (start_of first) (start_of second) ≡ 0)
+      × (far_line (start_of first) (body_of first).messages ≡ 0) × (far_line (start_of second) (body_of second).messages ≡ 0)
+      × (many_line [] (body_of first).messages ≡ 0) × (many_line [] (body_of second).messages ≡ 0)
+  unfolding verdict_of
+  passed-both pass =
+      passed-says (body_of first).bad (body_of second).bad (starts_part (start_of first) (start_of second))
+      (far_line (start_of first) (body_of first).messages) (far_line (start_of second) (body_of second).messages)
+      (many_line [] (body_of first).messages) (many_line [] (body_of second).messages) pass
+
+  pub passed : judged_of a b ≡ Ok tt → Passed first second a b
+  passed pass =
+      let said = passed-both (sym judged-same ∙ pass) in
+      let same : start_of first ≡ start_of second = starts-same (start_of first) (start_of second) said.0 in
       record {
-        says = rw (scans-a.starts, rows-found first a x scans-a, rows-found second b y scans-b) (tables-say first second same near-a near-b (none_found first a x scans-a near-a none-a) (none_found second b y scans-b near-b none-b));
-        rising-first = rising-found first a x scans-a;
-        rising-second = rising-found second b y scans-b;
-        count-first = count-found first a x scans-a near-a room-x none-a;
-        count-second = count-found second b y scans-b near-b room-y none-b;
+        says = rw (scans-a.starts, rows-found first a scans-a, rows-found second b scans-b) (tables-say first second same said.1 said.2 (none_found first a scans-a said.1 said.3) (none_found second b scans-b said.2 said.4));
+        rising-first = rising-found first a scans-a;
+        rising-second = rising-found second b scans-b;
+        count-first = count-found first a scans-a said.1 said.3;
+        count-second = count-found second b scans-b said.2 said.4;
       }
 
 -- every number is listed; the bound stays shut, since no proof goes through 2^32 steps

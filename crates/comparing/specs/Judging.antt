@@ -1,7 +1,7 @@
 -- Document 02 [6]: "At most 1,024 numbers a side"; "Refusals: 20 for a bad line; 22 for a number far from the start number; 23 Many, when a
 -- side has more; in that order over both recordings." Each with the recording and the line that gives it. Assumes nothing.
-use Rattle.std.specs.Prelude.{◌≡◌, Bool, false, cond, ◌||◌, List, [], ◌∷◌, ℕ, eqb, ltb, length, Ok, Err, Result}
-use Rattle.std.proofs.Common.{arith, eqb-true}
+use Rattle.std.specs.Prelude.{◌≡◌, refl, Bool, false, cond, ◌||◌, List, [], ◌∷◌, ℕ, zero, suc, eqb, ltb, length, Some, None, Option, Ok, Err, Result}
+use Rattle.std.proofs.Common.{arith, eqb-true, ne_eqb}
 use borrow.Table.Steps.{cases}
 use Rattle.refusal.specs.declared.Refusal.{Refusal}
 use Rattle.refusal.specs.Refusals.{refuse}
@@ -66,6 +66,29 @@ verdict_of a b =
     (far_line (start_of a) (body_of a).messages) (far_line (start_of b) (body_of b).messages)
     (many_line [] (body_of a).messages) (many_line [] (body_of b).messages)
 
+-- the same by lines that may be none, as the code has them
+abbrev pub line_in : ℕ → Option ℕ
+line_in zero = None
+line_in (suc n) = Some (suc n)
+
+abbrev pub told_in : Option ℕ → Refusal → Side → Result Unit (Refusal × Side × ℕ) → Result Unit (Refusal × Side × ℕ)
+told_in None e side rest = rest
+told_in (Some line) e side rest = Err (e, side, line)
+
+unfoldable pub starts_in : ℕ → ℕ → Option ℕ
+starts_in a b = cond (eqb a b) None (Some 1)
+
+abbrev pub lines_in_order : Option ℕ → Option ℕ → Option ℕ → Option ℕ → Option ℕ → Option ℕ → Option ℕ → Result Unit (Refusal × Side × ℕ)
+lines_in_order bad-first bad-second starts far-first far-second many-first many-second =
+    told_in bad-first (refuse 20 tt) sides.First
+    (told_in bad-second (refuse 20 tt) sides.Second
+    (told_in starts (refuse 20 tt) sides.Second
+    (told_in far-first (refuse 22 tt) sides.First
+    (told_in far-second (refuse 22 tt) sides.Second
+    (told_in many-first (refuse 23 tt) sides.First
+    (told_in many-second (refuse 23 tt) sides.Second
+    (Ok tt)))))))
+
 -- ---- laws
 
 told-pass : (line : ℕ) (e : Refusal) (side : Side) (rest : Result Unit (Refusal × Side × ℕ)) → told_at line e side rest ≡ Ok tt → (line ≡ 0) × (rest ≡ Ok tt)
@@ -88,17 +111,27 @@ passed-says p q starts f g m n h =
     (c.0, d.0, e.0, i.0, j.0)
 
 -- what the later refusals say counts only where no line is told
-told_same : (line : ℕ) (e : Refusal) (side : Side) (rest other : Result Unit (Refusal × Side × ℕ)) → (line ≡ 0 → rest ≡ other) → told_at line e side rest ≡ told_at line e side other
+told_same : (line : ℕ) (e : Refusal) (side : Side) (rest other : Result Unit (Refusal × Side × ℕ)) → (line ≡ 0 → rest ≡ other) → told_in (line_in line) e side rest ≡ told_at line e side other
 unfolding told_at
-told_same line e side rest other h = cases (eqb line 0) (λ t. simp t (h (eqb-true line 0 t))) (λ f. simp f)
+told_same zero e side rest other h = h refl
+told_same (suc n) e side rest other h = simp (ne_eqb (suc n) 0 (λ e. omega arith))
+
+pub starts-in : (a b : ℕ) → starts_in a b ≡ line_in (starts_part a b)
+unfolding starts_in starts_part
+starts-in a b = cases (eqb a b) (λ t. simp t) (λ f. simp f)
 
 -- so 23 counts only where 22 is not given
-pub order_same : (p q starts f g m n k l : ℕ) → (f ≡ 0 → m ≡ k) → (g ≡ 0 → n ≡ l) → in_order p q starts f g m n ≡ in_order p q starts f g k l
+pub order_same : (p q starts f g : ℕ) (m n : Option ℕ) (k l : ℕ) → (f ≡ 0 → m ≡ line_in k) → (g ≡ 0 → n ≡ line_in l)
+    → lines_in_order (line_in p) (line_in q) (line_in starts) (line_in f) (line_in g) m n ≡ in_order p q starts f g k l
 order_same p q starts f g m n k l x y =
     told_same p _ _ _ _
     (λ u.
     told_same q _ _ _ _
-    (λ v. told_same starts _ _ _ _ (λ w. told_same f _ _ _ _ (λ IsNear-first. told_same g _ _ _ _ (λ near-second. rw (x IsNear-first, y near-second))))))
+    (λ v.
+    told_same starts _ _ _ _
+    (λ w.
+    told_same f _ _ _ _
+    (λ near-first. told_same g _ _ _ _ (λ near-second. rw (x near-first, y near-second) (told_same k _ _ _ _ (λ i. told_same l _ _ _ _ (λ j. refl))))))))
 
 pub starts-same : (a b : ℕ) → starts_part a b ≡ 0 → a ≡ b
 unfolding starts_part

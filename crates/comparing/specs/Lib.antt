@@ -4,7 +4,6 @@ pub mod Runs
 pub mod Ranks
 pub mod Rows
 pub mod Table
-pub mod Cells
 pub mod Words
 pub mod Writing
 pub mod Differences

@@ -1,7 +1,7 @@
 -- The list that is made by going through two tables side by side. Assumes nothing.
-use Rattle.std.specs.Prelude.{◌≡◌, cond, List, [], ◌∷◌, ◌++◌, ℕ, zero, suc, ◌+◌, ◌-◌, ◌*◌, ◌^◌, ◌≤◌, ◌<◌, eqb, leb, ltb, length, get_or, drop, set, Some, None, Option}
+use Rattle.std.specs.Prelude.{◌≡◌, Bool, cond, List, [], ◌∷◌, ◌++◌, ℕ, zero, suc, ◌+◌, ◌-◌, ◌*◌, ◌^◌, ◌≤◌, ◌<◌, eqb, leb, ltb, length, drop, set, Some, None, Option}
 use Rattle.std.proofs.Math.Path.{refl}
-use Rattle.std.proofs.Common.{sym, ◌∙◌, ap, append-nil, le_refl, not-suc-le-zero, arith, length-append, length-drop, drop_of_length-le, drop-drop, eqb-true, eq-eqb, ne_eqb, lt-ltb, le-ltb, ltb-true, ltb-false, leb-true}
+use Rattle.std.proofs.Common.{sym, ◌∙◌, ap, append-nil, le_refl, not-suc-le-zero, arith, length-append, length-drop, drop_of_length-le, drop-drop, eqb-true, eq-eqb, ne_eqb, ltb-true, ltb-false, leb-true}
 use Rattle.std.proofs.lemmas.List.Edits.{sets}
 use Rattle.std.proofs.lemmas.Bool.{eqb-false}
 use borrow.Table.Steps.{cases}
@@ -10,14 +10,14 @@ use Rattle.recording.specs.Lines.{lines_of}
 use Rattle.comparing.specs.declared.messages.Found.{Found}
 use Rattle.comparing.specs.declared.messages.Found.TheVariants as found
 use Rattle.comparing.specs.declared.runs.Content.{Content}
+use Rattle.comparing.specs.declared.table.Row.{Row}
 use Rattle.comparing.specs.declared.runs.Content.TheVariants as contents
 use Rattle.comparing.specs.declared.listing.Difference.{Difference}
 use Rattle.comparing.specs.declared.listing.Difference.TheVariants.{ConflictFirst, ConflictSecond}
 use Rattle.comparing.specs.Messages.{line_found}
 use Rattle.comparing.specs.Runs.{content_from, content_of, line_bytes, payload_after, run_in, run_at}
 use Rattle.comparing.specs.Ranks.{number_of}
-use Rattle.comparing.specs.Cells.{rows-length, rows-from, rows-past}
-use Rattle.comparing.specs.Rows.{Row, rows_of, Rising, held_first, held_in, rising-least, held_below}
+use Rattle.comparing.specs.Rows.{Rising, held_first, held_in, rising-least, held_below}
 use Rattle.comparing.specs.Differences.{Listed, conflict_as, content_as, part_as, differences_on, listed_for, list_below}
 use Rattle.comparing.specs.Words.{word_of}
 use Rattle.comparing.specs.Compared.{words_of}
@@ -34,7 +34,7 @@ pub record Pushed (words : List ℕ) (old : List ℕ) (n r : ℕ) (new : List �
   pub count : r ≡ n + length words
   pub list : new ≡ sets old n words
 
-abbrev pub has_of : Option (ℕ × ℕ) → ℕ
+abbrev pub has_of : Option (ℕ × Bool) → ℕ
 has_of None = 0
 has_of (Some (place, flag)) = 1
 
@@ -50,6 +50,13 @@ next_rank [] [] = 0
 next_rank [] (y ∷ ys) = y.rank
 next_rank (x ∷ xs) [] = x.rank
 next_rank (x ∷ xs) (y ∷ ys) = cond (ltb x.rank y.rank) x.rank y.rank
+
+-- the same, none where no row is left
+abbrev pub rank_left : List Row → List Row → Option ℕ
+rank_left [] [] = None
+rank_left [] (y ∷ ys) = Some y.rank
+rank_left (x ∷ xs) [] = Some x.rank
+rank_left (x ∷ xs) (y ∷ ys) = Some (cond (ltb x.rank y.rank) x.rank y.rank)
 
 -- the rows from i on are those of a rank and more
 pub record Left (rank : ℕ) (rows : List Row) (i : ℕ) : Type 0 where
@@ -68,7 +75,7 @@ pub record Listing (first second : List ℕ) (start : ℕ) (a b : List Row) (old
 
 -- ---- laws of words
 
-pub has_one : (held : Option (ℕ × ℕ)) → has_of held ≤ 1
+pub has_one : (held : Option (ℕ × Bool)) → has_of held ≤ 1
 has_one None = omega arith
 has_one (Some (place, flag)) = le_refl 1
 
@@ -109,7 +116,7 @@ pub pushed_none : (old : List ℕ) (n : ℕ) → Pushed [] old n n old
 pushed_none old n = record { count = omega arith; list = refl }
 
 -- three runs of words are the differences on a number
-pub number_pushed : (first second : List ℕ) (n : ℕ) (a b : Option (ℕ × ℕ))
+pub number_pushed : (first second : List ℕ) (n : ℕ) (a b : Option (ℕ × Bool))
     → words_for n (conflict_as (flag_held a) ConflictFirst) ++ (words_for n (conflict_as (flag_held b) ConflictSecond) ++ words_for n (part_as (standing_held first a) (standing_held second b)))
     ≡ words_for n (held_differences first second a b)
 unfolding held_differences
@@ -120,10 +127,10 @@ number_pushed first second n a b =
     sym (for-append n ca (cb ++ part) ∙ ap (λ l. words_for n ca ++ l) (for-append n cb part))
 
 -- at most one conflict and one difference more for each side that has the number
-pub conflict-few : (n : ℕ) (held : Option (ℕ × ℕ)) (d : Difference) → length (words_for n (conflict_as (flag_held held) d)) ≤ has_of held
+pub conflict-few : (n : ℕ) (held : Option (ℕ × Bool)) (d : Difference) → length (words_for n (conflict_as (flag_held held) d)) ≤ has_of held
 unfolding words_for
 conflict-few n None d = le_refl 0
-conflict-few n (Some (place, flag)) d = cases (eqb flag 0) (λ t. simp t (omega arith)) (λ f. simp f (omega arith))
+conflict-few n (Some (place, flag)) d = cases flag (λ t. simp t (omega arith)) (λ f. simp f (omega arith))
 
 content-few : (n : ℕ) (content : Content) → length (words_for n (content_as content)) ≤ 1
 unfolding words_for
@@ -131,14 +138,14 @@ content-few n contents.Equal = omega arith
 content-few n (contents.Differ place x y) = le_refl 1
 content-few n (contents.Begins k) = le_refl 1
 
-part-few : (first second : List ℕ) (n : ℕ) (a b : Option (ℕ × ℕ)) → length (words_for n (part_as (standing_held first a) (standing_held second b))) ≤ has_of a + has_of b
+part-few : (first second : List ℕ) (n : ℕ) (a b : Option (ℕ × Bool)) → length (words_for n (part_as (standing_held first a) (standing_held second b))) ≤ has_of a + has_of b
 unfolding words_for
 part-few first second n None None = le_refl 0
 part-few first second n (Some (i, f)) None = le_refl 1
 part-few first second n None (Some (j, g)) = le_refl 1
 part-few first second n (Some (i, f)) (Some (j, g)) = omega (arith, content-few n (content_of (run_at first i) (run_at second j)))
 
-number-few : (first second : List ℕ) (n : ℕ) (a b : Option (ℕ × ℕ)) → length (words_for n (held_differences first second a b)) ≤ (has_of a + has_of b) * 2
+number-few : (first second : List ℕ) (n : ℕ) (a b : Option (ℕ × Bool)) → length (words_for n (held_differences first second a b)) ≤ (has_of a + has_of b) * 2
 number-few first second n a b =
     let x = conflict-few n a ConflictFirst in
     let y = conflict-few n b ConflictSecond in
@@ -239,7 +246,7 @@ below-words first second start r =
     let ds = differences_on first second n in
     words_append (list_below first second start r) (listed_for n ds) ∙ ap (λ l. words_of (list_below first second start r) ++ l) (words-for n ds)
 
-none-held : (first second : List ℕ) (a b : Option (ℕ × ℕ)) → a ≡ None → b ≡ None → held_differences first second a b ≡ []
+none-held : (first second : List ℕ) (a b : Option (ℕ × Bool)) → a ≡ None → b ≡ None → held_differences first second a b ≡ []
 unfolding held_differences
 none-held first second a b p q = simp (p, q)
 
@@ -371,66 +378,84 @@ pub part-near : (first second : List ℕ) (i j : ℕ) (content : Content) → co
 part-near first second i j content e =
     omega (arith, ap place_of e, content-within (run_at first i) (run_at second j), run_short first i)
 
--- the least rank by the cells: one table is at its end, or both have a row
-module _ (m i : ℕ) (x : List ℕ) (n j : ℕ) (y : List ℕ) (x-room : m * 3 ≤ length x) (y-room : n * 3 ≤ length y) where
-  pub next-second : m ≤ i → j < n → get_or y (j * 3) 0 ≡ next_rank (drop i (rows_of m x)) (drop j (rows_of n y))
-  unfolding next_rank
-  next-second h g = rw (rows-past m i x x-room h, rows-from n j y y-room g)
+-- what of two tables is left to be listed, and the list so far
+pub record Merging (first second : List ℕ) (start : ℕ) (a b : List Row) (old : List ℕ) (xs ys : List Row) (n : ℕ) (new : List ℕ) : Type 0 where
+  pub i : ℕ
+  pub j : ℕ
+  pub rest-first : xs ≡ drop i a
+  pub rest-second : ys ≡ drop j b
+  pub listing : Listing first second start a b old i j n new
 
-  pub next-first : i < m → n ≤ j → get_or x (i * 3) 0 ≡ next_rank (drop i (rows_of m x)) (drop j (rows_of n y))
-  unfolding next_rank
-  next-first h g = rw (rows-from m i x x-room h, rows-past n j y y-room g)
+rank-some : (xs ys : List Row) (rank : ℕ) → rank_left xs ys ≡ Some rank → (rank ≡ next_rank xs ys) × (0 < length xs + length ys)
+unfolding next_rank
+rank-some [] [] rank e = let z : ◌≡◌ {A = ℕ} 0 1 = cc in absurd (omega arith)
+rank-some [] (y ∷ ys) rank e = (cc, omega arith)
+rank-some (x ∷ xs) [] rank e = (cc, omega arith)
+rank-some (x ∷ xs) (y ∷ ys) rank e = (cc, omega arith)
 
-  next_both : i < m → j < n → next_rank (drop i (rows_of m x)) (drop j (rows_of n y)) ≡ cond (ltb (get_or x (i * 3) 0) (get_or y (j * 3) 0)) (get_or x (i * 3) 0) (get_or y (j * 3) 0)
-  unfolding next_rank
-  next_both h g = rw (rows-from m i x x-room h, rows-from n j y y-room g)
+rank-none : (xs ys : List Row) → rank_left xs ys ≡ None → length xs + length ys ≡ 0
+rank-none [] [] e = omega arith
+rank-none [] (y ∷ ys) e = let z : ◌≡◌ {A = ℕ} 0 1 = cc in absurd (omega arith)
+rank-none (x ∷ xs) [] e = let z : ◌≡◌ {A = ℕ} 0 1 = cc in absurd (omega arith)
+rank-none (x ∷ xs) (y ∷ ys) e = let z : ◌≡◌ {A = ℕ} 0 1 = cc in absurd (omega arith)
 
-  pub next_low : i < m → j < n → get_or x (i * 3) 0 < get_or y (j * 3) 0 → get_or x (i * 3) 0 ≡ next_rank (drop i (rows_of m x)) (drop j (rows_of n y))
-  next_low h g l = sym (next_both h g ∙ (simp (lt-ltb _ _ l)))
+pub has-first : (rank : ℕ) (rows : List Row) → has_of (held_first rank rows) ≤ length rows
+has-first rank rows = has_within rank rows
 
-  pub next-high : i < m → j < n → get_or y (j * 3) 0 ≤ get_or x (i * 3) 0 → get_or y (j * 3) 0 ≡ next_rank (drop i (rows_of m x)) (drop j (rows_of n y))
-  next-high h g l = sym (next_both h g ∙ (simp (le-ltb _ _ l)))
+-- one turn over two tables: from where the list has come to the differences on the next number
+module _ {first second : List ℕ} {start : ℕ} {a b : List Row} {old : List ℕ} {xs ys : List Row} {k : ℕ} {list : List ℕ}
+    (says : Says first second start a b) (so_far : Merging first second start a b old xs ys k list) where
+  left-first : length a ≡ so_far.i + length xs
+  left-first = omega (arith, ap length so_far.rest-first, length-drop so_far.i a, so_far.listing.first_rows)
 
--- one turn over two tables in their cells: from where the list has come to the differences on the next number
-module _ (m : ℕ) (x : List ℕ) (n : ℕ) (y : List ℕ) (rooms : (m * 3 ≤ length x) × (n * 3 ≤ length y)) {first second : List ℕ} {start : ℕ} {old : List ℕ} {i j k : ℕ} {list : List ℕ}
-    (says : Says first second start (rows_of m x) (rows_of n y)) (so_far : Listing first second start (rows_of m x) (rows_of n y) old i j k list) where
-  all-rows : length (rows_of m x) + length (rows_of n y) ≡ m + n
-  all-rows = omega (arith, rows-length m x rooms.0, rows-length n y rooms.1)
+  left-second : length b ≡ so_far.j + length ys
+  left-second = omega (arith, ap length so_far.rest-second, length-drop so_far.j b, so_far.listing.second-rows)
 
-  pub turn-rows : (i ≤ m) × (j ≤ n)
-  turn-rows = (omega (arith, so_far.first_rows, rows-length m x rooms.0), omega (arith, so_far.second-rows, rows-length n y rooms.1))
+  pub turn_end : rank_left xs ys ≡ None → Pushed (words_of (list_below first second start (2 ^ 32))) old 0 k list
+  turn_end done =
+      listing-end first second start a b old so_far.i so_far.j k list says so_far.listing (omega (arith, left-first, left-second, rank-none xs ys done))
 
-  pub turn_end : m + n ≤ i + j → Pushed (words_of (list_below first second start (2 ^ 32))) old 0 k list
-  turn_end done = listing-end first second start (rows_of m x) (rows_of n y) old i j k list says so_far (omega (arith, all-rows))
+  pub turn-few : length a ≤ 1024 → length b ≤ 1024 → k ≤ 4096
+  turn-few h g = omega (arith, so_far.listing.few, left-first, left-second)
 
-  module _ (more : i + j < m + n) (rank : ℕ) (ranked : rank ≡ next_rank (drop i (rows_of m x)) (drop j (rows_of n y))) where
-    left_over : i + j < length (rows_of m x) + length (rows_of n y)
-    left_over = omega (arith, all-rows)
+  module _ (rank : ℕ) (ranked : rank_left xs ys ≡ Some rank) where
+    named-rank : rank ≡ next_rank (drop so_far.i a) (drop so_far.j b)
+    named-rank = (rank-some xs ys rank ranked).0 ∙ ap (λ l. next_rank l ys) so_far.rest-first ∙ ap (next_rank (drop so_far.i a)) so_far.rest-second
+
+    left_over : so_far.i + so_far.j < length a + length b
+    left_over = omega (arith, left-first, left-second, (rank-some xs ys rank ranked).1)
 
     pub turn-rank : rank < 2 ^ 32
-    turn-rank = omega (arith, ranked, listing-rank first second start (rows_of m x) (rows_of n y) old i j k list says so_far left_over)
+    turn-rank = omega (arith, named-rank, listing-rank first second start a b old so_far.i so_far.j k list says so_far.listing left_over)
 
-    module _ (a b : Option (ℕ × ℕ)) (held-a : a ≡ held_first rank (drop i (rows_of m x))) (held-b : b ≡ held_first rank (drop j (rows_of n y))) where
-      same-a : a ≡ held_first (next_rank (drop i (rows_of m x)) (drop j (rows_of n y))) (drop i (rows_of m x))
-      same-a = held-a ∙ ap (λ r. held_first r (drop i (rows_of m x))) ranked
+    same-first : held_first rank xs ≡ held_first (next_rank (drop so_far.i a) (drop so_far.j b)) (drop so_far.i a)
+    same-first = ap (λ r. held_first r xs) named-rank ∙ ap (held_first (next_rank (drop so_far.i a) (drop so_far.j b))) so_far.rest-first
 
-      same-b : b ≡ held_first (next_rank (drop i (rows_of m x)) (drop j (rows_of n y))) (drop j (rows_of n y))
-      same-b = held-b ∙ ap (λ r. held_first r (drop j (rows_of n y))) ranked
+    same-second : held_first rank ys ≡ held_first (next_rank (drop so_far.i a) (drop so_far.j b)) (drop so_far.j b)
+    same-second = ap (λ r. held_first r ys) named-rank ∙ ap (held_first (next_rank (drop so_far.i a) (drop so_far.j b))) so_far.rest-second
 
-      pub turn-room : m ≤ 1024 → n ≤ 1024 → k + (has_of a + has_of b) * 2 ≤ 4096
-      turn-room h g =
-          omega (
-            arith,
-            ap has_of same-a,
-            ap has_of same-b,
-            listing-room first second start (rows_of m x) (rows_of n y) old i j k list says so_far left_over (omega (arith, rows-length m x rooms.0)) (omega (arith, rows-length n y rooms.1)),
-          )
+    pub turn-room : length a ≤ 1024 → length b ≤ 1024 → k + (has_of (held_first rank xs) + has_of (held_first rank ys)) * 2 ≤ 4096
+    turn-room h g =
+        omega (arith, ap has_of same-first, ap has_of same-second, listing-room first second start a b old so_far.i so_far.j k list says so_far.listing left_over h g)
 
-      pub turn-less : i + j < i + has_of a + (j + has_of b)
-      turn-less = omega (arith, ap has_of same-a, ap has_of same-b, listing-less first second start (rows_of m x) (rows_of n y) old i j k list says so_far left_over)
+    pub turn-less : 1 ≤ has_of (held_first rank xs) + has_of (held_first rank ys)
+    turn-less =
+        omega (arith, ap has_of same-first, ap has_of same-second, listing-less first second start a b old so_far.i so_far.j k list says so_far.listing left_over)
 
-      pub turn_step : (number l : ℕ) (next : List ℕ) → number ≡ number_of start rank → Pushed (words_for number (held_differences first second a b)) list k l next
-          → Listing first second start (rows_of m x) (rows_of n y) old (i + has_of a) (j + has_of b) l next
-      turn_step number l next named pushed =
-          rw (same-a, same-b)
-          (listing_step first second start (rows_of m x) (rows_of n y) old i j k list says so_far l next left_over (rw (named, ranked, same-a, same-b) at pushed))
+    pub turn_step : (number l : ℕ) (next : List ℕ) → number ≡ number_of start rank
+        → Pushed (words_for number (held_differences first second (held_first rank xs) (held_first rank ys))) list k l next
+        → Merging first second start a b old (drop (has_of (held_first rank xs)) xs) (drop (has_of (held_first rank ys)) ys) l next
+    turn_step number l next named pushed = record {
+      i = so_far.i + has_of (held_first rank xs);
+      j = so_far.j + has_of (held_first rank ys);
+      rest-first = ap (drop (has_of (held_first rank xs))) so_far.rest-first ∙ drop-drop (has_of (held_first rank xs)) so_far.i a;
+      rest-second = ap (drop (has_of (held_first rank ys))) so_far.rest-second ∙ drop-drop (has_of (held_first rank ys)) so_far.j b;
+      listing =
+          rw (same-first, same-second)
+          (listing_step first second start a b old so_far.i so_far.j k list says so_far.listing l next left_over
+          (rw (same-first, same-second, named, named-rank) at pushed));
+    }
+
+pub merging_start : {first second : List ℕ} {start : ℕ} {a b : List Row} {old : List ℕ} → Rising 0 a → Rising 0 b → Merging first second start a b old a b 0 old
+merging_start {first} {second} {start} {a} {b} {old} h g =
+    record { i = 0; j = 0; rest-first = refl; rest-second = refl; listing = listing_start first second start a b old h g }

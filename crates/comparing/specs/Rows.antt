@@ -1,6 +1,12 @@
 -- The rows of a table in rising order of their ranks: where a rank stands among them, and a row more. Assumes nothing.
-use Rattle.std.proofs.Math.Path.{◌≡◌, refl, ap}
-use Rattle.std.specs.Prelude.{Bool, true, false, cond, eqb, ltb, length, get_or, drop, Some, None, Option}
+use Rattle.std.proofs.Math.Path.{◌≡◌, refl, ap, sym}
+use Rattle.comparing.specs.declared.table.Row.{Row}
+use Rattle.std.specs.Prelude.{Bool, true, false, cond, eqb, ltb, length, get_or, set, insert, drop, Some, None, Option, Ok, Err, Result, MatchResult}
+use Rattle.std.specs.List.Sorted.{IsSearchInRange, IsBinarySearchResult, IsNonDecreasingBy}
+use Rattle.std.specs.Ordering.{nat_cmp, ordering_index}
+use Rattle.std.proofs.lemmas.Cmp.{ranked}
+use Rattle.std.proofs.lemmas.List.Sorted.{IsNonDecreasingBy-from_default}
+use Rattle.std.proofs.lemmas.Bool.Decides.{nat_tests}
 use mathlib.Core.List.{List, [], ◌∷◌}
 use Prim.Native.Nat.{ℕ, zero, suc, ◌^◌, ◌≤◌, ◌<◌}
 use Rattle.std.proofs.Common.{not-suc-le-zero, le_refl, le_trans, drop_of_length-le}
@@ -8,25 +14,11 @@ use native.Mathlib.Omega.{arith}
 use borrow.Author.Tests.{eqb-true, eqb-false, eq-eqb, ne_eqb, ltb-true, ltb-false, lt-ltb, le-ltb}
 use borrow.Table.Steps.{cases}
 
--- a number's rank, the place of its first message, and 1 where a repeat has other content, else 0
-pub record Row : Type 0 where
-  pub rank : ℕ
-  pub place : ℕ
-  pub flag : ℕ
-
-abbrev pub row : ℕ → ℕ → ℕ → Row
-row rank place flag = record { rank = rank; place = place; flag = flag }
+abbrev pub row : ℕ → ℕ → Bool → Row
+row rank place is_conflict = record { rank = rank; place = place; is_conflict = is_conflict }
 
 abbrev pub no_row : Row
-no_row = row 0 0 0
-
--- the first rows of a table, three cells each
-unfoldable pub rows_of : ℕ → List ℕ → List Row
-rows_of zero cells = []
-rows_of (suc n) [] = []
-rows_of (suc n) (a ∷ []) = []
-rows_of (suc n) (a ∷ b ∷ []) = []
-rows_of (suc n) (a ∷ b ∷ c ∷ rest) = row a b c ∷ rows_of n rest
+no_row = row 0 0 false
 
 -- rising ranks, from one on and below 2^32
 unfoldable pub Rising : ℕ → List Row → Type 0
@@ -44,23 +36,23 @@ insert_at (suc i) new [] = new ∷ []
 insert_at (suc i) new (x ∷ rest) = x ∷ insert_at i new rest
 
 -- what the first row has, if it is of this rank
-abbrev pub held_if : Bool → Row → Option (ℕ × ℕ) → Option (ℕ × ℕ)
-held_if true x other = Some (x.place, x.flag)
+abbrev pub held_if : Bool → Row → Option (ℕ × Bool) → Option (ℕ × Bool)
+held_if true x other = Some (x.place, x.is_conflict)
 held_if false x other = other
 
-unfoldable pub held_first : ℕ → List Row → Option (ℕ × ℕ)
+unfoldable pub held_first : ℕ → List Row → Option (ℕ × Bool)
 held_first rank [] = None
 held_first rank (x ∷ rest) = held_if (eqb x.rank rank) x None
 
 -- what any row has
-unfoldable pub held_in : ℕ → List Row → Option (ℕ × ℕ)
+unfoldable pub held_in : ℕ → List Row → Option (ℕ × Bool)
 held_in rank [] = None
 held_in rank (x ∷ rest) = held_if (eqb x.rank rank) x (held_in rank rest)
 
--- a row whose flag is set
+-- a row that is marked as a conflict
 unfoldable pub marked_at : ℕ → List Row → List Row
 marked_at i [] = []
-marked_at zero (x ∷ rest) = row x.rank x.place 1 ∷ rest
+marked_at zero (x ∷ rest) = row x.rank x.place true ∷ rest
 marked_at (suc i) (x ∷ rest) = x ∷ marked_at i rest
 
 -- ---- laws of rising rows
@@ -153,7 +145,7 @@ module _ (new : Row) where
       (λ t. simp t (h.0, insert-rising (suc x.rank) rest h.1 (ltb-true x.rank new.rank t) l (simp n at none)))
       (λ f. let over = ltb-false x.rank new.rank f in simp f (g, (omega arith, h.1))))
 
-  pub insert-same : (i : ℕ) (rows : List Row) → held_in new.rank rows ≡ None → held_in new.rank (insert_at i new rows) ≡ Some (new.place, new.flag)
+  pub insert-same : (i : ℕ) (rows : List Row) → held_in new.rank rows ≡ None → held_in new.rank (insert_at i new rows) ≡ Some (new.place, new.is_conflict)
   unfolding insert_at held_in
   insert-same zero rows none = simp (eq-eqb new.rank new.rank refl)
   insert-same (suc i) [] none = simp (eq-eqb new.rank new.rank refl)
@@ -181,9 +173,9 @@ marked-rising least i [] h = h
 marked-rising least zero (x ∷ rest) h = h
 marked-rising least (suc i) (x ∷ rest) h = (h.0, marked-rising (suc x.rank) i rest h.1)
 
-module _ (rank place flag : ℕ) where
+module _ (rank place : ℕ) (flag : Bool) where
   pub marked-same : (rows : List Row) → held_first rank (drop (position_in rank rows) rows) ≡ Some (place, flag)
-      → held_in rank (marked_at (position_in rank rows) rows) ≡ Some (place, 1)
+      → held_in rank (marked_at (position_in rank rows) rows) ≡ Some (place, true)
   unfolding held_first held_in position_in marked_at
   marked-same [] e = let z : ◌≡◌ {A = ℕ} 0 1 = cc in absurd (omega arith)
   marked-same (x ∷ rest) e =
@@ -194,9 +186,9 @@ module _ (rank place flag : ℕ) where
       (λ f.
       cases (eqb x.rank rank)
       (λ t.
-      let some : ◌≡◌ {A = Option (ℕ × ℕ)} (Some (x.place, x.flag)) (Some (place, flag)) = simp (f, t) at e in
-      let both : ◌≡◌ {A = ℕ × ℕ} (x.place, x.flag) (place, flag) = cc in
-      simp (f, t) (ap (λ (n : ℕ × ℕ). Some (n.0, 1)) both))
+      let some : ◌≡◌ {A = Option (ℕ × Bool)} (Some (x.place, x.is_conflict)) (Some (place, flag)) = simp (f, t) at e in
+      let both : ◌≡◌ {A = ℕ × Bool} (x.place, x.is_conflict) (place, flag) = cc in
+      simp (f, t) (ap (λ (n : ℕ × Bool). Some (n.0, true)) both))
       (λ n. let z : ◌≡◌ {A = ℕ} 0 1 = cc (simp (f, n) at e) in absurd (omega arith)))
 
   pub marked_other : (q : ℕ) (rows : List Row) → (rank ≡ q → ⊥) → held_first rank (drop (position_in rank rows) rows) ≡ Some (place, flag)
@@ -214,7 +206,7 @@ module _ (rank place flag : ℕ) where
       (λ n. let z : ◌≡◌ {A = ℕ} 0 1 = cc (simp (f, n) at e) in absurd (omega arith)))
 
 -- a row that is found is one of the rows
-pub found_within : (rank place flag i : ℕ) (rows : List Row) → Some (place, flag) ≡ held_first rank (drop i rows) → i < length rows
+pub found_within : (rank place : ℕ) (flag : Bool) (i : ℕ) (rows : List Row) → Some (place, flag) ≡ held_first rank (drop i rows) → i < length rows
 unfolding held_first
 found_within rank place flag i rows e =
     cases (ltb i (length rows))
@@ -223,3 +215,74 @@ found_within rank place flag i rows e =
     let none : held_first rank (drop i rows) ≡ None = ap (held_first rank) (drop_of_length-le rows {i = i} (ltb-false i (length rows) f)) in
     let z : ◌≡◌ {A = ℕ} 0 1 = cc in
     absurd (omega arith))
+
+-- ---- a row among others by the list's own operations
+
+pub marked-set : (i : ℕ) (rows : List Row) → i < length rows → set rows i (row (get_or rows i no_row).rank (get_or rows i no_row).place true) ≡ marked_at i rows
+unfolding marked_at
+marked-set i [] h = absurd (not-suc-le-zero h)
+marked-set zero (x ∷ rest) h = refl
+marked-set (suc i) (x ∷ rest) h = ap (λ l. x ∷ l) (marked-set i rest (omega arith))
+
+pub insert-is : (i : ℕ) (new : Row) (rows : List Row) → i ≤ length rows → insert rows i new ≡ insert_at i new rows
+unfolding insert_at
+insert-is zero new rows h = refl
+insert-is (suc i) new [] h = absurd (omega arith)
+insert-is (suc i) new (x ∷ rest) h = ap (λ l. x ∷ l) (insert-is i new rest (omega arith))
+
+-- a row of a rank stands where the rank does
+placed : (rank least i : ℕ) (rows : List Row) → Rising least rows → i < length rows → (get_or rows i no_row).rank ≡ rank
+    → (position_in rank rows ≡ i) × (held_first rank (drop i rows) ≡ Some ((get_or rows i no_row).place, (get_or rows i no_row).is_conflict))
+unfolding Rising position_in held_first
+placed rank least i [] h g e = absurd (not-suc-le-zero g)
+placed rank least zero (x ∷ rest) h g e = (simp (le-ltb x.rank rank (omega arith)), simp (eq-eqb x.rank rank e))
+placed rank least (suc i) (x ∷ rest) h g e =
+    let n : i < length rest = omega arith in
+    let low = rising-at (suc x.rank) i rest h.1 n in
+    let later = placed rank (suc x.rank) i rest h.1 n e in
+    (simp (lt-ltb x.rank rank (omega arith)) (ap suc later.0), later.1)
+
+-- a place between the lower and the higher ranks holds no row of a rank
+between : (rank i : ℕ) (rows : List Row) → i ≤ length rows → ((k : ℕ) → k < i → (get_or rows k no_row).rank < rank)
+    → ((k : ℕ) → i ≤ k → k < length rows → rank < (get_or rows k no_row).rank)
+    → (position_in rank rows ≡ i) × (held_first rank (drop i rows) ≡ None)
+unfolding position_in held_first
+between rank zero [] h low high = (refl, refl)
+between rank (suc i) [] h low high = absurd (omega arith)
+between rank zero (x ∷ rest) h low high =
+    let over = high 0 (omega arith) (omega arith) in
+    (simp (le-ltb x.rank rank (omega arith)), simp (ne_eqb x.rank rank (λ e. omega arith)))
+between rank (suc i) (x ∷ rest) h low high =
+    let under = low 0 (omega arith) in
+    let later = between rank i rest (omega arith) (λ k l. low (suc k) (omega arith)) (λ k a l. high (suc k) (omega arith) (omega arith)) in
+    (simp (lt-ltb x.rank rank under) (ap suc later.0), later.1)
+
+-- what a search among rising rows finds: a row of the rank, or its place
+module _ (rank : ℕ) (rows : List Row) (rising : Rising 0 rows) where
+  rows-rise : (i j : ℕ) → i ≤ j → j < length rows → (get_or rows i no_row).rank ≤ (get_or rows j no_row).rank
+  rows-rise i j le lt =
+      cases (ltb (get_or rows j no_row).rank (get_or rows i no_row).rank)
+      (λ t.
+      let under = ltb-true (get_or rows j no_row).rank (get_or rows i no_row).rank t in
+      let before = position-after (get_or rows i no_row).rank 0 j rows rising lt under in
+      let at = placed (get_or rows i no_row).rank 0 i rows rising (omega arith) refl in
+      absurd (omega (arith, at.0)))
+      (λ f. ltb-false (get_or rows j no_row).rank (get_or rows i no_row).rank f)
+
+  answers-rise : IsNonDecreasingBy (λ (x : Row). ordering_index (nat_cmp x.rank rank)) rows
+  answers-rise = IsNonDecreasingBy-from_default (λ (x : Row). ordering_index (nat_cmp x.rank rank)) rows no_row (λ i j le lt.
+      let up = rows-rise i j le lt in
+      grind (arith, nat_tests))
+
+  pub search-held : (r : Result ℕ ℕ) → IsSearchInRange r (length rows) → IsBinarySearchResult (λ (x : Row). nat_cmp x.rank rank) rows r
+      → MatchResult r
+      (λ i. (i < length rows) × (position_in rank rows ≡ i) × (held_first rank (drop i rows) ≡ Some ((get_or rows i no_row).place, (get_or rows i no_row).is_conflict)))
+      (λ i. (i ≤ length rows) × (position_in rank rows ≡ i) × (held_first rank (drop i rows) ≡ None))
+  search-held (Ok i) range same =
+      let at = placed rank 0 i rows rising range (ranked _ rank _ (sym (same no_row))) in
+      (range, at.0, at.1)
+  search-held (Err i) range parted =
+      let at = between rank i rows range
+      (λ k lt. ranked _ rank _ (sym ((parted answers-rise).0 k no_row (omega arith) lt)))
+      (λ k le lt. ranked _ rank _ (sym ((parted answers-rise).1 k no_row le lt))) in
+      (range, at.0, at.1)

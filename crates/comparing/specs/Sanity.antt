@@ -65,16 +65,16 @@ frame_small line = either (leb (length line) 2080 && spells line) (read_of (spel
 
 -- ---- the messages of the lines
 
-abbrev SaneMessage : Message → Type 0
+abbrev pub SaneMessage : Message → Type 0
 SaneMessage m = (m.number.0 < 2 ^ 32) × (0 < m.line)
 
-abbrev SaneFound : Found → Type 0
+abbrev pub SaneFound : Found → Type 0
 SaneFound found.Bad = Unit {0}
 SaneFound (found.Awaits m) = SaneMessage m
 SaneFound (found.Holds m) = SaneMessage m
 SaneFound found.Passes = Unit {0}
 
-abbrev SaneWaiting : Option Message → Type 0
+abbrev pub SaneWaiting : Option Message → Type 0
 SaneWaiting None = Unit {0}
 SaneWaiting (Some m) = SaneMessage m
 
@@ -98,7 +98,7 @@ payload-sane : (b : Bool) (m : Message) → SaneMessage m → SaneFound (found_p
 payload-sane true m sane = sane
 payload-sane false m sane = tt
 
-line-sane : (w : Option Message) (at line : ℕ) (text : List ℕ) → 0 < line → SaneWaiting w → SaneFound (line_found w at line text)
+pub line-sane : (w : Option Message) (at line : ℕ) (text : List ℕ) → 0 < line → SaneWaiting w → SaneFound (line_found w at line text)
 unfolding line_found
 line-sane None at line text counted sane = reading-sane at line counted (frame_of text) (frame_small text)
 line-sane (Some m) at line text counted sane = payload-sane (is_payload text) m sane

@@ -1,11 +1,12 @@
 -- What the rows of a table say of a recording's messages. Assumes nothing.
-use Rattle.std.specs.Prelude.{◌≡◌, Bool, false, not, List, [], ◌∷◌, ◌++◌, ℕ, ◌^◌, ◌<◌, eqb, Some, None, Option}
+use Rattle.std.specs.Prelude.{◌≡◌, Bool, false, List, [], ◌∷◌, ◌++◌, ℕ, ◌^◌, ◌<◌, Some, None, Option}
 use Rattle.comparing.specs.declared.messages.Message.{Message}
 use Rattle.comparing.specs.declared.listing.Difference.{Difference}
+use Rattle.comparing.specs.declared.table.Row.{Row}
 use Rattle.comparing.specs.declared.listing.Difference.TheVariants.{ConflictFirst, ConflictSecond}
 use Rattle.comparing.specs.Runs.{run_at}
 use Rattle.comparing.specs.Ranks.{number_of}
-use Rattle.comparing.specs.Rows.{Row, held_in}
+use Rattle.comparing.specs.Rows.{held_in}
 use Rattle.comparing.specs.Differences.{Standing, Absent, Run, conflict_as, part_as, differences_on}
 
 -- numbers of 32 bits, and lines that are counted from 1
@@ -13,16 +14,16 @@ unfoldable pub Sane : List Message → Type 0
 Sane [] = Unit
 Sane (m ∷ rest) = ((m.number.0 < 2 ^ 32) × (0 < m.line)) × Sane rest
 
-abbrev pub standing_held : List ℕ → Option (ℕ × ℕ) → Standing
+abbrev pub standing_held : List ℕ → Option (ℕ × Bool) → Standing
 standing_held input None = Absent
 standing_held input (Some (place, flag)) = Run (run_at input place)
 
-abbrev pub flag_held : Option (ℕ × ℕ) → Bool
+abbrev pub flag_held : Option (ℕ × Bool) → Bool
 flag_held None = false
-flag_held (Some (place, flag)) = not (eqb flag 0)
+flag_held (Some (place, flag)) = flag
 
 -- the differences on a number by what two tables have of it
-unfoldable pub held_differences : List ℕ → List ℕ → Option (ℕ × ℕ) → Option (ℕ × ℕ) → List Difference
+unfoldable pub held_differences : List ℕ → List ℕ → Option (ℕ × Bool) → Option (ℕ × Bool) → List Difference
 unfolding run_at
 held_differences first second a b =
     conflict_as (flag_held a) ConflictFirst

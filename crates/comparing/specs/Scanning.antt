@@ -9,11 +9,11 @@ use borrow.Author.Tests.{eqb-true, ltb-true, ltb-false}
 use borrow.Table.Steps.{cases}
 use Rattle.recording.specs.Lines.{lines_from, lines_of, until_feed, until-within, line_first, line-none}
 use Rattle.seq.specs.declared.Seq.{Seq}
-use Rattle.comparing.specs.Sizes.{NUMBERS}
 use Rattle.comparing.specs.declared.messages.Message.{Message}
 use Rattle.comparing.specs.declared.messages.Found.{Found}
 use Rattle.comparing.specs.declared.messages.Found.TheVariants as found
 use Rattle.comparing.specs.Messages.{Body, start_line, line_found, waiting_after, ends_at, bad_at, body_as, body_from, body_after, body_in, body_of, start_as, start_in, start_of}
+use Rattle.comparing.specs.Judging.{line_in}
 use Rattle.comparing.specs.Rows.{Rising}
 use Rattle.comparing.specs.declared.scanning.Scanned.{Scanned}
 use Rattle.comparing.specs.Tabled.{entered-rising}
@@ -41,11 +41,10 @@ abbrev pub body_left : List ℕ → Option Message → ℕ → ℕ → Body
 body_left input w at line = body_from w at line (lines_of (drop at input))
 
 -- what a scan of a recording finds: its start number, its first bad line, and the table of its messages
-pub record Scans (input : List ℕ) (from : ℕ) (body : Body) (found : Scanned) (cells : List ℕ) : Type 0 where
+pub record Scans (input : List ℕ) (from : ℕ) (body : Body) (found : Scanned) : Type 0 where
   pub starts : found.start.0 ≡ from
-  pub bads : found.bad ≡ body.bad
-  pub tables : table_of found.counts cells ≡ tabled input from no_numbers body.messages
-  pub counts : found.counts.count ≤ NUMBERS
+  pub bads : found.bad ≡ line_in body.bad
+  pub tables : table_of found.table ≡ tabled input from no_numbers body.messages
 
 -- ---- laws
 

@@ -4,10 +4,6 @@ use Rattle.std.specs.Prelude.{ℕ}
 abbrev pub NUMBERS : ℕ
 NUMBERS = 1024
 
--- three for each number
-abbrev pub CELLS : ℕ
-CELLS = 3072
-
 -- two for each number of both sides
 abbrev pub DIFFERENCES : ℕ
 DIFFERENCES = 4096

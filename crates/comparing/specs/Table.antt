@@ -1,29 +1,31 @@
 -- The table of a recording, message by message. Assumes nothing.
-use Rattle.std.specs.Prelude.{◌≡◌, true, false, cond, List, [], ◌∷◌, ℕ, ◌≤◌, ◌<◌, eqb, ltb, length, drop, Some, None, Option, ℤ}
+use Rattle.std.specs.Prelude.{◌≡◌, Bool, true, false, cond, List, [], ◌∷◌, ℕ, ◌≤◌, ◌<◌, ltb, length, drop, Some, None, Option, ℤ}
 use Rattle.std.proofs.Common.{◌∙◌, ap, lt-ltb, le-ltb}
 use Rattle.seq.specs.Distance.{distance_of}
 use Rattle.comparing.specs.Sizes.{NUMBERS}
 use Rattle.comparing.specs.declared.messages.Message.{Message}
-use Rattle.comparing.specs.declared.table.Counts.{Counts}
+use Rattle.comparing.specs.declared.table.Row.{Row}
+use Rattle.comparing.specs.declared.table.Table as code
 use Rattle.comparing.specs.Runs.{content_from, content_of, is_equal, run_at}
 use Rattle.comparing.specs.Ranks.{rank_by}
-use Rattle.comparing.specs.Rows.{Row, row, rows_of, position_in, insert_at, held_first, marked_at}
+use Rattle.comparing.specs.Rows.{row, position_in, insert_at, held_first, marked_at}
 
--- the first of two lines to be told, where 0 is none
-unfoldable pub earliest : ℕ → ℕ → ℕ
-earliest told next = cond (eqb told 0) next told
+-- a line to be told, if none was told before
+abbrev pub earliest : Option ℕ → ℕ → Option ℕ
+earliest None line = Some line
+earliest (Some told) line = Some told
 
 -- the rows, and the lines of the first far message and of the first number past 1,024
 pub record Table : Type 0 where
   pub rows : List Row
-  pub far : ℕ
-  pub many : ℕ
+  pub far : Option ℕ
+  pub many : Option ℕ
 
-abbrev pub table_of : Counts → List ℕ → Table
-table_of counts cells = record { rows = rows_of counts.count cells; far = counts.far; many = counts.many }
+abbrev pub table_of : code.Table → Table
+table_of t = record { rows = t.rows.items; far = t.far; many = t.many }
 
 abbrev pub no_numbers : Table
-no_numbers = record { rows = []; far = 0; many = 0 }
+no_numbers = record { rows = []; far = None; many = None }
 
 -- "a repeat with other content is listed as a conflict of that recording, and the first stands"
 unfoldable pub repeated : List ℕ → ℕ → ℕ → ℕ → List Row → List Row
@@ -32,13 +34,13 @@ repeated input first at i rows = cond (is_equal (content_of (run_at input first)
 
 -- "At most 1,024 numbers a side"
 unfoldable pub added : ℕ → ℕ → Message → Table → Table
-unfolding insert_at earliest
+unfolding insert_at
 added i rank m t =
     cond (ltb (length t.rows) NUMBERS)
-    (record { rows = insert_at i (row rank m.at 0) t.rows; far = t.far; many = t.many })
+    (record { rows = insert_at i (row rank m.at false) t.rows; far = t.far; many = t.many })
     (record { rows = t.rows; far = t.far; many = earliest t.many m.line })
 
-abbrev pub entered_as : Option (ℕ × ℕ) → List ℕ → ℕ → ℕ → Message → Table → Table
+abbrev pub entered_as : Option (ℕ × Bool) → List ℕ → ℕ → ℕ → Message → Table → Table
 entered_as None input i rank m t = added i rank m t
 entered_as (Some (first, flag)) input i rank m t = record { rows = repeated input first m.at i t.rows; far = t.far; many = t.many }
 
@@ -55,7 +57,7 @@ entered_by None input t m = with_far m.line t
 entered_by (Some d) input t m = entered_at input (rank_by d) m t
 
 unfoldable pub entered : List ℕ → ℕ → Table → Message → Table
-unfolding repeated added earliest held_first position_in distance_of
+unfolding repeated added held_first position_in distance_of
 entered input start t m = entered_by (distance_of m.number.0 start) input t m
 
 unfoldable pub tabled : List ℕ → ℕ → Table → List Message → Table
@@ -75,7 +77,7 @@ module _ (input : List ℕ) (first at i : ℕ) (rows : List Row) where
   repeated-other f = simp f
 
 module _ (i rank : ℕ) (m : Message) (t : Table) where
-  pub added-room : length t.rows < 1024 → added i rank m t ≡ record { rows = insert_at i (row rank m.at 0) t.rows; far = t.far; many = t.many }
+  pub added-room : length t.rows < 1024 → added i rank m t ≡ record { rows = insert_at i (row rank m.at false) t.rows; far = t.far; many = t.many }
   unfolding added
   added-room h = simp (lt-ltb (length t.rows) 1024 h)
 
@@ -84,7 +86,7 @@ module _ (i rank : ℕ) (m : Message) (t : Table) where
   added_full h = simp (le-ltb (length t.rows) 1024 h)
 
 -- a message by the row that was found for its rank, and by what is held there
-pub entered-held : (input : List ℕ) (rank i : ℕ) (m : Message) (t : Table) (held : Option (ℕ × ℕ)) → i ≡ position_in rank t.rows → held ≡ held_first rank (drop i t.rows)
+pub entered-held : (input : List ℕ) (rank i : ℕ) (m : Message) (t : Table) (held : Option (ℕ × Bool)) → i ≡ position_in rank t.rows → held ≡ held_first rank (drop i t.rows)
     → entered_as held input i rank m t ≡ entered_at input rank m t
 entered-held input rank i m t held placed e =
     ap (λ h. entered_as h input i rank m t) e ∙ ap (λ j. entered_as (held_first rank (drop j t.rows)) input j rank m t) placed

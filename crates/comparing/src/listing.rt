@@ -1,17 +1,17 @@
 // The list of differences, in rising order.
 ghost use Rattle.std.specs.Prelude.{◌≡◌, [], ◌∷◌, ◌+◌, ◌*◌, ◌^◌, ◌≤◌, ◌<◌, length, drop};
 ghost use Rattle.seq.specs.Numbers.{seq_of};
-ghost use Rattle.comparing.specs.Sizes.{CELLS, DIFFERENCES, NUMBERS};
+ghost use Rattle.comparing.specs.Sizes.{DIFFERENCES, NUMBERS};
 ghost use Rattle.comparing.specs.Ranks.{number_of};
-ghost use Rattle.comparing.specs.Rows.{Rising, rows_of};
+ghost use Rattle.comparing.specs.Rows.{Rising, held_first};
 ghost use Rattle.comparing.specs.Differences.{conflict_as, content_as, part_as, list_below};
 ghost use Rattle.comparing.specs.Compared.{words_of};
 ghost use Rattle.comparing.specs.Says.{Says, standing_held, flag_held, held_differences};
-ghost use Rattle.comparing.specs.Listing.{words_for, Pushed, has_of, place_of, next_rank};
+ghost use Rattle.comparing.specs.Listing.{words_for, Pushed, has_of, place_of, rank_left};
 ghost use Rattle.comparing.specs.Words.{kind_of, detail_of, word_of, number_in, kind_in, difference_in, Fits};
 
 use crate::runs::{Content, compare_runs};
-use crate::table::{Held, held_at};
+use crate::table::{Held, Row};
 use seq::Seq;
 
 // How two recordings differ on a number.
@@ -29,7 +29,7 @@ pub enum Difference {
     ConflictSecond,
 }
 
-// The kinds of difference.
+// The kinds of difference, as numbers still: the public `kind_in` and `count_kind` promise them so.
 pub const FIRST: u64 = 0;
 
 pub const SECOND: u64 = 1;
@@ -62,12 +62,14 @@ fn detail_of(d: Difference) -> u64
     ensures { result ≡ detail_of d }
 {
     match d {
-        Difference::First => 0,
-        Difference::Second => 0,
-        Difference::Differ(place, x, y) => place as u64 * 65536 + x as u64 * 256 + y as u64,
+        Difference::First
+        | Difference::Second
+        | Difference::ConflictFirst
+        | Difference::ConflictSecond => 0,
+        Difference::Differ(place, x, y) => {
+            place as u64 * 65536 + u64::from(x) * 256 + u64::from(y)
+        }
         Difference::Begins(length) => length as u64 * 65536,
-        Difference::ConflictFirst => 0,
-        Difference::ConflictSecond => 0,
     }
 }
 
@@ -75,8 +77,7 @@ fn word_of(number: Seq, d: Difference) -> u64
     requires { Fits d }
     ensures { result ≡ word_of number.0 d }
 {
-    let n = number.0;
-    (n as u64 * 8 + kind_of(d)) * 268435456 + detail_of(d)
+    (u64::from(number.0) * 8 + kind_of(d)) * 268435456 + detail_of(d)
 }
 
 // The number of the message that a difference is about.
@@ -109,7 +110,7 @@ pub fn difference_of(word: u64) -> Difference
     }
 }
 
-// Puts a difference behind the first n, and says how many there are then.
+// Puts a difference behind the first n, and says how many there are then. The list is memory that the caller of `compare` lends.
 fn push(list: &mut [u64], n: usize, number: Seq, d: Difference) -> usize
     requires n_in_bounds { n < length list.old }
     requires fits { Fits d }
@@ -127,11 +128,12 @@ fn list_conflict(list: &mut [u64], n: usize, number: Seq, held: Held, d: Differe
 {
     match held {
         None => n,
-        Some((_, flag)) => {
-            if flag == 0 {
-                return n;
+        Some((_, is_conflict)) => {
+            if is_conflict {
+                push(list, n, number, d)
+            } else {
+                n
             }
-            push(list, n, number, d)
         }
     }
 }
@@ -195,14 +197,23 @@ fn list_number(
     list_held(first, second, list, l, number, a, b)
 }
 
+// What the first of some rows has, if it is of this rank.
+fn held_first(rows: &[Row], rank: usize) -> Held
+    ensures { result ≡ held_first rank rows.now }
+{
+    let row = rows.first()?;
+    if row.rank == rank {
+        Some((row.place, row.is_conflict))
+    } else {
+        None
+    }
+}
+
 // How many rows a table has of a number.
 fn has(held: Held) -> usize
     ensures { result ≡ has_of held }
 {
-    match held {
-        None => 0,
-        Some((_, _)) => 1,
-    }
+    usize::from(held.is_some())
 }
 
 // The number of a rank.
@@ -214,22 +225,17 @@ fn number_of(start: Seq, rank: usize) -> Seq
     middle.add(rank as u32)
 }
 
-// The least rank that is left in two tables, of which one has a row left.
-fn next_rank(a: &[usize], acount: usize, i: usize, b: &[usize], bcount: usize, j: usize) -> usize
-    requires a_len { (length a.now ≡ CELLS) × (length b.now ≡ CELLS) }
-    requires acount_bound { (acount ≤ NUMBERS) × (bcount ≤ NUMBERS) }
-    requires i_le_acount { (i ≤ acount) × (j ≤ bcount) × (i + j < acount + bcount) }
-    ensures { result ≡ next_rank (drop i (rows_of acount a.now)) (drop j (rows_of bcount b.now)) }
+// The least rank that is left in two tables.
+fn next_rank(a: &[Row], b: &[Row]) -> Option<usize>
+    ensures { result ≡ rank_left a.now b.now }
 {
-    if acount <= i {
-        return b[j * 3];
-    }
-    if bcount <= j {
-        return a[i * 3];
-    }
-    let x = a[i * 3];
-    let y = b[j * 3];
-    if x < y { x } else { y }
+    let Some(x) = a.first() else {
+        return b.first().map(|y| y.rank);
+    };
+    let Some(y) = b.first() else {
+        return Some(x.rank);
+    };
+    Some(if x.rank < y.rank { x.rank } else { y.rank })
 }
 
 // Goes through both tables side by side.
@@ -237,30 +243,26 @@ pub(crate) fn list_all(
     first: &[u8],
     second: &[u8],
     start: Seq,
-    a: &[usize],
-    acount: usize,
-    b: &[usize],
-    bcount: usize,
+    a: &[Row],
+    b: &[Row],
     list: &mut [u64],
 ) -> usize
-    requires a_len { (length a.now ≡ CELLS) × (length b.now ≡ CELLS) × (length list.old ≡ DIFFERENCES) }
-    requires acount_bound { (acount ≤ NUMBERS) × (bcount ≤ NUMBERS) }
-    requires rising { Rising 0 (rows_of acount a.now) × Rising 0 (rows_of bcount b.now) }
-    requires says { Says first.now second.now start.0 (rows_of acount a.now) (rows_of bcount b.now) }
+    requires a_len { (length a.now ≤ NUMBERS) × (length b.now ≤ NUMBERS) × (length list.old ≡ DIFFERENCES) }
+    requires rising { Rising 0 a.now × Rising 0 b.now }
+    requires says { Says first.now second.now start.0 a.now b.now }
     ensures pushed { Pushed (words_of (list_below first.now second.now start.0 (2 ^ 32))) list.old 0 result list.new }
     ensures upper_bound { result ≤ DIFFERENCES }
 {
-    let mut i: usize = 0;
-    let mut j: usize = 0;
+    let mut x = a;
+    let mut y = b;
     let mut n: usize = 0;
-    while i + j < acount + bcount {
-        let rank = next_rank(a, acount, i, b, bcount, j);
-        let x = held_at(a, acount, i, rank);
-        let y = held_at(b, bcount, j, rank);
+    while let Some(rank) = next_rank(x, y) {
+        let held_x = held_first(x, rank);
+        let held_y = held_first(y, rank);
         let number = number_of(start, rank);
-        n = list_number(first, second, list, n, number, x, y);
-        i += has(x);
-        j += has(y);
+        n = list_number(first, second, list, n, number, held_x, held_y);
+        x = &x[has(held_x)..];
+        y = &y[has(held_y)..];
     }
     n
 }

@@ -1,7 +1,7 @@
 // The messages of a recording, line by line.
 ghost use Rattle.std.specs.Prelude.{◌≡◌};
 ghost use Rattle.recording.specs.Payloads.{is_payload};
-ghost use Rattle.comparing.specs.Messages.{start_line, found_reliable, found_carried, found_reading, found_payload, line_found, waiting_after, ends_at};
+ghost use Rattle.comparing.specs.Messages.{start_line, found_reliable, found_carried, found_reading, found_payload, line_found, waiting_after};
 
 use msg::{LinkMsg, ReliableMsg};
 use recording::{read_frame, read_payload};
@@ -37,14 +37,8 @@ pub(crate) fn read_start(line: &[u8]) -> Option<Seq>
         return None;
     }
     let mut bytes = [0u8; 4];
-    let Some(_) = read_hex(line, &mut bytes) else {
-        return None;
-    };
-    let a = bytes[0] as u32;
-    let b = bytes[1] as u32;
-    let c = bytes[2] as u32;
-    let d = bytes[3] as u32;
-    Some(Seq(((a * 256 + b) * 256 + c) * 256 + d))
+    read_hex(line, &mut bytes)?;
+    Some(Seq(u32::from_be_bytes(bytes)))
 }
 
 fn find_reliable(msg: ReliableMsg, m: Message) -> Found
@@ -52,10 +46,10 @@ fn find_reliable(msg: ReliableMsg, m: Message) -> Found
 {
     match msg {
         ReliableMsg::Data => Found::Awaits(m),
-        ReliableMsg::Consumed(_) => Found::Holds(m),
-        ReliableMsg::SendFinish => Found::Holds(m),
-        ReliableMsg::ReceiveClose => Found::Holds(m),
-        ReliableMsg::ReceiveFinish => Found::Holds(m),
+        ReliableMsg::Consumed(_)
+        | ReliableMsg::SendFinish
+        | ReliableMsg::ReceiveClose
+        | ReliableMsg::ReceiveFinish => Found::Holds(m),
     }
 }
 
@@ -102,19 +96,7 @@ pub(crate) fn wait_after(found: Found) -> Option<Message>
     ensures { result ≡ waiting_after found }
 {
     match found {
-        Found::Bad => None,
         Found::Awaits(m) => Some(m),
-        Found::Holds(_) => None,
-        Found::Passes => None,
-    }
-}
-
-// The line that the end of a recording makes bad: an absent payload is its frame's. 0 for none.
-pub(crate) fn bad_at_end(waiting: Option<Message>) -> usize
-    ensures { result ≡ ends_at waiting }
-{
-    match waiting {
-        None => 0,
-        Some(m) => m.line,
+        Found::Bad | Found::Holds(_) | Found::Passes => None,
     }
 }

@@ -1,5 +1,5 @@
 // A message as one run of bytes, its frame and then its payload, and where two runs part.
-ghost use Rattle.std.specs.Prelude.{◌≡◌, ◌++◌, ◌+◌, ◌≤◌, length, take, drop};
+ghost use Rattle.std.specs.Prelude.{◌≡◌, ◌++◌, ◌+◌, ◌≤◌, ◌==◌, ℕ, not, position, zip, length, take, drop};
 ghost use Rattle.comparing.specs.Sizes.{RUN};
 ghost use Rattle.comparing.specs.Runs.{content_of, line_bytes, payload_after, run_at};
 
@@ -18,25 +18,24 @@ pub enum Content {
     Begins(usize),
 }
 
+// The place of the first byte in which two runs differ, as far as both go.
+fn first_difference(a: &[u8], b: &[u8]) -> Option<usize>
+    ensures { result ≡ position (λ (both : ℕ × ℕ). not (both.0 == both.1)) (zip a.now b.now) }
+{
+    a.iter().zip(b).position(|(x, y)| *x != *y)
+}
+
 pub(crate) fn compare_bytes(a: &[u8], b: &[u8]) -> Content
     ensures { result ≡ content_of a.now b.now }
 {
-    let mut i: usize = 0;
-    while i < a.len() {
-        if b.len() <= i {
-            return Content::Begins(i);
-        }
-        let x = a[i];
-        let y = b[i];
-        if x != y {
-            return Content::Differ(i, x, y);
-        }
-        i += 1;
-    }
-    if i < b.len() {
-        return Content::Begins(i);
-    }
-    Content::Equal
+    let Some(place) = first_difference(a, b) else {
+        return if a.len() == b.len() {
+            Content::Equal
+        } else {
+            Content::Begins(a.len().min(b.len()))
+        };
+    };
+    Content::Differ(place, a[place], b[place])
 }
 
 // Puts the bytes of a line behind the first n of a run, and says how many the run has now.
@@ -62,9 +61,7 @@ fn append_payload(found: Found, line: &[u8], run: &mut [u8], n: usize) -> usize
 {
     match found {
         Found::Awaits(_) => append_line(line, run, n),
-        Found::Bad => n,
-        Found::Holds(_) => n,
-        Found::Passes => n,
+        Found::Bad | Found::Holds(_) | Found::Passes => n,
     }
 }
 

@@ -1,54 +1,31 @@
 // Reading a recording into a table of its numbers.
-ghost use Rattle.std.specs.Prelude.{◌≡◌, ◌≤◌, length};
-ghost use Rattle.comparing.specs.Sizes.{CELLS, NUMBERS};
+ghost use Rattle.std.specs.Prelude.{◌≡◌, ◌≤◌};
 ghost use Rattle.comparing.specs.Messages.{body_of, start_of};
-ghost use Rattle.comparing.specs.Rows.{Rising, rows_of};
+ghost use Rattle.comparing.specs.Rows.{Rising};
 ghost use Rattle.comparing.specs.Table.{table_of};
-ghost use Rattle.comparing.specs.Scanning.{is_bad, entered_found, next_line, body_left, Scans};
+ghost use Rattle.comparing.specs.Scanning.{entered_found, next_line, body_left, Scans};
 
-use crate::messages::{Found, bad_at_end, read_line, read_start, wait_after};
-use crate::table::{Counts, enter};
+use crate::messages::{Found, read_line, read_start, wait_after};
+use crate::table::Table;
 use recording::line_end;
 use seq::Seq;
 
-// What a recording was found to be: its start number, its first bad line, 0 for none, and the counts of its table.
-#[derive(Clone, Copy)]
+// What a recording was found to be: its start number, its first bad line, and the table of its numbers.
+#[derive(Drop)]
 pub struct Scanned {
     pub start: Seq,
-    pub bad: usize,
-    pub counts: Counts,
-}
-
-fn is_bad(found: Found) -> bool
-    ensures { result ≡ is_bad found }
-{
-    match found {
-        Found::Bad => true,
-        Found::Awaits(_) => false,
-        Found::Holds(_) => false,
-        Found::Passes => false,
-    }
+    pub bad: Option<usize>,
+    pub table: Table,
 }
 
 // Only a whole message with a number is entered.
-fn enter_found(
-    input: &[u8],
-    start: Seq,
-    found: Found,
-    cells: &mut [usize],
-    counts: Counts,
-) -> Counts
-    requires cells_len { length cells.old ≡ CELLS }
-    requires count_bound { counts.count ≤ NUMBERS }
-    requires rising { Rising 0 (rows_of counts.count cells.old) }
-    ensures cells_after { table_of result cells.new ≡ entered_found input.now start.0 (table_of counts cells.old) found }
-    ensures count_bound_2 { result.count ≤ NUMBERS }
+fn enter_found(input: &[u8], start: Seq, found: Found, table: &mut Table)
+    requires { Rising 0 table.old.rows.items }
+    ensures { table_of table.new ≡ entered_found input.now start.0 (table_of table.old) found }
 {
     match found {
-        Found::Bad => counts,
-        Found::Awaits(_) => counts,
-        Found::Holds(m) => enter(input, start, m, cells, counts),
-        Found::Passes => counts,
+        Found::Holds(m) => table.enter(input, start, m),
+        Found::Bad | Found::Awaits(_) | Found::Passes => {}
     }
 }
 
@@ -60,57 +37,49 @@ fn next_line(input: &[u8], end: usize) -> usize
 }
 
 // Reads the lines from a place on, the second line's.
-fn scan_body(input: &[u8], start: Seq, from: usize, cells: &mut [usize]) -> Scanned
-    requires cells_len { length cells.old ≡ CELLS }
-    requires le_from { 2 ≤ from }
-    ensures { Scans input.now start.0 (body_left input.now None from 2) result cells.new }
+fn scan_body(input: &[u8], start: Seq, from: usize) -> Scanned
+    requires { 2 ≤ from }
+    ensures { Scans input.now start.0 (body_left input.now None from 2) result }
 {
     let mut at = from;
     let mut line: usize = 2;
     let mut waiting = None;
-    let mut counts = Counts {
-        count: 0,
-        far: 0,
-        many: 0,
-    };
+    let mut table = Table::new();
+    // a message is known by the place of its line, so the lines are found by place and not split off
     while at < input.len() {
         let end = line_end(input, at);
         let found = read_line(waiting, &input[at..end], at, line);
-        if is_bad(found) {
+        if let Found::Bad = found {
             return Scanned {
                 start,
-                bad: line,
-                counts,
+                bad: Some(line),
+                table,
             };
         }
-        counts = enter_found(input, start, found, cells, counts);
+        enter_found(input, start, found, &mut table);
         waiting = wait_after(found);
         at = next_line(input, end);
         line += 1;
     }
+    // an absent payload makes its frame's line bad
     Scanned {
         start,
-        bad: bad_at_end(waiting),
-        counts,
+        bad: waiting.map(|m| m.line),
+        table,
     }
 }
 
 // Reads a whole recording.
-pub(crate) fn scan(input: &[u8], cells: &mut [usize]) -> Scanned
-    requires { length cells.old ≡ CELLS }
-    ensures { Scans input.now (start_of input.now) (body_of input.now) result cells.new }
+pub(crate) fn scan(input: &[u8]) -> Scanned
+    ensures { Scans input.now (start_of input.now) (body_of input.now) result }
 {
     let end = line_end(input, 0);
     let Some(start) = read_start(&input[..end]) else {
         return Scanned {
             start: Seq(0),
-            bad: 1,
-            counts: Counts {
-                count: 0,
-                far: 0,
-                many: 0,
-            },
+            bad: Some(1),
+            table: Table::new(),
         };
     };
-    scan_body(input, start, next_line(input, end), cells)
+    scan_body(input, start, next_line(input, end))
 }

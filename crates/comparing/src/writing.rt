@@ -1,7 +1,9 @@
-// The list as text: one line a difference, a line for a refusal, and one that sums up.
-ghost use Rattle.std.specs.Prelude.{[], ◌∷◌, ◌≡◌, ◌-◌, length, take, drop};
+// The list as text: one line a difference, a line for a refusal, and one that sums up. It is put at a place in lent memory, since what is
+// promised is each byte, of which `write!` says nothing.
+ghost use Rattle.std.specs.Prelude.{[], ◌∷◌, ◌≡◌, ◌==◌, length, count_by, take, drop};
 ghost use Rattle.text.specs.Put.{Puts, decimal_text};
 ghost use Rattle.comparing.specs.declared.listing.Difference.TheVariants.{Differ, Begins};
+ghost use Rattle.comparing.specs.Words.{kind_in};
 ghost use Rattle.comparing.specs.Writing.{number_parts, what_parts, side_text, count_parts, line_text, refused_text, kinds_in, equal_in, summary_text, starts_with};
 
 use crate::comparison::Side;
@@ -22,10 +24,11 @@ pub const SUMMARY: usize = 320;
 fn put_number(n: u32, out: &mut [u8], at: usize) -> usize
     ensures { Puts (number_parts n) out.old at result out.new }
 {
-    let a = put_hex((n / 16777216) as u8, out, at);
-    let b = put_hex((n / 65536 % 256) as u8, out, a);
-    let c = put_hex((n / 256 % 256) as u8, out, b);
-    put_hex((n % 256) as u8, out, c)
+    let [a, b, c, d] = n.to_be_bytes();
+    let at = put_hex(a, out, at);
+    let at = put_hex(b, out, at);
+    let at = put_hex(c, out, at);
+    put_hex(d, out, at)
 }
 
 // A number in decimal, and what stands behind it.
@@ -93,42 +96,33 @@ pub fn write_refused(refusal: Refusal, side: Side, line: usize, out: &mut [u8; L
     ensures out_after { out.new ≡ starts_with (refused_text refusal side line) out.old }
 {
     let a = put(b"refused ", out, 0);
-    let b = put_decimal(refusal.number() as u64, out, a);
+    let b = put_decimal(u64::from(refusal.number()), out, a);
     let c = put_side(side, out, b);
     put_count(line, b"\n", out, c)
+}
+
+// How many words are of a kind.
+fn count_in(words: &[u64], kind: u64) -> usize
+    ensures { result ≡ count_by (λ word. kind_in word == kind) words.now }
+{
+    words.iter().filter(|word| kind_in(**word) == kind).count()
 }
 
 // How many of the first n differences are of a kind.
 pub fn count_kind(list: &[u64], n: usize, kind: u64) -> usize
     ensures { result ≡ kinds_in kind (take n list.now) }
 {
-    let mut count: usize = 0;
-    let mut i: usize = 0;
-    while i < list.len() {
-        if n <= i {
-            return count;
-        }
-        if kind_in(list[i]) == kind {
-            count += 1;
-        }
-        i += 1;
-    }
-    count
-}
-
-fn less(a: usize, b: usize) -> usize
-    ensures { result ≡ a - b }
-{
-    if b < a { a - b } else { 0 }
+    count_in(&list[..n.min(list.len())], kind)
 }
 
 // The numbers that both have with equal messages.
 fn equal_in(list: &[u64], n: usize, first: usize) -> usize
     ensures { result ≡ equal_in (take n list.now) first }
 {
-    let a = less(first, count_kind(list, n, FIRST));
-    let b = less(a, count_kind(list, n, DIFFER));
-    less(b, count_kind(list, n, BEGINS))
+    first
+        .saturating_sub(count_kind(list, n, FIRST))
+        .saturating_sub(count_kind(list, n, DIFFER))
+        .saturating_sub(count_kind(list, n, BEGINS))
 }
 
 // The numbers of each side, and those that are equal.

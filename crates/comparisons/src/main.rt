@@ -27,53 +27,43 @@ fn digit(b: u8) -> usize
     }
 }
 
-// What five digits say, at most the bytes of a recording.
-fn length_of(a: u8, b: u8, c: u8, d: u8, e: u8) -> usize
+// What digits say, at most the bytes of a recording.
+fn length_of(digits: &[u8]) -> usize
     ensures { result ≤ 24576 }
 {
-    let n = digit(a) * 10000 + digit(b) * 1000 + digit(c) * 100 + digit(d) * 10 + digit(e);
-    if n < MOST { n } else { MOST }
-}
-
-// Writes the start of a text. No text is as long as its room, so that the test always passes.
-fn show_start(text: &[u8], length: usize) {
-    if text.len() < length {
-        return;
+    let mut n: usize = 0;
+    for b in digits {
+        n = (n * 10 + digit(*b)).min(MOST);
     }
-    io::write_all(STDOUT_FILENO, &text[..length]);
+    n
 }
 
-fn show_line(text: &[u8; LINE], length: usize) {
-    show_start(text, length);
-}
-
-fn show_sum(text: &[u8; SUMMARY], length: usize) {
-    show_start(text, length);
+// Writes the start of a text. No text is as long as its room, so that the text is always there.
+fn show_start(text: &[u8], length: usize) {
+    if let Some(text) = text.get(..length) {
+        io::write_all(STDOUT_FILENO, text);
+    }
 }
 
 fn show_difference(word: u64) {
     let mut text = [0u8; LINE];
     let length = write_difference(word, &mut text);
-    show_line(&text, length);
-}
-
-fn show_differences(list: &[u64; DIFFERENCES], n: usize) {
-    for word in list.iter().take(n) {
-        show_difference(*word);
-    }
+    show_start(&text, length);
 }
 
 fn show_list(list: &[u64; DIFFERENCES], n: usize, first: usize, second: usize) {
-    show_differences(list, n);
+    for word in list.iter().take(n) {
+        show_difference(*word);
+    }
     let mut text = [0u8; SUMMARY];
     let length = write_summary(list, n, first, second, &mut text);
-    show_sum(&text, length);
+    show_start(&text, length);
 }
 
 fn show_refusal(refusal: Refusal, side: Side, line: usize) {
     let mut text = [0u8; LINE];
     let length = write_refused(refusal, side, line, &mut text);
-    show_line(&text, length);
+    show_start(&text, length);
 }
 
 fn show(compared: Compared, list: &[u64; DIFFERENCES]) {
@@ -84,10 +74,10 @@ fn show(compared: Compared, list: &[u64; DIFFERENCES]) {
 }
 
 // Reads the next bytes of the input, as many as are asked for and there, and says how many.
-fn read_part(part: &mut [u8], n: usize) -> usize {
-    if part.len() < n {
-        return 0;
-    }
+fn read_part(part: &mut [u8; MOST], n: usize) -> usize
+    requires { n ≤ 24576 }
+    ensures { result ≤ n }
+{
     io::read_full(STDIN_FILENO, &mut part[..n])
 }
 
@@ -108,20 +98,8 @@ fn compare_next() -> bool {
     }
     let mut first = [0u8; MOST];
     let mut second = [0u8; MOST];
-    let n = read_part(
-        &mut first,
-        length_of(header[0], header[1], header[2], header[3], header[4]),
-    );
-    let m = read_part(
-        &mut second,
-        length_of(header[6], header[7], header[8], header[9], header[10]),
-    );
-    if MOST < n {
-        return false;
-    }
-    if MOST < m {
-        return false;
-    }
+    let n = read_part(&mut first, length_of(&header[..5]));
+    let m = read_part(&mut second, length_of(&header[6..11]));
     compare_pair(&first[..n], &second[..m]);
     true
 }

@@ -8,7 +8,7 @@ ghost use Rattle.std.specs.Prelude.{◌≤◌};
 
 use recording::MAX_LINE;
 use replaying::{CELLS, LINE_TEXT, RECEIVED_BYTES, Session, begin, close, feed};
-use text::{hex_digit, hex_value};
+use text::{hex_value, put_hex};
 
 // The descriptors of standard input and of standard output.
 const STDIN_FILENO: i32 = 0;
@@ -20,34 +20,28 @@ const PIECE: usize = 8192;
 
 const BUFFER: usize = 4096;
 
-// What four digits say, at most so much.
-fn number(a: u8, b: u8, c: u8, d: u8, most: usize) -> usize
+// What digits say, at most so much.
+fn number(digits: &[u8], most: usize) -> usize
     ensures { result ≤ most }
 {
-    let n = hex_value(a) as usize * 4096
-        + hex_value(b) as usize * 256
-        + hex_value(c) as usize * 16
-        + hex_value(d) as usize;
-    if n < most { n } else { most }
+    let mut n: usize = 0;
+    for b in digits {
+        n = (n * 16 + usize::from(hex_value(*b))).min(PIECE);
+    }
+    n.min(most)
 }
 
-fn digit(n: usize) -> u8 {
-    hex_digit((n % 16) as u8)
+// Four digits of a number.
+fn put_count(n: usize, out: &mut [u8], at: usize) -> usize {
+    let [high, low] = ((n % 0x1_0000) as u16).to_be_bytes();
+    let at = put_hex(high, out, at);
+    put_hex(low, out, at)
 }
 
 fn show_counts(used: usize, wrote: usize) {
-    let counts = [
-        digit(used / 4096),
-        digit(used / 256),
-        digit(used / 16),
-        digit(used),
-        b' ',
-        digit(wrote / 4096),
-        digit(wrote / 256),
-        digit(wrote / 16),
-        digit(wrote),
-        b'\n',
-    ];
+    let mut counts = *b"0000 0000\n";
+    put_count(used, &mut counts, 0);
+    put_count(wrote, &mut counts, 5);
     io::write_all(STDOUT_FILENO, &counts);
 }
 
@@ -92,59 +86,38 @@ fn close_one(session: Session, store: &mut [u8], records: &mut [u64], line: &[u8
     io::write_all(STDOUT_FILENO, &text[..closed.wrote]);
 }
 
-// A session to go on with, and whether there was an item.
-#[derive(Clone, Copy)]
-struct Turn {
-    session: Session,
-    is_more: bool,
-}
-
+// Takes the next item, if there is one, and answers the session to go on with.
 fn next_item(
     session: Session,
     store: &mut [u8],
     records: &mut [u64],
     line: &mut [u8; MAX_LINE],
-) -> Turn {
+) -> Option<Session> {
     let mut item = [0u8; 12];
     let got = io::read_full(STDIN_FILENO, &mut item);
     if got < 12 {
-        return Turn {
-            session,
-            is_more: false,
-        };
+        return None;
     }
-    let length = number(item[2], item[3], item[4], item[5], PIECE);
-    let room = number(item[7], item[8], item[9], item[10], BUFFER);
+    let length = number(&item[2..6], PIECE);
+    let room = number(&item[7..11], BUFFER);
     match item[0] {
-        b'p' => Turn {
-            session: feed_next(session, store, records, line, length, room),
-            is_more: true,
-        },
+        b'p' => Some(feed_next(session, store, records, line, length, room)),
         b'c' => {
             close_one(session, store, records, line);
-            Turn {
-                session: begin(records),
-                is_more: true,
-            }
+            Some(begin(records))
         }
-        _ => Turn {
-            session: begin(records),
-            is_more: true,
-        },
+        _ => Some(begin(records)),
     }
 }
 
-// A proved loop has to end, so this one counts its turns down, from a number that no run uses up.
+// A proved loop has to end, so this one has as many turns as no run uses up.
 fn take_items(store: &mut [u8], records: &mut [u64], line: &mut [u8; MAX_LINE]) {
     let mut session = begin(records);
-    let mut turns = u64::MAX;
-    while turns > 0 {
-        let turn = next_item(session, store, records, line);
-        if !turn.is_more {
+    for _ in 0..u64::MAX {
+        let Some(next) = next_item(session, store, records, line) else {
             return;
-        }
-        session = turn.session;
-        turns -= 1;
+        };
+        session = next;
     }
 }
 

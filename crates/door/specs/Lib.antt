@@ -3,3 +3,4 @@ pub mod Fresh
 pub mod Doors
 pub mod Slowness
 pub mod Messages
+pub mod One

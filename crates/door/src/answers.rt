@@ -1,8 +1,8 @@
 // What a host is told: the number is answered, and the values are written over the first of three lent words. A refusal has none, and writes nothing.
-ghost use Rattle.std.specs.Prelude.{◌≡◌};
+ghost use Rattle.std.specs.Prelude.{◌≡◌, ℕ, set, Ok, Err};
 ghost use Rattle.std.proofs.lemmas.List.Edits.{sets};
+ghost use Rattle.refusal.specs.declared.Refusal.{Refusal};
 ghost use Rattle.refusal.specs.Refusals.{number_of};
-ghost use Rattle.refusal.specs.Answers.{flag};
 ghost use Rattle.engine.specs.Answer.{outcome_told};
 ghost use Rattle.engine.specs.Deadlines.{confirm_timeout_told};
 ghost use Rattle.engine.specs.HandingOut.{due_told, hand_out_told, take_ack_told};
@@ -14,6 +14,7 @@ use engine::{ConfirmTimeout, HandOut};
 use msg::ReliableMsg;
 use refusal::Refusal;
 use seq::Seq;
+use words::bits::flag;
 
 // The refusals that are told before the state is looked at: a state that is not sound, a store or the records of a wrong length, and a message that there is none of.
 pub(crate) const UNSOUND: u64 = 1;
@@ -31,13 +32,7 @@ pub(crate) fn refused(e: Refusal) -> u64
 pub(crate) fn word(seq: Seq) -> u64
     ensures { result ≡ seq.0 }
 {
-    seq.0 as u64
-}
-
-fn flag(set: bool) -> u64
-    ensures { result ≡ flag set }
-{
-    if set { 1 } else { 0 }
+    u64::from(seq.0)
 }
 
 pub(crate) fn tell(outcome: Result<(), Refusal>) -> u64
@@ -49,18 +44,31 @@ pub(crate) fn tell(outcome: Result<(), Refusal>) -> u64
     }
 }
 
+// One value, of whatever type.
+pub(crate) fn tell_one<T, F: FnOnce(T) -> u64>(
+    answer: Result<T, Refusal>,
+    values: &mut [u64; 3],
+    word: F,
+) -> u64
+    requires { F.IsAlwaysCallable word }
+    ensures refused { (e : Refusal) → answer ≡ Err e → (result ≡ number_of e) × (values.new ≡ values.old) }
+    ensures said { (x : _) → answer ≡ Ok x → (n : ℕ) × F.post word x n × (result ≡ 0) × (values.new ≡ set values.old 0 n) }
+{
+    match answer {
+        Err(refusal) => refused(refusal),
+        Ok(x) => {
+            values[0] = word(x);
+            0
+        }
+    }
+}
+
 // The slot.
 pub(crate) fn tell_added(answer: Result<u8, Refusal>, values: &mut [u64; 3]) -> u64
     ensures value { result ≡ (add_told answer).number }
     ensures values_after { values.new ≡ sets values.old 0 (add_told answer).values }
 {
-    match answer {
-        Err(refusal) => refused(refusal),
-        Ok(slot) => {
-            values[0] = slot as u64;
-            0
-        }
-    }
+    tell_one(answer, values, |slot| u64::from(slot))
 }
 
 // The number.
@@ -68,13 +76,7 @@ pub(crate) fn tell_sent(answer: Result<Seq, Refusal>, values: &mut [u64; 3]) -> 
     ensures value { result ≡ (send_told answer).number }
     ensures values_after { values.new ≡ sets values.old 0 (send_told answer).values }
 {
-    match answer {
-        Err(e) => refused(e),
-        Ok(seq) => {
-            values[0] = word(seq);
-            0
-        }
-    }
+    tell_one(answer, values, |seq| word(seq))
 }
 
 // The number.
@@ -82,13 +84,7 @@ pub(crate) fn tell_ack(answer: Result<Seq, Refusal>, values: &mut [u64; 3]) -> u
     ensures value { result ≡ (take_ack_told answer).number }
     ensures values_after { values.new ≡ sets values.old 0 (take_ack_told answer).values }
 {
-    match answer {
-        Err(e) => refused(e),
-        Ok(seq) => {
-            values[0] = word(seq);
-            0
-        }
-    }
+    tell_one(answer, values, |seq| word(seq))
 }
 
 // Kind, count and length.
@@ -128,13 +124,7 @@ pub(crate) fn tell_due(answer: Result<bool, Refusal>, values: &mut [u64; 3]) -> 
     ensures value { result ≡ (due_told answer).number }
     ensures values_after { values.new ≡ sets values.old 0 (due_told answer).values }
 {
-    match answer {
-        Err(e) => refused(e),
-        Ok(due) => {
-            values[0] = flag(due);
-            0
-        }
-    }
+    tell_one(answer, values, |due| flag(due))
 }
 
 // Slot, flushed or not, and the deadline; nothing where no packet is named.

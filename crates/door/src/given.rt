@@ -13,29 +13,20 @@ use words::receiving::rx_of;
 pub(crate) fn max_ping_given(limited: bool, max_ping: u64) -> Option<u64>
     ensures { result ≡ max_ping_given limited max_ping }
 {
-    if limited {
-        return Some(max_ping);
-    }
-    None
+    limited.then_some(max_ping)
 }
 
 // The message that has no count.
 fn plain_given(kind: u8) -> Option<ReliableMsg>
     ensures { result ≡ plain_given kind }
 {
-    if kind == LinkMsg::MSG_DATA {
-        return Some(ReliableMsg::Data);
+    match kind {
+        LinkMsg::MSG_DATA => Some(ReliableMsg::Data),
+        LinkMsg::MSG_SEND_FINISH => Some(ReliableMsg::SendFinish),
+        LinkMsg::MSG_RECEIVE_CLOSE => Some(ReliableMsg::ReceiveClose),
+        LinkMsg::MSG_RECEIVE_FINISH => Some(ReliableMsg::ReceiveFinish),
+        _ => None,
     }
-    if kind == LinkMsg::MSG_SEND_FINISH {
-        return Some(ReliableMsg::SendFinish);
-    }
-    if kind == LinkMsg::MSG_RECEIVE_CLOSE {
-        return Some(ReliableMsg::ReceiveClose);
-    }
-    if kind == LinkMsg::MSG_RECEIVE_FINISH {
-        return Some(ReliableMsg::ReceiveFinish);
-    }
-    None
 }
 
 // The message that a kind and a count name: a count is a Consumed's alone.
@@ -55,7 +46,7 @@ pub(crate) fn message_given(kind: u8, count: u32) -> Option<ReliableMsg>
 pub(crate) fn rx_said(words: &[u64]) -> Receiving
     ensures { result ≡ (state_of words.now).rx }
 {
-    if words.len() != WORDS {
+    let Some(words) = words.as_array::<WORDS>() else {
         return Receiving {
             rx_seq: Seq::ZERO,
             rx_oldest: Seq::ZERO,
@@ -65,6 +56,6 @@ pub(crate) fn rx_said(words: &[u64]) -> Receiving
             cells: 0,
             rx_end: Seq::ZERO,
         };
-    }
+    };
     rx_of(words)
 }

@@ -10,7 +10,7 @@ ghost use Rattle.door.specs.Given.{max_ping_given};
 
 use crate::answers::{UNSOUND, tell, tell_added};
 use crate::given::max_ping_given;
-use judging::is_sound;
+use judging::as_mut_sound;
 use links_in_place::{adding, links};
 use seq::Seq;
 
@@ -31,9 +31,9 @@ pub extern "C" fn fk_add(
     ensures values_after { values.new ≡ sets values.old 0 (add_told (add_of (state_of words.old) link_id roundtrip (max_ping_given limited max_ping) blocked unconfirmed).answer).values }
     ensures left { Left result words.old words.new }
 {
-    if !is_sound(words) {
+    let Some(words) = as_mut_sound(words) else {
         return UNSOUND;
-    }
+    };
     let max = max_ping_given(limited, max_ping);
     let answer = adding::add(words, link_id, roundtrip, max, blocked, unconfirmed);
     tell_added(answer, values)
@@ -45,9 +45,9 @@ pub extern "C" fn fk_confirm(words: &mut [u64], slot: u8) -> u64
     ensures words_after { state_of words.new ≡ (confirm_of (state_of words.old) slot).state }
     ensures left { Left result words.old words.new }
 {
-    if !is_sound(words) {
+    let Some(words) = as_mut_sound(words) else {
         return UNSOUND;
-    }
+    };
     tell(links::confirm(words, slot))
 }
 
@@ -57,9 +57,9 @@ pub extern "C" fn fk_block(words: &mut [u64], slot: u8, blocked: bool) -> u64
     ensures words_after { state_of words.new ≡ (block_of (state_of words.old) slot blocked).state }
     ensures left { Left result words.old words.new }
 {
-    if !is_sound(words) {
+    let Some(words) = as_mut_sound(words) else {
         return UNSOUND;
-    }
+    };
     tell(links::block(words, slot, blocked))
 }
 
@@ -70,9 +70,9 @@ pub extern "C" fn fk_mark(words: &mut [u64], slot: u8, number: u32) -> u64
     ensures words_after { state_of words.new ≡ (mark_of (state_of words.old) slot (seq_of number)).state }
     ensures left { Left result words.old words.new }
 {
-    if !is_sound(words) {
+    let Some(words) = as_mut_sound(words) else {
         return UNSOUND;
-    }
+    };
     tell(links::mark(words, slot, Seq(number)))
 }
 
@@ -83,9 +83,9 @@ pub extern "C" fn fk_ping(words: &mut [u64], slot: u8, time: u64) -> u64
     ensures words_after { state_of words.new ≡ (ping_of (state_of words.old) slot time).state }
     ensures left { Left result words.old words.new }
 {
-    if !is_sound(words) {
+    let Some(words) = as_mut_sound(words) else {
         return UNSOUND;
-    }
+    };
     tell(links::ping(words, slot, time))
 }
 
@@ -96,8 +96,8 @@ pub extern "C" fn fk_pong(words: &mut [u64], slot: u8, time: u64) -> u64
     ensures words_after { state_of words.new ≡ (pong_of (state_of words.old) slot time).state }
     ensures left { Left result words.old words.new }
 {
-    if !is_sound(words) {
+    let Some(words) = as_mut_sound(words) else {
         return UNSOUND;
-    }
+    };
     tell(links::pong(words, slot, time))
 }

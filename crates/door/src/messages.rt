@@ -6,7 +6,7 @@ ghost use Rattle.msg.specs.Reading.{read_told};
 ghost use Rattle.msg.specs.Writing.{written_told, write_of, buffer_of};
 ghost use Rattle.door.specs.Messages.{reason_given, block_given, link_given, asked_link};
 
-use crate::answers::{UNKNOWN, refused, word};
+use crate::answers::{UNKNOWN, refused, tell_one, word};
 use msg::{LinkMsg, RefusedReason, read, write};
 use refusal::Refusal;
 use seq::Seq;
@@ -25,27 +25,26 @@ fn reason_number(reason: RefusedReason) -> u64
 fn block_number(blocked: bool) -> u64
     ensures { result ≡ block_byte blocked }
 {
-    if blocked { 1 } else { 0 }
+    u64::from(blocked)
 }
 
 fn say_kind(kind: u8, values: &mut [u64; 3])
     ensures { values.new ≡ sets values.old 0 (kind ∷ []) }
 {
-    values[0] = kind as u64;
+    values[0] = u64::from(kind);
 }
 
 fn say_one(kind: u8, first: u64, values: &mut [u64; 3])
     ensures { values.new ≡ sets values.old 0 (kind ∷ first ∷ []) }
 {
-    values[0] = kind as u64;
+    say_kind(kind, values);
     values[1] = first;
 }
 
 fn say_two(kind: u8, first: u64, second: u64, values: &mut [u64; 3])
     ensures { values.new ≡ sets values.old 0 (kind ∷ first ∷ second ∷ []) }
 {
-    values[0] = kind as u64;
-    values[1] = first;
+    say_one(kind, first, values);
     values[2] = second;
 }
 
@@ -158,13 +157,7 @@ fn tell_written(answer: Result<usize, Refusal>, values: &mut [u64; 3]) -> u64
     ensures value { result ≡ (written_told answer).number }
     ensures values_after { values.new ≡ sets values.old 0 (written_told answer).values }
 {
-    match answer {
-        Err(e) => refused(e),
-        Ok(n) => {
-            values[0] = n as u64;
-            0
-        }
-    }
+    tell_one(answer, values, |n| n as u64)
 }
 
 // Writes a message to the start of the buffer; the value is how many bytes it has. Its kind and numbers name it as the values of fk_read do: 20 where they name none.

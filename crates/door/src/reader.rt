@@ -8,7 +8,7 @@ ghost use Rattle.words.specs.Meaning.{state_of};
 ghost use Rattle.words.specs.Ready.{Left};
 
 use crate::answers::{UNSOUND, tell, tell_ack, tell_due};
-use judging::is_sound;
+use judging::{as_mut_sound, as_sound};
 use links_in_place::{acks, reader};
 
 // Takes the oldest ack that waits on a link; the value is its number.
@@ -19,9 +19,9 @@ pub extern "C" fn fk_take_ack(words: &mut [u64], slot: u8, values: &mut [u64; 3]
     ensures values_after { values.new ≡ sets values.old 0 (take_ack_told (take_ack_of (state_of words.old) slot).answer).values }
     ensures left { Left result words.old words.new }
 {
-    if !is_sound(words) {
+    let Some(words) = as_mut_sound(words) else {
         return UNSOUND;
-    }
+    };
     tell_ack(acks::take_ack(words, slot), values)
 }
 
@@ -31,9 +31,9 @@ pub extern "C" fn fk_close_reader(words: &mut [u64]) -> u64
     ensures words_after { state_of words.new ≡ (close_of (state_of words.old)).state }
     ensures left { Left result words.old words.new }
 {
-    if !is_sound(words) {
+    let Some(words) = as_mut_sound(words) else {
         return UNSOUND;
-    }
+    };
     tell(reader::close_reader(words))
 }
 
@@ -43,8 +43,8 @@ pub extern "C" fn fk_is_consume_ack_required(words: &[u64], values: &mut [u64; 3
     ensures value { result ≡ (due_told (due_of (state_of words.now))).number }
     ensures values_after { values.new ≡ sets values.old 0 (due_told (due_of (state_of words.now))).values }
 {
-    if !is_sound(words) {
+    let Some(words) = as_sound(words) else {
         return UNSOUND;
-    }
+    };
     tell_due(reader::is_consume_ack_required(words), values)
 }

@@ -11,7 +11,7 @@ ghost use Rattle.door.specs.Given.{asked, given};
 use crate::answers::{UNKNOWN, UNSOUND, WRONG_LENGTH, tell, tell_message};
 use crate::given::{message_given, rx_said};
 use engine::receiving::lengths_ok;
-use judging::is_sound_with;
+use judging::{as_mut_sound_with, as_sound_with};
 use msg::ReliableMsg;
 use receiving_in_place::{handing_out, receiving};
 use seq::Seq;
@@ -35,9 +35,9 @@ fn receive_message(
     if !lengths_ok(rx, store.len(), records.len()) {
         return WRONG_LENGTH;
     }
-    if !is_sound_with(words, records) {
+    let Some(words) = as_mut_sound_with(words, records) else {
         return UNSOUND;
-    }
+    };
     tell(receiving::receive(words, store, records, slot, msg, Seq(number), payload))
 }
 
@@ -81,9 +81,9 @@ pub extern "C" fn fk_showing(
     if !lengths_ok(rx, store.len(), records.len()) {
         return WRONG_LENGTH;
     }
-    if !is_sound_with(words, records) {
+    let Some(words) = as_sound_with(words, records) else {
         return UNSOUND;
-    }
+    };
     tell_message(handing_out::showing(words, store.len(), records), values)
 }
 
@@ -100,8 +100,8 @@ pub extern "C" fn fk_take(words: &mut [u64], records: &mut [u64], values: &mut [
     if records.len() != rx.cells as usize {
         return WRONG_LENGTH;
     }
-    if !is_sound_with(words, records) {
+    let Some(words) = as_mut_sound_with(words, records) else {
         return UNSOUND;
-    }
+    };
     tell_message(handing_out::take(words, records), values)
 }

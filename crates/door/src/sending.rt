@@ -15,7 +15,7 @@ ghost use Rattle.door.specs.Given.{asked, given, timeout_given};
 use crate::answers::{UNKNOWN, UNSOUND, WRONG_LENGTH, tell, tell_resent, tell_sent, tell_timeout};
 use crate::given::message_given;
 use engine::SENT_BYTES;
-use judging::is_sound;
+use judging::{as_mut_sound, as_sound};
 use link::AckTimeout;
 use msg::ReliableMsg;
 use sending_in_place::{acking, deadlines, flushing, resending, sending, unconfirming};
@@ -39,9 +39,9 @@ fn send_message(
     if store.len() != SENT_BYTES {
         return WRONG_LENGTH;
     }
-    if !is_sound(words) {
+    let Some(words) = as_mut_sound(words) else {
         return UNSOUND;
-    }
+    };
     tell_sent(
         sending::send(words, store, slot, time, msg, payload),
         values,
@@ -87,9 +87,9 @@ pub extern "C" fn fk_resend(
     ensures values_after { values.new ≡ sets values.old 0 (resend_told (resend_of (state_of words.old) slot time number).answer).values }
     ensures left { Left result words.old words.new }
 {
-    if !is_sound(words) {
+    let Some(words) = as_mut_sound(words) else {
         return UNSOUND;
-    }
+    };
     tell_resent(resending::resend(words, slot, time, Seq(number)), values)
 }
 
@@ -100,9 +100,9 @@ pub extern "C" fn fk_ack(words: &mut [u64], slot: u8, time: u64, number: u32) ->
     ensures words_after { state_of words.new ≡ (ack_of (state_of words.old) slot time number).state }
     ensures left { Left result words.old words.new }
 {
-    if !is_sound(words) {
+    let Some(words) = as_mut_sound(words) else {
         return UNSOUND;
-    }
+    };
     tell(acking::ack(words, slot, time, Seq(number)))
 }
 
@@ -112,9 +112,9 @@ pub extern "C" fn fk_flush(words: &mut [u64], slot: u8, time: u64) -> u64
     ensures words_after { state_of words.new ≡ (flush_of (state_of words.old) slot time).state }
     ensures left { Left result words.old words.new }
 {
-    if !is_sound(words) {
+    let Some(words) = as_mut_sound(words) else {
         return UNSOUND;
-    }
+    };
     tell(flushing::flush(words, slot, time))
 }
 
@@ -124,9 +124,9 @@ pub extern "C" fn fk_unconfirm(words: &mut [u64], slot: u8) -> u64
     ensures words_after { state_of words.new ≡ (unconfirm_of (state_of words.old) slot).state }
     ensures left { Left result words.old words.new }
 {
-    if !is_sound(words) {
+    let Some(words) = as_mut_sound(words) else {
         return UNSOUND;
-    }
+    };
     tell(unconfirming::unconfirm(words, slot))
 }
 
@@ -136,9 +136,9 @@ pub extern "C" fn fk_remove(words: &mut [u64], slot: u8) -> u64
     ensures words_after { state_of words.new ≡ (remove_of (state_of words.old) slot).state }
     ensures left { Left result words.old words.new }
 {
-    if !is_sound(words) {
+    let Some(words) = as_mut_sound(words) else {
         return UNSOUND;
-    }
+    };
     tell(unconfirming::remove(words, slot))
 }
 
@@ -157,9 +157,9 @@ pub extern "C" fn fk_earliest_confirm_timeout(
     ensures value { result ≡ (confirm_timeout_told (earliest_confirm_timeout_of (state_of words.now) (timeout_given roundtrip_factor resent_factor unreliable_factor min max) unreliable)).number }
     ensures values_after { values.new ≡ sets values.old 0 (confirm_timeout_told (earliest_confirm_timeout_of (state_of words.now) (timeout_given roundtrip_factor resent_factor unreliable_factor min max) unreliable)).values }
 {
-    if !is_sound(words) {
+    let Some(words) = as_sound(words) else {
         return UNSOUND;
-    }
+    };
     let timeout = AckTimeout {
         roundtrip_factor,
         resent_factor,

@@ -13,19 +13,13 @@ use words::layout::WORDS;
 fn slow_said(words: &[u64]) -> SlowLinks
     ensures { result ≡ slow_of (state_of words.now).links }
 {
-    if words.len() != WORDS {
+    let Some(words) = words.as_array::<WORDS>() else {
         return SlowLinks {
             slots: [0; 8],
             count: 0,
         };
-    }
+    };
     slow(words)
-}
-
-fn wide(slot: u8) -> u64
-    ensures { result ≡ slot }
-{
-    slot as u64
 }
 
 // Lists the slow links, lowest slot first: their slots stand in the first places, with 0 past them, and the value is how many they are.
@@ -37,15 +31,7 @@ pub extern "C" fn fk_slow(words: &[u64], slots: &mut [u64; 8], values: &mut [u64
     ensures values_after { values.new ≡ sets values.old 0 ((slow_of (state_of words.now).links).count ∷ []) }
 {
     let found = slow_said(words);
-    let listed = found.slots;
-    slots[0] = wide(listed[0]);
-    slots[1] = wide(listed[1]);
-    slots[2] = wide(listed[2]);
-    slots[3] = wide(listed[3]);
-    slots[4] = wide(listed[4]);
-    slots[5] = wide(listed[5]);
-    slots[6] = wide(listed[6]);
-    slots[7] = wide(listed[7]);
+    *slots = found.slots.map(u64::from);
     values[0] = found.count as u64;
     0
 }

@@ -32,9 +32,9 @@ pub extern "C" fn fk_fresh(
     match verdict {
         Err(e) => refused(e),
         Ok(()) => {
-            if words.len() != WORDS {
+            let Some(words) = words.as_mut_array::<WORDS>() else {
                 return WRONG_LENGTH;
-            }
+            };
             empty_records(records);
             put_fresh(words, Seq(start), recv_buffer, cells);
             0

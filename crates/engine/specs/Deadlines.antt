@@ -2,9 +2,8 @@
 -- time or else send time, plus round trip times the round-trip factor, .. clamped to a minimum and a maximum. .. No Sent packet: none
 -- is named. Nothing in the state changes. .. Refusals: 21 for bad factors or bounds, a bound above 2^56 among them (not 3)." How long is
 -- waited is the link's (duration_of). Assumes nothing.
-use Rattle.std.specs.Prelude.{◌≡◌, ℕ, zero, suc, ◌+◌, ◌-◌, ◌%◌, ◌<◌, ◌≤◌, Bool, true, false, cond, List, [], ◌∷◌, length, slice_index_or, refl, Some, None, Option, Ok, Err, Result}
+use Rattle.std.specs.Prelude.{◌≡◌, ℕ, zero, suc, ◌+◌, ◌-◌, ◌%◌, ◌<◌, ◌≤◌, Bool, true, false, cond, List, [], ◌∷◌, length, slice_index_or, refl, Some, None, Option, Ok, Err}
 use Rattle.engine.specs.Held.{ConfirmTimeout}
-use Rattle.refusal.specs.declared.Refusal.{Refusal}
 use Rattle.std.proofs.Math.Path.{ap}
 use Rattle.std.proofs.Common.{◌∙◌, arith}
 use borrow.Table.Steps.{cases}

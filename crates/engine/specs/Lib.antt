@@ -23,6 +23,8 @@ pub mod DecidedRecords
 pub mod Decided
 pub mod Table
 pub mod Gates
+pub mod InOrder
+pub mod Over
 pub mod InTable
 pub mod Stores
 pub mod Starting

@@ -57,6 +57,11 @@ abbrev pub add_told : Result ℕ Refusal → Told
 add_told (Ok slot) = success (slot ∷ [])
 add_told (Err e) = refused e
 
+-- .. where the verdict lets the call pass
+abbrev pub slot_by : Verdict → ℕ → Result ℕ Refusal
+slot_by (Ok tt) slot = Ok slot
+slot_by (Err e) slot = Err e
+
 abbrev pub added_by : Verdict → ℕ → State → State → Added
 added_by (Ok tt) slot s next = record { answer = Ok slot; state = next }
 added_by (Err e) slot s next = record { answer = Err e; state = s }

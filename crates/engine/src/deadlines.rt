@@ -8,14 +8,12 @@ ghost use Rattle.engine.specs.Sizes.{PACKETS};
 ghost use Rattle.engine.specs.Deadlines.{in_flight, first_sent, was_flushed, definitely_sent, deadline_of, named_by, named_values, confirm_timeout_verdict, confirm_timeout_told, earliest_confirm_timeout_of};
 
 use crate::packets::is_sent;
-use crate::ring::next_cell;
 use crate::rows::row_of;
-use crate::sizes::PACKETS;
 use crate::sound::is_sound;
 use crate::state::{InFlight, Sending, SentReliableStatus, State};
-use crate::table::first_cell;
+use crate::table::InOrder;
 use link::AckTimeout;
-use refusal::{Refusal, gate};
+use refusal::{Refusal, refuse_unless};
 
 pub type ConfirmTimeout = Result<Option<(u8, bool, u64)>, Refusal>;
 
@@ -25,8 +23,7 @@ pub fn in_flight(status: SentReliableStatus) -> Option<InFlight>
 {
     match status {
         SentReliableStatus::Sent(flight) => Some(flight),
-        SentReliableStatus::Received => None,
-        SentReliableStatus::ResendQueued { sent_link: _ } => None,
+        SentReliableStatus::Received | SentReliableStatus::ResendQueued { .. } => None,
     }
 }
 
@@ -35,38 +32,21 @@ fn first_sent(tx: Sending) -> Option<InFlight>
     requires { tx.txed_count ≤ PACKETS }
     ensures { result ≡ first_sent (packets tx) }
 {
-    let mut left = tx.txed_count;
-    let mut at = first_cell(tx);
-    while 0 < left {
-        let p = tx.txed_packets[at];
-        let status = p.status;
-        if is_sent(status) {
-            return in_flight(status);
-        }
-        at = next_cell(PACKETS, at);
-        left -= 1;
-    }
-    None
+    let first = InOrder::of(&tx).find(|p| is_sent(p.status))?;
+    in_flight(first.status)
 }
 
 pub fn was_flushed(flushed: Option<u64>) -> bool
     ensures { result ≡ was_flushed flushed }
 {
-    match flushed {
-        None => false,
-        Some(_) => true,
-    }
+    flushed.is_some()
 }
 
 // The flush time, or else the send time.
 pub fn definitely_sent(flight: InFlight) -> u64
     ensures { result ≡ definitely_sent flight }
 {
-    let flushed = flight.flushed;
-    match flushed {
-        None => flight.sent,
-        Some(at) => at,
-    }
+    flight.flushed.unwrap_or(flight.sent)
 }
 
 fn deadline(s: State, flight: InFlight, timeout: AckTimeout, unreliable: bool) -> u64
@@ -81,13 +61,8 @@ fn deadline(s: State, flight: InFlight, timeout: AckTimeout, unreliable: bool) -
 fn confirm_timeout_verdict(s: State, timeout: AckTimeout) -> Result<(), Refusal>
     ensures { result ≡ confirm_timeout_verdict s timeout }
 {
-    let sound = is_sound(s);
-    let within = timeout.is_within();
-    gate(
-        sound,
-        Refusal::Unsound,
-        gate(within, Refusal::Setting, Ok(())),
-    )
+    refuse_unless(is_sound(s), Refusal::Unsound)?;
+    refuse_unless(timeout.is_within(), Refusal::Setting)
 }
 
 // What is named in a state that passes.
@@ -95,16 +70,11 @@ fn named(s: State, timeout: AckTimeout, unreliable: bool) -> ConfirmTimeout
     requires { confirm_timeout_verdict s timeout ≡ Ok tt }
     ensures { result ≡ named_by (first_sent (packets s.tx)) s timeout unreliable }
 {
-    let tx = s.tx;
-    let first = first_sent(tx);
-    match first {
-        None => Ok(None),
-        Some(flight) => {
-            let flushed = flight.flushed;
-            let at = deadline(s, flight, timeout, unreliable);
-            Ok(Some((flight.slot, was_flushed(flushed), at)))
-        }
-    }
+    let Some(flight) = first_sent(s.tx) else {
+        return Ok(None);
+    };
+    let at = deadline(s, flight, timeout, unreliable);
+    Ok(Some((flight.slot, was_flushed(flight.flushed), at)))
 }
 
 // The oldest packet that is Sent, and until when its acknowledgement is waited for. The host says whether the round trip of
@@ -113,9 +83,6 @@ pub fn earliest_confirm_timeout(s: State, timeout: AckTimeout, unreliable: bool)
     ensures value { result ≡ earliest_confirm_timeout_of s timeout unreliable }
     ensures result_value { confirm_timeout_told result ≡ told_by (confirm_timeout_verdict s timeout) (named_values (first_sent (packets s.tx)) s timeout unreliable) }
 {
-    let verdict = confirm_timeout_verdict(s, timeout);
-    match verdict {
-        Err(e) => Err(e),
-        Ok(()) => named(s, timeout, unreliable),
-    }
+    confirm_timeout_verdict(s, timeout)?;
+    named(s, timeout, unreliable)
 }

@@ -10,57 +10,51 @@ ghost use Rattle.engine.specs.Received.{table_of};
 ghost use Rattle.engine.specs.CellTally.{Lent};
 
 use crate::cells::held_at;
+use crate::gates::slot_verdict;
 use crate::packets::is_data;
 use crate::receiving::lengths_ok;
-use crate::records::{held_bytes, is_full};
+use crate::records::held_bytes;
 use crate::ring::cell_at;
-use crate::rows::{row_of, slot_ok, with_row};
+use crate::rows::{row_of, with_row};
 use crate::sizes::DATA_BYTES;
 use crate::sound::{is_sound, is_sound_with};
 use crate::state::{Held, Receiving, State};
 use crate::totals::{MAX_TOTAL, less, sum_fits};
 use link::LinkRow;
 use msg::ReliableMsg;
-use refusal::{Refusal, gate};
+use refusal::{Refusal, refuse_unless};
 use seq::Seq;
 
 pub type HandOut = Result<(ReliableMsg, Seq, u32), Refusal>;
 
 // The oldest ready message, where there is one.
+#[tactic(auto, unfolding(crate::specs::HandingOut::ready_of))]
 pub fn oldest_ready(rx: Receiving, records: &[u64]) -> Held
     requires { Lent rx (length records.now) }
     ensures { result ≡ ready_of (table_of rx records.now) }
 {
-    if rx.rx_oldest.eq(rx.rx_seq) {
+    if rx.rx_oldest == rx.rx_seq {
         return None;
     }
     held_at(rx, records, rx.rx_oldest)
 }
 
-// The message that a cell holds; that of an empty one is never asked.
+// The message that a cell holds; that of an empty one is never asked, and `msg_in`, which `hand_out_by` is made of, says Data.
 pub fn msg_in(held: Held) -> ReliableMsg
     ensures { result ≡ msg_in held }
 {
-    match held {
-        None => ReliableMsg::Data,
-        Some((msg, _)) => msg,
-    }
+    held.map_or(ReliableMsg::Data, |(msg, _)| msg)
 }
 
 // The answer about the oldest ready message.
+#[tactic(auto, unfolding(crate::specs::HandingOut::hand_out_by))]
 fn hand_out(verdict: Result<(), Refusal>, rx: Receiving, records: &[u64]) -> HandOut
     requires { verdict ≡ Ok tt → Lent rx (length records.now) }
     ensures { result ≡ hand_out_by verdict (table_of rx records.now) }
 {
-    match verdict {
-        Err(e) => Err(e),
-        Ok(()) => {
-            let held = oldest_ready(rx, records);
-            let msg = msg_in(held);
-            let seq = rx.rx_oldest;
-            Ok((msg, seq, held_bytes(held)))
-        }
-    }
+    verdict?;
+    let held = oldest_ready(rx, records);
+    Ok((msg_in(held), rx.rx_oldest, held_bytes(held)))
 }
 
 // The data bytes of a message: only Data has any.
@@ -74,24 +68,16 @@ pub fn data_length(msg: ReliableMsg, len: u32) -> u32
 pub fn ready_bytes(held: Held) -> u32
     ensures { result ≡ ready_bytes held }
 {
-    match held {
-        None => 0,
-        Some((msg, len)) => data_length(msg, len),
-    }
+    held.map_or(0, |(msg, len)| data_length(msg, len))
 }
 
+#[tactic(auto, unfolding(crate::specs::HandingOut::show_verdict))]
 fn show_verdict(s: State, store: usize, records: &[u64]) -> Result<(), Refusal>
     ensures { result ≡ show_verdict s store records.now }
 {
-    let rx = s.rx;
-    if !lengths_ok(rx, store, records.len()) {
-        return Err(Refusal::StoreLength);
-    }
-    if !is_sound_with(s, records) {
-        return Err(Refusal::Unsound);
-    }
-    let held = oldest_ready(rx, records);
-    gate(is_full(held), Refusal::Nothing, Ok(()))
+    refuse_unless(lengths_ok(s.rx, store, records.len()), Refusal::StoreLength)?;
+    refuse_unless(is_sound_with(s, records), Refusal::Unsound)?;
+    refuse_unless(oldest_ready(s.rx, records).is_some(), Refusal::Nothing)
 }
 
 // What `show` shows: the message, its number and the length of its data, or why there is nothing to show.
@@ -99,8 +85,7 @@ pub fn showing(s: State, store: &[u8], records: &[u64]) -> HandOut
     ensures value { result ≡ showing_of s (length store.now) records.now }
     ensures result_value { hand_out_told result ≡ told_by (show_verdict s (length store.now) records.now) (ready_values (table_of s.rx records.now)) }
 {
-    let rx = s.rx;
-    hand_out(show_verdict(s, store.len(), records), rx, records)
+    hand_out(show_verdict(s, store.len(), records), s.rx, records)
 }
 
 // The part of the received store that holds the bytes of the oldest ready message.
@@ -108,8 +93,7 @@ pub fn show<'a, 'b>(s: State, store: &'a [u8], records: &'b [u64]) -> &'a [u8]
     ensures result_value { result.now ≡ shown_of s store.now records.now }
     ensures ref_ptr_value { result.ref_ptr ≡ shown_at s (length store.now) records.now store.entry.ref_ptr }
 {
-    let answer = showing(s, store, records);
-    match answer {
+    match showing(s, store, records) {
         Err(_) => &store[..0],
         Ok((msg, seq, len)) => {
             let start = cell_at(s.rx.cells, seq) * DATA_BYTES;
@@ -125,42 +109,38 @@ pub struct TakeResult {
     pub state: State,
 }
 
+#[tactic(auto, unfolding(crate::specs::HandingOut::take_verdict))]
 fn take_verdict(s: State, records: &[u64]) -> Result<(), Refusal>
     ensures { result ≡ take_verdict s records.now }
 {
     let rx = s.rx;
-    if records.len() != rx.cells as usize {
-        return Err(Refusal::StoreLength);
-    }
-    if !is_sound_with(s, records) {
-        return Err(Refusal::Unsound);
-    }
+    refuse_unless(records.len() == rx.cells as usize, Refusal::StoreLength)?;
+    refuse_unless(is_sound_with(s, records), Refusal::Unsound)?;
     let held = oldest_ready(rx, records);
-    let bytes = ready_bytes(held);
-    let fits = sum_fits(rx.rxed_reliable_consumed, bytes as usize, MAX_TOTAL);
-    let v19 = gate(is_full(held), Refusal::Nothing, Ok(()));
-    gate(fits, Refusal::Total, v19)
+    let bytes = ready_bytes(held) as usize;
+    let fits = sum_fits(rx.rxed_reliable_consumed, bytes, MAX_TOTAL);
+    refuse_unless(fits, Refusal::Total)?;
+    refuse_unless(held.is_some(), Refusal::Nothing)
 }
 
 // Whether the oldest number stands for nothing ready and lies before the next expected.
+#[tactic(auto, unfolding(crate::specs::HandingOut::can_skip))]
 fn can_skip(rx: Receiving, records: &[u64]) -> bool
     requires { Lent rx (length records.now) }
     ensures { result ≡ can_skip rx.cells records.now rx }
 {
-    if rx.rx_oldest.eq(rx.rx_seq) {
-        return false;
-    }
-    let held = held_at(rx, records, rx.rx_oldest);
-    !is_full(held)
+    rx.rx_oldest != rx.rx_seq && held_at(rx, records, rx.rx_oldest).is_none()
 }
 
 // The oldest number moves one along.
+#[tactic(auto, unfolding(crate::specs::HandingOut::passed_by))]
 fn pass_by(rx: Receiving) -> Receiving
     ensures { result ≡ passed_by rx }
 {
-    let mut out = rx;
-    out.rx_oldest = rx.rx_oldest.add(1);
-    out
+    Receiving {
+        rx_oldest: rx.rx_oldest.add(1),
+        ..rx
+    }
 }
 
 // The oldest number moves to the next ready message, or to the next expected number.
@@ -169,18 +149,17 @@ fn skip(rx: Receiving, records: &[u64]) -> Receiving
     ensures { result ≡ skipped rx.cells rx.cells records.now rx }
 {
     let mut out = rx;
-    let mut left = rx.cells;
-    while 0 < left {
+    for _ in 0..rx.cells {
         if !can_skip(out, records) {
             return out;
         }
         out = pass_by(out);
-        left -= 1;
     }
     out
 }
 
 // The receive table without its oldest ready message, of so many data bytes.
+#[tactic(auto, unfolding(crate::specs::HandingOut::taken_in, crate::specs::HandingOut::passed_by))]
 pub fn take_message(rx: Receiving, records: &mut [u64], bytes: u32) -> Receiving
     requires { Lent rx (length records.old) × (rx.rxed_reliable_consumed + bytes < 2 ^ 32) }
     ensures value { result ≡ (taken_in rx.cells (table_of rx records.old) bytes).rx }
@@ -188,19 +167,19 @@ pub fn take_message(rx: Receiving, records: &mut [u64], bytes: u32) -> Receiving
 {
     let at = cell_at(rx.cells, rx.rx_oldest);
     records[at] = 0;
-    let mut out = pass_by(rx);
-    out.rxed_reliable_size = less(rx.rxed_reliable_size, bytes);
-    out.rxed_reliable_consumed = rx.rxed_reliable_consumed + bytes;
-    skip(out, records)
+    let taken = Receiving {
+        rxed_reliable_size: less(rx.rxed_reliable_size, bytes),
+        rxed_reliable_consumed: rx.rxed_reliable_consumed + bytes,
+        ..pass_by(rx)
+    };
+    skip(taken, records)
 }
 
 // The state with the receiving half that is left.
 fn with_rx(s: State, rx: Receiving) -> State
     ensures { result ≡ with_rx s rx }
 {
-    let mut out = s;
-    out.rx = rx;
-    out
+    State { rx, ..s }
 }
 
 // Takes the oldest ready message, and empties its record.
@@ -229,48 +208,16 @@ pub struct TakeAckResult {
     pub state: State,
 }
 
-fn is_waiting(oldest: Option<Seq>) -> bool
-    ensures { result ≡ is_waiting oldest }
-{
-    match oldest {
-        None => false,
-        Some(_) => true,
-    }
-}
-
-// The number that is acked; where none waits it is never asked.
-fn ack_in(oldest: Option<Seq>) -> Seq
-    ensures { result ≡ ack_in oldest }
-{
-    match oldest {
-        None => Seq::ZERO,
-        Some(seq) => seq,
-    }
-}
-
-fn take_ack_verdict(s: State, slot: u8) -> Result<(), Refusal>
-    ensures { result ≡ take_ack_verdict s slot }
-{
-    let oldest = row_of(s, slot).oldest_ack();
-    let v19 = gate(is_waiting(oldest), Refusal::Nothing, Ok(()));
-    let v4 = gate(slot_ok(s, slot), Refusal::Slot, v19);
-    gate(is_sound(s), Refusal::Unsound, v4)
-}
-
 // The link's oldest ack.
+#[tactic(auto, unfolding(crate::specs::HandingOut::ack_answer, crate::specs::HandingOut::take_ack_verdict, crate::specs::Gates::slot_verdict))]
 fn ack_answer(s: State, slot: u8) -> Result<Seq, Refusal>
     ensures { result ≡ ack_answer s slot }
 {
-    let verdict = take_ack_verdict(s, slot);
-    match verdict {
-        Err(e) => Err(e),
-        Ok(()) => {
-            let oldest = row_of(s, slot).oldest_ack();
-            Ok(ack_in(oldest))
-        }
-    }
+    slot_verdict(s, slot)?;
+    row_of(s, slot).oldest_ack().ok_or(Refusal::Nothing)
 }
 
+#[tactic(auto, unfolding(crate::specs::HandingOut::taken_ack_state))]
 fn taken_ack_state(s: State, slot: u8) -> State
     ensures { result ≡ taken_ack_state s slot }
 {
@@ -279,6 +226,7 @@ fn taken_ack_state(s: State, slot: u8) -> State
 }
 
 // Takes the link's oldest ack.
+#[tactic(auto, unfolding(crate::specs::HandingOut::take_ack_of))]
 pub fn take_ack(s: State, slot: u8) -> TakeAckResult
     ensures value { result ≡ take_ack_of s slot }
     ensures answer_value { take_ack_told result.answer ≡ told_by (take_ack_verdict s slot) ((ack_in (oldest_ack (row_of s slot))).0 ∷ []) }
@@ -305,13 +253,11 @@ fn due_above(s: State) -> u32
 }
 
 // Whether the other end is to be told what was taken.
+#[tactic(auto, unfolding(crate::specs::HandingOut::due_of))]
 pub fn is_consume_ack_required(s: State) -> Result<bool, Refusal>
     ensures value { result ≡ due_of s }
     ensures result_value { due_told result ≡ told_by (state_verdict s) (flag (is_due s) ∷ []) }
 {
-    if !is_sound(s) {
-        return Err(Refusal::Unsound);
-    }
-    let untold = s.rx.rxed_reliable_consumed;
-    Ok(due_above(s) < untold)
+    refuse_unless(is_sound(s), Refusal::Unsound)?;
+    Ok(due_above(s) < s.rx.rxed_reliable_consumed)
 }

@@ -1,5 +1,6 @@
 // A packet made, and changed.
 ghost use Rattle.std.specs.Prelude.{◌≡◌};
+ghost use Rattle.engine.specs.Over.{StepsOver};
 ghost use Rattle.engine.specs.Fields.{new_flight, flushed_flight, new_packet, with_status};
 
 use crate::state::{InFlight, SentReliable, SentReliableStatus};
@@ -23,16 +24,9 @@ impl InFlight {
     pub fn flush(self, time: u64) -> InFlight
         ensures { result ≡ flushed_flight self time }
     {
-        let flushed = self.flushed;
-        match flushed {
-            None => InFlight {
-                sent: self.sent,
-                flushed: Some(time),
-                slot: self.slot,
-                link: self.link,
-                resent: self.resent,
-            },
-            Some(_) => self,
+        InFlight {
+            flushed: self.flushed.or(Some(time)),
+            ..self
         }
     }
 }
@@ -52,8 +46,26 @@ impl SentReliable {
     pub fn with_status(self, status: SentReliableStatus) -> SentReliable
         ensures { result ≡ with_status self status }
     {
-        let seq = self.seq;
-        let msg = self.msg;
-        SentReliable::new(seq, msg, self.len, status)
+        SentReliable { status, ..self }
+    }
+
+    // With another status, where it was Sent over the slot.
+    pub(crate) fn restatus<F: FnOnce(InFlight) -> SentReliableStatus>(
+        self,
+        slot: u8,
+        step: F,
+    ) -> SentReliable
+        requires { F.IsAlwaysCallable step }
+        ensures { StepsOver slot (F.post step) self.status (λ st. result ≡ with_status self st) }
+    {
+        match self.status {
+            SentReliableStatus::Sent(flight) => {
+                if flight.slot != slot {
+                    return self;
+                }
+                self.with_status(step(flight))
+            }
+            SentReliableStatus::Received | SentReliableStatus::ResendQueued { .. } => self,
+        }
     }
 }

@@ -5,10 +5,9 @@ ghost use Rattle.engine.specs.Queue.{put_in, requeued};
 ghost use Rattle.engine.specs.Sizes.{PACKETS};
 
 use crate::packets::is_queued;
-use crate::ring::next_cell;
 use crate::sizes::PACKETS;
 use crate::state::{Sending, SentReliable};
-use crate::table::first_cell;
+use crate::table::InOrder;
 use seq::Seq;
 
 // The numbers gathered so far: the first count of these.
@@ -23,15 +22,14 @@ fn put(g: Gathered, p: SentReliable) -> Gathered
     requires { g.count < PACKETS }
     ensures { result ≡ put_in g p }
 {
-    let status = p.status;
-    let seq = p.seq;
-    let n = g.count;
-    if !is_queued(status) {
+    if !is_queued(p.status) {
         return g;
     }
-    let mut out = g;
-    out.numbers[n] = seq;
-    out.count = n + 1;
+    let mut out = Gathered {
+        count: g.count + 1,
+        ..g
+    };
+    out.numbers[g.count] = p.seq;
     out
 }
 
@@ -43,13 +41,8 @@ fn gather(tx: Sending) -> Gathered
 {
     let numbers = tx.resend_queue;
     let mut g = Gathered { numbers, count: 0 };
-    let mut left = tx.txed_count;
-    let mut at = first_cell(tx);
-    while 0 < left {
-        let p = tx.txed_packets[at];
+    for p in InOrder::of(&tx) {
         g = put(g, p);
-        at = next_cell(PACKETS, at);
-        left -= 1;
     }
     g
 }
@@ -61,8 +54,9 @@ pub(crate) fn requeue(tx: Sending) -> Sending
 {
     let g = gather(tx);
     let numbers = g.numbers;
-    let mut out = tx;
-    out.resend_queue = numbers;
-    out.resend_count = g.count;
-    out
+    Sending {
+        resend_queue: numbers,
+        resend_count: g.count,
+        ..tx
+    }
 }

@@ -3,32 +3,22 @@ ghost use Rattle.std.specs.Prelude.{◌≡◌, length};
 ghost use Rattle.engine.specs.Received.{table_of};
 ghost use Rattle.engine.specs.CellTally.{Lent, Judged, cell_ok, word_ok, records_fine, newest_ok, found_records};
 
+use crate::cells::held_at;
 use crate::packets::length_ok;
-use crate::records::{held_of, is_data_record, is_full, is_ready_kind, is_record, length_in};
+use crate::records::{held_of, is_data_record, is_ready_kind, is_record, length_in};
 use crate::ring::{cell_at, next_cell};
 use crate::state::{Held, Receiving};
-use refusal::both;
 
 // Whether a cell is well: k numbers past the oldest, where the next expected is `expected` past it.
+#[tactic(auto, unfolding(crate::specs::CellTally::cell_ok))]
 fn cell_ok(held: Held, k: usize, expected: usize) -> bool
     ensures { result ≡ cell_ok held k expected }
 {
     match held {
-        None => {
-            if k == 0 {
-                return expected == 0;
-            }
-            true
-        }
+        None => k != 0 || expected == 0,
         Some((msg, len)) => {
-            let long = length_ok(msg, len as usize);
-            if k == expected {
-                return false;
-            }
-            if k < expected {
-                return both(is_ready_kind(msg), long);
-            }
-            long
+            let placed = expected < k || k < expected && is_ready_kind(msg);
+            placed && length_ok(msg, len as usize)
         }
     }
 }
@@ -37,18 +27,15 @@ fn cell_ok(held: Held, k: usize, expected: usize) -> bool
 fn any_ok(word: u64, k: usize, expected: usize) -> bool
     ensures { result ≡ word_ok word k expected }
 {
-    let held = held_of(word);
-    both(is_record(word), cell_ok(held, k, expected))
+    is_record(word) && cell_ok(held_of(word), k, expected)
 }
 
 // .. where a Data is told first, by its word alone, since most records are a Data's.
 fn record_ok(word: u64, k: usize, expected: usize) -> bool
     ensures { result ≡ word_ok word k expected }
 {
-    if is_data_record(word) {
-        if k != expected {
-            return true;
-        }
+    if is_data_record(word) && k != expected {
+        return true;
     }
     any_ok(word, k, expected)
 }
@@ -65,37 +52,31 @@ fn records_ok(rx: Receiving, records: &[u64]) -> bool
     let used = rx.rx_end.past(oldest) as usize;
     let mut size: u32 = 0;
     let mut at = cell_at(cells, oldest);
-    let mut k: usize = 0;
-    while k < used {
+    for k in 0..used {
         let word = records[at];
         if !record_ok(word, k, expected) {
             return false;
         }
-        size = std::num::wrapping_add_u32(size, length_in(word));
+        size = size.wrapping_add(length_in(word));
         at = next_cell(cells as usize, at);
-        k += 1;
     }
     size == rx.rxed_reliable_size
 }
 
 // Whether the last cell in use holds a message, where any is in use from the next expected number on.
+#[tactic(auto, unfolding(crate::specs::CellTally::newest_ok))]
 fn newest_ok(rx: Receiving, records: &[u64]) -> bool
     requires { Lent rx (length records.now) }
     ensures { result ≡ newest_ok rx.cells (table_of rx records.now) }
 {
-    if rx.rx_end.eq(rx.rx_seq) {
-        return true;
-    }
-    let at = cell_at(rx.cells, rx.rx_end.sub(1));
-    let held = held_of(records[at]);
-    is_full(held)
+    rx.rx_end == rx.rx_seq || held_at(rx, records, rx.rx_end.sub(1)).is_some()
 }
 
 // What the pass finds.
+#[tactic(auto, unfolding(crate::specs::CellTally::found_records))]
 pub fn found_records(rx: Receiving, records: &[u64]) -> bool
     requires { Judged rx (length records.now) }
     ensures { result ≡ found_records (table_of rx records.now) }
 {
-    let fine = records_ok(rx, records);
-    both(fine, newest_ok(rx, records))
+    records_ok(rx, records) && newest_ok(rx, records)
 }

@@ -20,36 +20,44 @@ use crate::state::{Held, Receiving, Sending, State};
 use crate::totals::sum_fits;
 use link::sizes::ACKS;
 use msg::{LinkMsg, ReliableMsg};
-use refusal::{Refusal, both, either, gate};
+use refusal::{Refusal, refuse_unless};
 use seq::Seq;
 
-// What is asked of a message in a sound state, with its records.
-fn message_verdict(
-    s: State,
-    records: &[u64],
+// A message that arrives: over which link, what it is, its number and how many bytes come with it.
+#[derive(Clone, Copy)]
+struct Arrival {
     slot: u8,
     msg: ReliableMsg,
     seq: Seq,
     len: usize,
-) -> Result<(), Refusal>
+}
+
+// What is asked of a message in a sound state, with its records.
+#[tactic(auto, unfolding(crate::specs::Receiving::message_verdict))]
+fn message_verdict(s: State, records: &[u64], arrival: Arrival) -> Result<(), Refusal>
     requires { Lent s.rx (length records.now) }
-    ensures { result ≡ message_verdict s records.now slot msg seq.0 len }
+    ensures { result ≡ message_verdict s records.now arrival.slot arrival.msg arrival.seq.0 arrival.len }
 {
+    let Arrival {
+        slot,
+        msg,
+        seq,
+        len,
+    } = arrival;
     let rx = s.rx;
     let again = is_repeat(rx, records, seq);
-    let offset = either(again, seq.past(rx.rx_seq) <= MAX_OFFSET);
-    let window = either(again, near_oldest(rx, seq));
-    let acks = row_of(s, slot).ack_count < ACKS;
-    let room = either(again, sum_fits(rx.rxed_reliable_size, len, rx.recv_buffer));
-    let consumed = either(again, msg.count() <= s.tx.txed_unconsumed);
-    let v15 = gate(consumed, Refusal::Consumed, Ok(()));
-    let v14 = gate(room, Refusal::Buffer, v15);
-    let v13 = gate(acks, Refusal::Acks, v14);
-    let v12 = gate(window, Refusal::Window, v13);
-    let v11 = gate(offset, Refusal::Offset, v12);
-    let v22 = gate(seq.is_near(rx.rx_seq), Refusal::Far, v11);
-    let v7 = gate(length_ok(msg, len), Refusal::Length, v22);
-    gate(slot_ok(s, slot), Refusal::Slot, v7)
+    let offset = again || seq.past(rx.rx_seq) <= MAX_OFFSET;
+    let window = again || near_oldest(rx, seq);
+    let room = again || sum_fits(rx.rxed_reliable_size, len, rx.recv_buffer);
+    let consumed = again || msg.count() <= s.tx.txed_unconsumed;
+    refuse_unless(slot_ok(s, slot), Refusal::Slot)?;
+    refuse_unless(length_ok(msg, len), Refusal::Length)?;
+    refuse_unless(seq.is_near(rx.rx_seq), Refusal::Far)?;
+    refuse_unless(offset, Refusal::Offset)?;
+    refuse_unless(window, Refusal::Window)?;
+    refuse_unless(row_of(s, slot).ack_count < ACKS, Refusal::Acks)?;
+    refuse_unless(room, Refusal::Buffer)?;
+    refuse_unless(consumed, Refusal::Consumed)
 }
 
 // Whether the received store and the record space have the lengths that the state's cell count asks for.
@@ -57,43 +65,35 @@ pub fn lengths_ok(rx: Receiving, store: usize, records: usize) -> bool
     ensures { result ≡ lengths_ok rx store records }
 {
     let cells = rx.cells as usize;
-    both(store == cells * DATA_BYTES, records == cells)
+    store == cells * DATA_BYTES && records == cells
 }
 
-fn receive_verdict(
-    s: State,
-    store: usize,
-    records: &[u64],
-    slot: u8,
-    msg: ReliableMsg,
-    seq: Seq,
-    len: usize,
-) -> Result<(), Refusal>
-    ensures { result ≡ receive_verdict s store records.now slot msg seq.0 len }
+#[tactic(auto, unfolding(crate::specs::Receiving::receive_verdict))]
+fn receive_verdict(s: State, store: usize, records: &[u64], arrival: Arrival) -> Result<(), Refusal>
+    ensures { result ≡ receive_verdict s store records.now arrival.slot arrival.msg arrival.seq.0 arrival.len }
 {
-    if !lengths_ok(s.rx, store, records.len()) {
-        return Err(Refusal::StoreLength);
-    }
-    if !is_sound_with(s, records) {
-        return Err(Refusal::Unsound);
-    }
-    message_verdict(s, records, slot, msg, seq, len)
+    refuse_unless(lengths_ok(s.rx, store, records.len()), Refusal::StoreLength)?;
+    refuse_unless(is_sound_with(s, records), Refusal::Unsound)?;
+    message_verdict(s, records, arrival)
 }
 
 // A new message's effect on the sending half, at once, even while it is held.
+#[tactic(auto, unfolding(crate::specs::Receiving::effect_tx))]
 fn effect_tx(tx: Sending, msg: ReliableMsg) -> Sending
     requires { count_of msg ≤ tx.txed_unconsumed }
     ensures { result ≡ effect_tx tx msg }
 {
     let kind = msg.kind();
-    let mut out = tx;
-    out.txed_unconsumed = tx.txed_unconsumed - msg.count();
-    out.send_finish_sent = either(tx.send_finish_sent, kind == LinkMsg::MSG_RECEIVE_FINISH);
-    out.write_closed = either(tx.write_closed, kind == LinkMsg::MSG_RECEIVE_CLOSE);
-    out
+    Sending {
+        txed_unconsumed: tx.txed_unconsumed - msg.count(),
+        send_finish_sent: tx.send_finish_sent || kind == LinkMsg::MSG_RECEIVE_FINISH,
+        write_closed: tx.write_closed || kind == LinkMsg::MSG_RECEIVE_CLOSE,
+        ..tx
+    }
 }
 
 // A new message's record in its cell, and then what is consecutive passed.
+#[tactic(auto, unfolding(crate::specs::Cells::put_in))]
 pub fn store_message(
     rx: Receiving,
     records: &mut [u64],
@@ -105,16 +105,19 @@ pub fn store_message(
     ensures value { result ≡ (stored_in rx.cells (table_of rx records.old) msg seq.0 len).rx }
     ensures records_after { records.new ≡ (stored_in rx.cells (table_of rx records.old) msg seq.0 len).records }
 {
-    let end = open_cells(rx, records, seq);
+    let rx_end = open_cells(rx, records, seq);
     let at = cell_at(rx.cells, seq);
     records[at] = record_of(Some((msg, len)));
-    let mut out = rx;
-    out.rx_end = end;
-    out.rxed_reliable_size = rx.rxed_reliable_size + len;
-    advance(out, records)
+    let stored = Receiving {
+        rx_end,
+        rxed_reliable_size: rx.rxed_reliable_size + len,
+        ..rx
+    };
+    advance(stored, records)
 }
 
 // A repeat adds an ack and nothing else.
+#[tactic(auto, unfolding(crate::specs::Receiving::repeated_state))]
 fn repeated_state(s: State, slot: u8, seq: Seq) -> State
     ensures { result ≡ repeated_state s slot seq.0 }
 {
@@ -122,15 +125,16 @@ fn repeated_state(s: State, slot: u8, seq: Seq) -> State
 }
 
 // The ack, the effect, and the receiving half as the table left it.
-fn received_state(s: State, slot: u8, msg: ReliableMsg, seq: Seq, rx: Receiving) -> State
-    requires { count_of msg ≤ s.tx.txed_unconsumed }
-    ensures { result ≡ effect_state s slot msg seq.0 rx }
+#[tactic(auto, unfolding(crate::specs::Receiving::effect_state, crate::specs::Receiving::repeated_state))]
+fn received_state(s: State, arrival: Arrival, rx: Receiving) -> State
+    requires { count_of arrival.msg ≤ s.tx.txed_unconsumed }
+    ensures { result ≡ effect_state s arrival.slot arrival.msg arrival.seq.0 rx }
 {
-    let tx = s.tx;
-    let mut out = with_row(s, slot, row_of(s, slot).queue_ack(seq));
-    out.tx = effect_tx(tx, msg);
-    out.rx = rx;
-    out
+    State {
+        tx: effect_tx(s.tx, arrival.msg),
+        rx,
+        ..repeated_state(s, arrival.slot, arrival.seq)
+    }
 }
 
 // Receives a message over a link: a new one's record and bytes go to the number's cell of the record space and of the received store.
@@ -149,7 +153,13 @@ pub fn receive(
     ensures records_after { records.new ≡ receive_records s (length store.old) records.old slot msg seq.0 (length payload.now) }
 {
     let len = payload.len();
-    let verdict = receive_verdict(s, store.len(), records, slot, msg, seq, len);
+    let arrival = Arrival {
+        slot,
+        msg,
+        seq,
+        len,
+    };
+    let verdict = receive_verdict(s, store.len(), records, arrival);
     match verdict {
         Err(e) => Changed {
             outcome: Err(e),
@@ -169,7 +179,7 @@ pub fn receive(
             let next = store_message(rx, records, msg, seq, len as u32);
             Changed {
                 outcome: Ok(()),
-                state: received_state(s, slot, msg, seq, next),
+                state: received_state(s, arrival, next),
             }
         }
     }

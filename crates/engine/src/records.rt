@@ -1,61 +1,42 @@
 // A cell's record: one word of the lent record space. 0 is an empty cell; else the word is a message's kind, 2^8 times its length and
 // 2^32 times its count.
 ghost use Rattle.std.specs.Prelude.{◌≡◌, ◌/◌, ◌%◌, true};
-ghost use Rattle.engine.specs.Records.{is_full, is_ready_kind, held_bytes, held_as, held_of, record_of, RecordFits, DataRecord, is_record, kept_of, kept_record};
+ghost use Rattle.engine.specs.Records.{is_ready_kind, held_bytes, held_as, held_of, record_of, RecordFits, DataRecord, is_record, kept_of, kept_record};
 
 use crate::packets::is_data;
 use crate::sizes::DATA_BYTES;
 use crate::state::Held;
 use msg::{LinkMsg, ReliableMsg};
-use refusal::{both, either};
 
 // The record of a Data of one byte.
 const SHORTEST_DATA: u64 = LinkMsg::MSG_DATA as u64 + 0x100;
 
-pub fn is_full(held: Held) -> bool
-    ensures { result ≡ is_full held }
-{
-    match held {
-        None => false,
-        Some((_, _)) => true,
-    }
-}
-
 pub fn held_bytes(held: Held) -> u32
     ensures { result ≡ held_bytes held }
 {
-    match held {
-        None => 0,
-        Some((_, len)) => len,
-    }
+    held.map_or(0, |(_, len)| len)
 }
 
 pub fn is_ready_kind(msg: ReliableMsg) -> bool
     ensures { result ≡ is_ready_kind msg }
 {
-    either(is_data(msg), msg.kind() == LinkMsg::MSG_SEND_FINISH)
+    is_data(msg) || msg.kind() == LinkMsg::MSG_SEND_FINISH
 }
 
 // The message of a kind, if it is one that cells hold.
+#[tactic(auto, unfolding(crate::specs::Records::held_as))]
 fn held_as(kind: u8, len: u32, count: u32) -> Held
     ensures { result ≡ held_as kind len count }
 {
-    if kind == LinkMsg::MSG_DATA {
-        return Some((ReliableMsg::Data, len));
-    }
-    if kind == LinkMsg::MSG_CONSUMED {
-        return Some((ReliableMsg::Consumed(count), len));
-    }
-    if kind == LinkMsg::MSG_SEND_FINISH {
-        return Some((ReliableMsg::SendFinish, len));
-    }
-    if kind == LinkMsg::MSG_RECEIVE_CLOSE {
-        return Some((ReliableMsg::ReceiveClose, len));
-    }
-    if kind == LinkMsg::MSG_RECEIVE_FINISH {
-        return Some((ReliableMsg::ReceiveFinish, len));
-    }
-    None
+    let msg = match kind {
+        LinkMsg::MSG_DATA => ReliableMsg::Data,
+        LinkMsg::MSG_CONSUMED => ReliableMsg::Consumed(count),
+        LinkMsg::MSG_SEND_FINISH => ReliableMsg::SendFinish,
+        LinkMsg::MSG_RECEIVE_CLOSE => ReliableMsg::ReceiveClose,
+        LinkMsg::MSG_RECEIVE_FINISH => ReliableMsg::ReceiveFinish,
+        _ => return None,
+    };
+    Some((msg, len))
 }
 
 // The length that a record has.
@@ -66,6 +47,7 @@ pub fn length_in(word: u64) -> u32
 }
 
 // What a record says; a word that is no record says nothing.
+#[tactic(auto, unfolding(crate::specs::Records::held_of))]
 pub fn held_of(word: u64) -> Held
     ensures { result ≡ held_of word }
 {
@@ -83,9 +65,9 @@ pub fn record_of(held: Held) -> u64
     match held {
         None => 0,
         Some((msg, len)) => {
-            let kind = msg.kind() as u64;
-            let count = msg.count() as u64;
-            kind + 0x100 * (len as u64) + 0x1_0000_0000 * count
+            let kind = u64::from(msg.kind());
+            let count = u64::from(msg.count());
+            kind + 0x100 * u64::from(len) + 0x1_0000_0000 * count
         }
     }
 }
@@ -94,37 +76,29 @@ pub fn record_of(held: Held) -> u64
 pub fn is_data_record(word: u64) -> bool
     ensures { result ≡ true → DataRecord word }
 {
-    let above = std::num::wrapping_sub_u64(word, SHORTEST_DATA);
-    both(above % 0x100 == 0, above < 0x100 * DATA_BYTES as u64)
+    let above = word.wrapping_sub(SHORTEST_DATA);
+    above % 0x100 == 0 && above < 0x100 * DATA_BYTES as u64
 }
 
 // Whether a word is the record of what it says.
+#[tactic(auto, unfolding(crate::specs::Records::is_record))]
 pub fn is_record(word: u64) -> bool
     ensures { result ≡ is_record word }
 {
-    let held = held_of(word);
-    record_of(held) == word
+    record_of(held_of(word)) == word
 }
 
 // What stays in the cell of a message that is passed: Data and SendFinish become ready, any other leaves.
 fn kept(held: Held) -> Held
     ensures { result ≡ kept_of held }
 {
-    match held {
-        None => held,
-        Some((msg, _)) => {
-            if is_ready_kind(msg) {
-                return held;
-            }
-            None
-        }
-    }
+    held.filter(|(msg, _)| is_ready_kind(*msg))
 }
 
+#[tactic(auto, unfolding(crate::specs::Records::kept_record))]
 pub fn kept_record(word: u64) -> u64
     ensures { result ≡ kept_record word }
 {
-    let held = held_of(word);
-    let stays = kept(held);
-    if is_full(stays) { word } else { 0 }
+    let stays = kept(held_of(word));
+    if stays.is_some() { word } else { 0 }
 }

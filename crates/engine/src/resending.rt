@@ -5,14 +5,14 @@ ghost use Rattle.msg.specs.Reliable.{kind_of, count_of};
 ghost use Rattle.engine.specs.Table.{looked_at};
 ghost use Rattle.engine.specs.Resending.{last_link, resend_verdict, resent_state, resend_told, resend_of};
 
-use crate::gates::timed_verdict;
+use crate::gates::timed_gates;
 use crate::packets::is_queued;
 use crate::queue::requeue;
 use crate::rows::{row_of, with_row};
 use crate::state::{InFlight, SentReliableStatus, State};
 use crate::table::{in_table, packet_of, with_packet};
 use msg::ReliableMsg;
-use refusal::{Refusal, both, gate};
+use refusal::{Refusal, refuse_unless};
 use seq::Seq;
 
 #[derive(Clone, Copy)]
@@ -21,7 +21,7 @@ pub struct ResendResult {
     pub state: State,
 }
 
-// The identity that a packet was last sent on.
+// The identity that a packet was last sent on. No Option: the definition that resend's promise cites says 0 of a Received one.
 pub fn last_link(status: SentReliableStatus) -> u64
     ensures { result ≡ last_link status }
 {
@@ -35,16 +35,12 @@ pub fn last_link(status: SentReliableStatus) -> u64
 fn resend_verdict(s: State, slot: u8, time: u64, seq: Seq) -> Result<(), Refusal>
     ensures { result ≡ resend_verdict s slot time seq.0 }
 {
-    let tx = s.tx;
-    let held = in_table(tx, seq);
-    let p = packet_of(tx, seq);
-    let status = p.status;
-    let queued = both(held, is_queued(status));
-    let id = row_of(s, slot).link_id;
-    let other = last_link(status) != id;
-    let v17 = gate(other, Refusal::SameIdentity, Ok(()));
-    let v16 = gate(queued, Refusal::NotQueued, v17);
-    timed_verdict(s, slot, time, v16)
+    timed_gates(s, slot, time)?;
+    let status = packet_of(s.tx, seq).status;
+    let queued = in_table(s.tx, seq) && is_queued(status);
+    refuse_unless(queued, Refusal::NotQueued)?;
+    let other = last_link(status) != row_of(s, slot).link_id;
+    refuse_unless(other, Refusal::SameIdentity)
 }
 
 fn resent_state(s: State, slot: u8, time: u64, seq: Seq) -> State
@@ -58,10 +54,11 @@ fn resent_state(s: State, slot: u8, time: u64, seq: Seq) -> State
     let flight = InFlight::new(time, slot, row.link_id, true);
     let next = p.with_status(SentReliableStatus::Sent(flight));
     let marked = row.mark_resent(seq);
-    let mut out = with_row(s, slot, marked.with_unacked(row.txed_unacked_data + len));
-    out.tx = requeue(with_packet(tx, seq, next));
-    out.time = time;
-    out
+    State {
+        tx: requeue(with_packet(tx, seq, next)),
+        time,
+        ..with_row(s, slot, marked.with_unacked(row.txed_unacked_data + len))
+    }
 }
 
 // Puts a queued packet on another link.
@@ -69,18 +66,15 @@ pub fn resend(s: State, slot: u8, time: u64, seq: Seq) -> ResendResult
     ensures value { result ≡ resend_of s slot time seq.0 }
     ensures answer_value { resend_told result.answer ≡ told_by (resend_verdict s slot time seq.0) (kind_of (looked_at s.tx seq.0).msg ∷ count_of (looked_at s.tx seq.0).msg ∷ (looked_at s.tx seq.0).len ∷ []) }
 {
-    let verdict = resend_verdict(s, slot, time, seq);
-    match verdict {
+    match resend_verdict(s, slot, time, seq) {
         Err(e) => ResendResult {
             answer: Err(e),
             state: s,
         },
         Ok(()) => {
-            let tx = s.tx;
-            let p = packet_of(tx, seq);
-            let msg = p.msg;
+            let p = packet_of(s.tx, seq);
             ResendResult {
-                answer: Ok((msg, p.len)),
+                answer: Ok((p.msg, p.len)),
                 state: resent_state(s, slot, time, seq),
             }
         }

@@ -8,7 +8,7 @@ use seq::Seq;
 pub fn next_cell(cells: usize, at: usize) -> usize
     ensures { result ≡ next_cell cells at }
 {
-    let next = std::num::wrapping_add_usize(at, 1);
+    let next = at.wrapping_add(1);
     if next < cells { next } else { 0 }
 }
 

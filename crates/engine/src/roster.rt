@@ -5,6 +5,7 @@ ghost use Rattle.engine.specs.Roster.{roster_of, lives_in, lives_before};
 use crate::sizes::SLOTS;
 use link::LinkRow;
 
+// Two arrays, and no array of options: `roster_of`, `lives_in` and `distinct_below` are said of them, and judging in place is held to these.
 #[derive(Clone, Copy)]
 pub struct Roster {
     pub live: [bool; SLOTS],
@@ -16,54 +17,23 @@ impl Roster {
         ensures { result ≡ roster_of links }
     {
         Roster {
-            live: [
-                links[0].live,
-                links[1].live,
-                links[2].live,
-                links[3].live,
-                links[4].live,
-                links[5].live,
-                links[6].live,
-                links[7].live,
-            ],
-            ids: [
-                links[0].link_id,
-                links[1].link_id,
-                links[2].link_id,
-                links[3].link_id,
-                links[4].link_id,
-                links[5].link_id,
-                links[6].link_id,
-                links[7].link_id,
-            ],
+            live: std::array::from_fn(|slot| links[slot].live),
+            ids: std::array::from_fn(|slot| links[slot].link_id),
         }
     }
 
     // Whether a slot holds a live link with the identity.
+    #[tactic(auto, unfolding(crate::specs::Roster::lives_in))]
     pub fn lives_in(self, slot: usize, id: u64) -> bool
         ensures { result ≡ lives_in self slot id }
     {
-        if SLOTS <= slot {
-            return false;
-        }
-        if self.live[slot] {
-            self.ids[slot] == id
-        } else {
-            false
-        }
+        slot < SLOTS && self.live[slot] && self.ids[slot] == id
     }
 
     // Whether one of the first n slots holds a live link with the identity.
     pub fn lives_before(self, n: usize, id: u64) -> bool
         ensures { result ≡ lives_before self n id }
     {
-        let mut left = n;
-        while 0 < left {
-            left -= 1;
-            if self.lives_in(left, id) {
-                return true;
-            }
-        }
-        false
+        (0..n).any(|slot| self.lives_in(slot, id))
     }
 }

@@ -5,15 +5,16 @@ ghost use Rattle.refusal.specs.Answers.{told_by};
 ghost use Rattle.engine.specs.Sizes.{PACKETS};
 ghost use Rattle.msg.specs.Reliable.{count_of};
 
+use crate::gates::timed_gates;
 use crate::packets::length_ok;
 use crate::records::is_ready_kind;
-use crate::rows::{row_of, slot_ok, time_ok, with_row};
+use crate::ring::cell_at;
+use crate::rows::{row_of, with_row};
 use crate::sizes::{DATA_BYTES, PACKET_ROUND, PACKETS, SENT_BYTES};
-use crate::sound::is_sound;
 use crate::state::{InFlight, Receiving, Sending, SentReliable, SentReliableStatus, State};
 use crate::totals::{MAX_TOTAL, sum_fits};
 use msg::{LinkMsg, ReliableMsg};
-use refusal::{Refusal, both, either, gate};
+use refusal::{Refusal, refuse_unless};
 use seq::Seq;
 
 #[derive(Clone, Copy)]
@@ -26,7 +27,7 @@ pub struct SendResult {
 pub fn open_ok(finished: bool, msg: ReliableMsg) -> bool
     ensures { result ≡ open_ok finished msg }
 {
-    either(!finished, !is_ready_kind(msg))
+    !finished || !is_ready_kind(msg)
 }
 
 // Whether a Consumed tells of bytes that were taken and not told yet.
@@ -34,18 +35,16 @@ pub fn told_ok(msg: ReliableMsg, untold: u32) -> bool
     ensures { result ≡ told_ok msg untold }
 {
     let n = msg.count();
-    let some = either(msg.kind() != LinkMsg::MSG_CONSUMED, 1 <= n);
-    both(some, n <= untold)
+    (msg.kind() != LinkMsg::MSG_CONSUMED || 1 <= n) && n <= untold
 }
 
 fn totals_ok(s: State, slot: u8, msg: ReliableMsg, len: usize) -> bool
     ensures { result ≡ totals_ok s slot msg len }
 {
-    let unacked = sum_fits(s.tx.txed_unacked, len, MAX_TOTAL);
-    let unconsumed = sum_fits(s.tx.txed_unconsumed, len, MAX_TOTAL);
-    let on = sum_fits(row_of(s, slot).txed_unacked_data, len, MAX_TOTAL);
-    let told = told_ok(msg, s.rx.rxed_reliable_consumed);
-    both(unacked, both(unconsumed, both(on, told)))
+    sum_fits(s.tx.txed_unacked, len, MAX_TOTAL)
+        && sum_fits(s.tx.txed_unconsumed, len, MAX_TOTAL)
+        && sum_fits(row_of(s, slot).txed_unacked_data, len, MAX_TOTAL)
+        && told_ok(msg, s.rx.rxed_reliable_consumed)
 }
 
 fn send_verdict(
@@ -58,20 +57,12 @@ fn send_verdict(
 ) -> Result<(), Refusal>
     ensures { result ≡ send_verdict s store slot time msg len }
 {
-    let sound = is_sound(s);
-    let timed = time_ok(s, time);
-    let slotted = slot_ok(s, slot);
-    let long = length_ok(msg, len);
-    let open = open_ok(s.tx.send_finish_sent, msg);
-    let totals = totals_ok(s, slot, msg, len);
-    let v10 = gate(s.tx.txed_count < PACKETS, Refusal::Full, Ok(()));
-    let v9 = gate(totals, Refusal::Total, v10);
-    let v8 = gate(open, Refusal::Finished, v9);
-    let v7 = gate(long, Refusal::Length, v8);
-    let v4 = gate(slotted, Refusal::Slot, v7);
-    let v3 = gate(timed, Refusal::Time, v4);
-    let v1 = gate(sound, Refusal::Unsound, v3);
-    gate(store == SENT_BYTES, Refusal::StoreLength, v1)
+    refuse_unless(store == SENT_BYTES, Refusal::StoreLength)?;
+    timed_gates(s, slot, time)?;
+    refuse_unless(length_ok(msg, len), Refusal::Length)?;
+    refuse_unless(open_ok(s.tx.send_finish_sent, msg), Refusal::Finished)?;
+    refuse_unless(totals_ok(s, slot, msg, len), Refusal::Total)?;
+    refuse_unless(s.tx.txed_count < PACKETS, Refusal::Full)
 }
 
 // The sending half with one packet more.
@@ -80,17 +71,18 @@ fn sent_tx(tx: Sending, slot: u8, link: u64, time: u64, msg: ReliableMsg, len: u
     ensures { result ≡ sent_tx tx slot link time msg len }
 {
     let seq = tx.tx_seq;
-    let at = (seq.0 % PACKET_ROUND) as usize;
+    let at = cell_at(PACKET_ROUND, seq);
     let status = SentReliableStatus::Sent(InFlight::new(time, slot, link, false));
     let p = SentReliable::new(seq, msg, len, status);
-    let finished = either(tx.send_finish_sent, msg.kind() == LinkMsg::MSG_SEND_FINISH);
-    let mut out = tx;
-    out.tx_seq = seq.add(1);
+    let mut out = Sending {
+        tx_seq: seq.add(1),
+        txed_count: tx.txed_count + 1,
+        txed_unacked: tx.txed_unacked + len,
+        txed_unconsumed: tx.txed_unconsumed + len,
+        send_finish_sent: tx.send_finish_sent || msg.kind() == LinkMsg::MSG_SEND_FINISH,
+        ..tx
+    };
     out.txed_packets[at] = p;
-    out.txed_count = tx.txed_count + 1;
-    out.txed_unacked = tx.txed_unacked + len;
-    out.txed_unconsumed = tx.txed_unconsumed + len;
-    out.send_finish_sent = finished;
     out
 }
 
@@ -98,9 +90,10 @@ fn told_rx(rx: Receiving, msg: ReliableMsg) -> Receiving
     requires { count_of msg ≤ rx.rxed_reliable_consumed }
     ensures { result ≡ told_rx rx msg }
 {
-    let mut out = rx;
-    out.rxed_reliable_consumed = rx.rxed_reliable_consumed - msg.count();
-    out
+    Receiving {
+        rxed_reliable_consumed: rx.rxed_reliable_consumed - msg.count(),
+        ..rx
+    }
 }
 
 fn sent_state(s: State, slot: u8, time: u64, msg: ReliableMsg, len: u32) -> State
@@ -108,14 +101,13 @@ fn sent_state(s: State, slot: u8, time: u64, msg: ReliableMsg, len: u32) -> Stat
     ensures { result ≡ sent_state s slot time msg len }
 {
     let row = row_of(s, slot);
-    let tx = s.tx;
-    let rx = s.rx;
     let next = row.with_unacked(row.txed_unacked_data + len);
-    let mut out = with_row(s, slot, next);
-    out.tx = sent_tx(tx, slot, row.link_id, time, msg, len);
-    out.rx = told_rx(rx, msg);
-    out.time = time;
-    out
+    State {
+        tx: sent_tx(s.tx, slot, row.link_id, time, msg, len),
+        rx: told_rx(s.rx, msg),
+        time,
+        ..with_row(s, slot, next)
+    }
 }
 
 // Takes the next number for a message, keeps it, and copies its data to the number's cell of the sent store.
@@ -132,15 +124,14 @@ pub fn send(
     ensures store_after { store.new ≡ send_store s store.old slot time msg payload.now }
 {
     let len = payload.len();
-    let verdict = send_verdict(s, store.len(), slot, time, msg, len);
-    match verdict {
+    match send_verdict(s, store.len(), slot, time, msg, len) {
         Err(e) => SendResult {
             answer: Err(e),
             state: s,
         },
         Ok(()) => {
             let seq = s.tx.tx_seq;
-            let start = (seq.0 % PACKET_ROUND) as usize * DATA_BYTES;
+            let start = cell_at(PACKET_ROUND, seq) * DATA_BYTES;
             let end = start + len;
             store[start..end].copy_from_slice(payload);
             let next = sent_state(s, slot, time, msg, len as u32);

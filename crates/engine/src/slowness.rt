@@ -4,11 +4,11 @@ ghost use Rattle.engine.specs.Slowness.{slow_if_confirmed, all_slow, over_slots,
 ghost use Rattle.refusal.specs.Answers.{told_by};
 ghost use Rattle.engine.specs.Sizes.{SLOTS};
 
-use crate::sizes::{SLOT_END, SLOTS};
+use crate::sizes::SLOTS;
 use link::LinkRow;
-use refusal::{Refusal, both};
+use refusal::Refusal;
 
-// The slots that are listed, lowest first: the first count of these. The places past them are 0.
+// The slots that are listed, lowest first: the first count of these. The places past them are 0. Memory is fixed, and `listed_in` says the count beside.
 #[derive(Clone, Copy)]
 pub struct SlowLinks {
     pub slots: [u8; SLOTS],
@@ -19,26 +19,14 @@ pub struct SlowLinks {
 fn is_slow_if_confirmed(row: LinkRow) -> bool
     ensures { result ≡ slow_if_confirmed row }
 {
-    if row.is_confirmed() {
-        row.is_slow()
-    } else {
-        true
-    }
+    !row.is_confirmed() || row.is_slow()
 }
 
 // Whether every confirmed link is slow.
 fn all_slow(rows: [LinkRow; SLOTS]) -> bool
     ensures { result ≡ all_slow rows }
 {
-    let mut i: usize = 0;
-    while i < SLOTS {
-        let row = rows[i];
-        if !is_slow_if_confirmed(row) {
-            return false;
-        }
-        i += 1;
-    }
-    true
+    rows.iter().all(|row| is_slow_if_confirmed(*row))
 }
 
 fn none_listed() -> SlowLinks
@@ -51,19 +39,16 @@ fn none_listed() -> SlowLinks
 }
 
 // What was found, with a slot behind the others where its link is confirmed and above its max_ping.
+#[tactic(auto, unfolding(crate::specs::Slowness::note_in))]
 fn note(found: SlowLinks, slot: u8, row: LinkRow) -> SlowLinks
     requires { found.count < SLOTS }
     ensures { result ≡ note_in found slot row }
 {
-    let confirmed = row.is_confirmed();
-    let above = row.is_above_max_ping();
-    if !both(confirmed, above) {
-        return found;
-    }
-    let n = found.count;
     let mut out = found;
-    out.slots[n] = slot;
-    out.count = n + 1;
+    if row.is_confirmed() && row.is_above_max_ping() {
+        out.slots[found.count] = slot;
+        out.count += 1;
+    }
     out
 }
 
@@ -72,17 +57,14 @@ fn list_over(rows: [LinkRow; SLOTS]) -> SlowLinks
     ensures { result ≡ listed_in (over_slots 0 rows) }
 {
     let mut found = none_listed();
-    let mut slot: u8 = 0;
-    while slot < SLOT_END {
-        let at = slot as usize;
-        let row = rows[at];
-        found = note(found, slot, row);
-        slot += 1;
+    for (slot, row) in rows.iter().enumerate() {
+        found = note(found, slot as u8, *row);
     }
     found
 }
 
 // The slow links among eight rows in slot order.
+#[tactic(auto, unfolding(crate::specs::Slowness::slow_of, crate::specs::Slowness::slow_slots))]
 pub fn slow_rows(rows: [LinkRow; SLOTS]) -> SlowLinks
     ensures { result ≡ slow_of rows }
 {
@@ -96,11 +78,8 @@ pub fn slow_rows(rows: [LinkRow; SLOTS]) -> SlowLinks
 pub fn slow(rows: &[LinkRow]) -> Result<SlowLinks, Refusal>
     ensures { (result ≡ slow_links_of rows.now) × (slow_told result ≡ told_by (slow_verdict rows.now) (slow_slots rows.now)) }
 {
-    if rows.len() != SLOTS {
-        return Err(Refusal::Slot);
+    match <[LinkRow; SLOTS]>::try_from(rows) {
+        Ok(rows) => Ok(slow_rows(rows)),
+        Err(_) => Err(Refusal::Slot),
     }
-    let all = [
-        rows[0], rows[1], rows[2], rows[3], rows[4], rows[5], rows[6], rows[7],
-    ];
-    Ok(slow_rows(all))
 }

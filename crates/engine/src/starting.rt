@@ -10,9 +10,10 @@ use crate::sound::is_cell_count;
 use crate::state::{InFlight, Receiving, Sending, SentReliable, SentReliableStatus, State};
 use link::LinkRow;
 use msg::ReliableMsg;
-use refusal::{Refusal, both, gate};
+use refusal::{Refusal, refuse_unless};
 use seq::Seq;
 
+#[tactic(auto, unfolding(crate::specs::Starting::fresh_tx))]
 fn fresh_tx(start: Seq) -> Sending
     ensures { result ≡ fresh_tx start.0 }
 {
@@ -33,6 +34,7 @@ fn fresh_tx(start: Seq) -> Sending
     }
 }
 
+#[tactic(auto, unfolding(crate::specs::Starting::fresh_rx))]
 fn fresh_rx(start: Seq, recv_buffer: u32, cells: u32) -> Receiving
     ensures { result ≡ fresh_rx start.0 recv_buffer cells }
 {
@@ -47,12 +49,12 @@ fn fresh_rx(start: Seq, recv_buffer: u32, cells: u32) -> Receiving
     }
 }
 
+#[tactic(auto, unfolding(crate::specs::Starting::fresh_state))]
 fn fresh_state(start: Seq, recv_buffer: u32, cells: u32) -> State
     ensures { result ≡ fresh_state start.0 recv_buffer cells }
 {
-    let empty = LinkRow::empty();
     State {
-        links: [empty; SLOTS],
+        links: [LinkRow::empty(); SLOTS],
         tx: fresh_tx(start),
         rx: fresh_rx(start, recv_buffer, cells),
         time: 0,
@@ -60,36 +62,33 @@ fn fresh_state(start: Seq, recv_buffer: u32, cells: u32) -> State
     }
 }
 
+#[tactic(auto, unfolding(crate::specs::Starting::fresh_verdict))]
 pub fn fresh_verdict(recv_buffer: u32, cells: u32, records: usize) -> Result<(), Refusal>
     ensures { result ≡ fresh_verdict recv_buffer cells records }
 {
     let most = cells as usize * DATA_BYTES;
-    let within = both(1 <= recv_buffer, recv_buffer as usize <= most);
-    let v2 = gate(records == cells as usize, Refusal::StoreLength, Ok(()));
-    gate(both(is_cell_count(cells), within), Refusal::Setting, v2)
+    let within = 1 <= recv_buffer && recv_buffer as usize <= most;
+    refuse_unless(is_cell_count(cells) && within, Refusal::Setting)?;
+    refuse_unless(records == cells as usize, Refusal::StoreLength)
 }
 
 // Leaves every record empty, whatever it held.
 pub fn empty_records(records: &mut [u64])
     ensures { records.new ≡ replicate (length records.old) 0 }
 {
-    let mut i: usize = 0;
-    while i < records.len() {
-        records[i] = 0;
-        i += 1;
-    }
+    records.fill(0);
 }
 
 // A fresh state of so many cells, and its records, which are empty then. The state that comes with a refusal has no cells and no buffer: it is
 // not sound, and every call refuses it.
+#[tactic(auto, unfolding(crate::specs::Starting::fresh_of, crate::specs::Starting::fresh_records))]
 pub fn fresh(start: Seq, recv_buffer: u32, cells: u32, records: &mut [u64]) -> Changed
     ensures value { result ≡ fresh_of start.0 recv_buffer cells (length records.old) }
     ensures outcome_value { outcome_told result.outcome ≡ told_by (fresh_verdict recv_buffer cells (length records.old)) [] }
     ensures refused_unsound { RefusedUnsound result }
     ensures records_after { records.new ≡ fresh_records recv_buffer cells records.old }
 {
-    let verdict = fresh_verdict(recv_buffer, cells, records.len());
-    match verdict {
+    match fresh_verdict(recv_buffer, cells, records.len()) {
         Err(e) => Changed {
             outcome: Err(e),
             state: fresh_state(start, 0, 0),

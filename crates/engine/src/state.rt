@@ -37,7 +37,7 @@ pub struct SentReliable {
 // What a receive cell holds: a message and its length. Its record, a word of the lent record space, says so (`records`).
 pub type Held = Option<(ReliableMsg, u32)>;
 
-// The sending half.
+// The sending half. The packets and the queue are arrays with a count beside: memory is fixed, and the words of the calls in place lie so.
 #[derive(Clone, Copy, PartialEq, Eq)]
 pub struct Sending {
     // the number that the next message gets

@@ -3,21 +3,18 @@ ghost use Rattle.std.specs.Prelude.{◌≡◌, ◌-◌};
 ghost use Rattle.engine.specs.Totals.{fits};
 
 // The largest total.
-pub const MAX_TOTAL: u32 = 0xFFFF_FFFF;
+pub const MAX_TOTAL: u32 = u32::MAX;
 
 // Whether a sum stays within a bound, told without making the sum.
 pub fn sum_fits(sum: u32, more: usize, bound: u32) -> bool
     ensures { result ≡ fits sum more bound }
 {
-    if bound < sum {
-        return false;
-    }
-    more <= (bound - sum) as usize
+    sum <= bound && more <= (bound - sum) as usize
 }
 
 // a less b, or 0: in a sound state b is never more.
 pub fn less(a: u32, b: u32) -> u32
     ensures { result ≡ a - b }
 {
-    if b <= a { a - b } else { 0 }
+    a.saturating_sub(b)
 }

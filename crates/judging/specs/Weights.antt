@@ -1,8 +1,9 @@
 -- What a packet adds to the tally of its table, found from its words: nothing where it is not well. Assumes nothing.
-use Rattle.std.specs.Prelude.{◌≡◌, ℕ, zero, suc, ◌+◌, ◌-◌, ◌/◌, ◌%◌, ◌^◌, ◌<◌, Bool, true, false, cond, ◌&&◌, List, [], ◌∷◌, get_or, ◌==◌, ◌≢◌, nat_eq, nat_le, slice_index, slice_index_or, slice_set, Some, None}
+use Rattle.std.specs.Prelude.{◌≡◌, ℕ, zero, suc, ◌+◌, ◌-◌, ◌/◌, ◌%◌, ◌^◌, ◌<◌, Bool, true, false, cond, ◌&&◌, List, get_or, ◌==◌, ◌≢◌, nat_eq, nat_le, slice_index, slice_index_or, slice_set, Some, None, Option}
 use Rattle.engine.specs.Held.{Held}
 use Rattle.std.proofs.Math.Path.{refl, sym, ap}
 use Rattle.std.proofs.Common.{◌∙◌, arith}
+use Rattle.std.proofs.lemmas.Option.{cond_some}
 use borrow.Table.Steps.{cases}
 use borrow.Author.Tests.{le-leb, eqb-true, eq-eqb, ne_eqb}
 use Rattle.msg.specs.Reliable.{MSG_DATA, MSG_CONSUMED, MSG_SEND_FINISH, MSG_RECEIVE_CLOSE, MSG_RECEIVE_FINISH}
@@ -26,7 +27,7 @@ use Rattle.engine.specs.Tally.{length_ok, flushed_ok, status_ok, packet_ok, weig
 use Rattle.engine.specs.Sizes.{SLOTS, PACKETS, DATA_BYTES}
 use Rattle.words.specs.Meaning.{NO_SLOT, half, seq_word, flushed_of, flight_of, status_of, packet_held, packet_of}
 use Rattle.judging.specs.declared.packet.Weight.{Weight}
-use Rattle.judging.specs.declared.packet.Weight.TheVariants.{Wrong, Flying, Settled, Waiting}
+use Rattle.judging.specs.declared.packet.Weight.TheVariants.{Flying, Settled, Waiting}
 
 -- what a status adds
 abbrev pub weight_by : SentReliableStatus → ℕ → Weight
@@ -34,13 +35,13 @@ weight_by (Sent flight) len = Flying flight.slot len
 weight_by Received len = Settled len
 weight_by (ResendQueued link) len = Waiting len
 
-unfoldable pub weight_of : SentReliable → Seq → Seq → Roster → ℕ → Weight
-weight_of p n next roster time = cond (packet_ok p n next roster time) (weight_by p.status p.len) Wrong
+unfoldable pub weight_of : SentReliable → Seq → Seq → Roster → ℕ → Option Weight
+weight_of p n next roster time = cond (packet_ok p n next roster time) (Some (weight_by p.status p.len)) None
 
 -- .. by the words of a packet whose number and message are well
-abbrev pub status_weight : List ℕ → Seq → Seq → Roster → ℕ → Weight
+abbrev pub status_weight : List ℕ → Seq → Seq → Roster → ℕ → Option Weight
 status_weight xs n next roster time =
-    cond (status_ok (status_of xs) n next roster time) (weight_by (status_of xs) (slice_index xs 1 / 256 % 16777216)) Wrong
+    cond (status_ok (status_of xs) n next roster time) (Some (weight_by (status_of xs) (slice_index xs 1 / 256 % 16777216))) None
 
 -- the tests of a packet in flight over a slot
 abbrev pub flight_fine : Roster → List ℕ → ℕ → ℕ → Bool
@@ -52,12 +53,9 @@ abbrev pub held_fine : Held → Bool
 held_fine None = false
 held_fine (Some (msg, len)) = length_ok msg len
 
--- a tally that is not well, whatever its sums
-abbrev pub spoilt : Tally
-spoilt = record { ok = false; on = 0 ∷ 0 ∷ 0 ∷ 0 ∷ 0 ∷ 0 ∷ 0 ∷ 0 ∷ []; unacked = 0; unconsumable = 0; queued = 0 }
-
-abbrev pub clipped : Tally → Tally
-clipped t = cond t.ok t spoilt
+-- a tally that is well; of one that is not, whatever its sums, there is none
+abbrev pub clipped : Tally → Option Tally
+clipped t = cond t.ok (Some t) None
 
 -- ---- laws: the packet's words
 
@@ -84,30 +82,30 @@ pub data-fine : (word : ℕ) → DataRecord word → held_fine (held_of word) �
 data-fine word is = ap held_fine (data-held word is.kind) ∙ data-fits word is
 
 module _ (n next : Seq) (roster : Roster) (time : ℕ) where
-  held-other : (h : Held) (seq : Seq) (st : SentReliableStatus) → (seq.0 == n.0) ≡ false → weight_of (packet_held h seq st) n next roster time ≡ Wrong
+  held-other : (h : Held) (seq : Seq) (st : SentReliableStatus) → (seq.0 == n.0) ≡ false → weight_of (packet_held h seq st) n next roster time ≡ None
   unfolding weight_of packet_ok
   held-other None seq st e = simp e
   held-other (Some (msg, len)) seq st e = simp e
 
-  held-bad : (h : Held) (seq : Seq) (st : SentReliableStatus) → seq.0 ≡ n.0 → held_fine h ≡ false → weight_of (packet_held h seq st) n next roster time ≡ Wrong
+  held-bad : (h : Held) (seq : Seq) (st : SentReliableStatus) → seq.0 ≡ n.0 → held_fine h ≡ false → weight_of (packet_held h seq st) n next roster time ≡ None
   unfolding weight_of packet_ok length_ok
   held-bad None seq st q e = simp (eq-eqb seq.0 n.0 q)
   held-bad (Some (msg, len)) seq st q e = simp (eq-eqb seq.0 n.0 q, e)
 
   held-well : (h : Held) (seq : Seq) (st : SentReliableStatus) (long : ℕ) → seq.0 ≡ n.0 → held_fine h ≡ true → held_bytes h ≡ long
-      → weight_of (packet_held h seq st) n next roster time ≡ cond (status_ok st n next roster time) (weight_by st long) Wrong
+      → weight_of (packet_held h seq st) n next roster time ≡ cond (status_ok st n next roster time) (Some (weight_by st long)) None
   unfolding weight_of packet_ok
   held-well None seq st long q e l = false-true e
   held-well (Some (msg, len)) seq st long q e l =
       let m : seq ≡ n = ap seq_of q in
-      simp (eq-eqb seq.0 n.0 q, e) (λ i. cond (status_ok st (m i) next roster time) (weight_by st (l i)) Wrong)
+      simp (eq-eqb seq.0 n.0 q, e) (λ i. cond (status_ok st (m i) next roster time) (Some (weight_by st (l i))) None)
 
   module _ (xs : List ℕ) where
-    pub other-number : nat_eq (half (slice_index xs 0)) n.0 ≡ false → weight_of (packet_of xs) n next roster time ≡ Wrong
+    pub other-number : nat_eq (half (slice_index xs 0)) n.0 ≡ false → weight_of (packet_of xs) n next roster time ≡ None
     unfolding packet_of
     other-number e = held-other (held_of (slice_index xs 1)) (seq_word (slice_index xs 0)) (status_of xs) e
 
-    pub bad-message : half (slice_index xs 0) ≡ n.0 → held_fine (held_of (slice_index xs 1)) ≡ false → weight_of (packet_of xs) n next roster time ≡ Wrong
+    pub bad-message : half (slice_index xs 0) ≡ n.0 → held_fine (held_of (slice_index xs 1)) ≡ false → weight_of (packet_of xs) n next roster time ≡ None
     unfolding packet_of
     bad-message q e = held-bad (held_of (slice_index xs 1)) (seq_word (slice_index xs 0)) (status_of xs) q e
 
@@ -116,14 +114,14 @@ module _ (n next : Seq) (roster : Roster) (time : ℕ) where
     well-weighed q e = held-well (held_of (slice_index xs 1)) (seq_word (slice_index xs 0)) (status_of xs) (slice_index xs 1 / 256 % 16777216) q e (full-long (slice_index xs 1) (fine-full (held_of (slice_index xs 1)) e))
 
     -- .. by its tag
-    status : SentReliableStatus → Weight
-    status st = cond (status_ok st n next roster time) (weight_by st (slice_index xs 1 / 256 % 16777216)) Wrong
+    status : SentReliableStatus → Option Weight
+    status st = cond (status_ok st n next roster time) (Some (weight_by st (slice_index xs 1 / 256 % 16777216))) None
 
     received : get_or xs 2 0 ≡ 3 → status_of xs ≡ Received
     unfolding status_of
     received e = simp e
 
-    pub tag-settled : get_or xs 2 0 ≡ 3 → status_weight xs n next roster time ≡ Settled (slice_index xs 1 / 256 % 16777216)
+    pub tag-settled : get_or xs 2 0 ≡ 3 → status_weight xs n next roster time ≡ Some (Settled (slice_index xs 1 / 256 % 16777216))
     unfolding status_ok status
     tag-settled e = ap status (received e)
 
@@ -131,11 +129,11 @@ module _ (n next : Seq) (roster : Roster) (time : ℕ) where
     unfolding status_of
     queued-tag e = simp e
 
-    pub tag-waiting : get_or xs 2 0 ≡ 4 → (next.0 == n.0) ≡ true → status_weight xs n next roster time ≡ Waiting (slice_index xs 1 / 256 % 16777216)
+    pub tag-waiting : get_or xs 2 0 ≡ 4 → (next.0 == n.0) ≡ true → status_weight xs n next roster time ≡ Some (Waiting (slice_index xs 1 / 256 % 16777216))
     unfolding status_ok status
     tag-waiting e q = ap status (queued-tag e) ∙ simp q
 
-    pub tag-unqueued : get_or xs 2 0 ≡ 4 → (next.0 == n.0) ≡ false → status_weight xs n next roster time ≡ Wrong
+    pub tag-unqueued : get_or xs 2 0 ≡ 4 → (next.0 == n.0) ≡ false → status_weight xs n next roster time ≡ None
     unfolding status_ok status
     tag-unqueued e q = ap status (queued-tag e) ∙ simp q
 
@@ -143,7 +141,7 @@ module _ (n next : Seq) (roster : Roster) (time : ℕ) where
     unfolding status_of
     no-tag a b c d = simp (ne_eqb (slice_index xs 2) 1 a, ne_eqb (slice_index xs 2) 2 b, ne_eqb (slice_index xs 2) 3 c, ne_eqb (slice_index xs 2) 4 d)
 
-    pub tag-none : (slice_index xs 2 ≢ 1) → (slice_index xs 2 ≢ 2) → (slice_index xs 2 ≢ 3) → (slice_index xs 2 ≢ 4) → status_weight xs n next roster time ≡ Wrong
+    pub tag-none : (slice_index xs 2 ≢ 1) → (slice_index xs 2 ≢ 2) → (slice_index xs 2 ≢ 3) → (slice_index xs 2 ≢ 4) → status_weight xs n next roster time ≡ None
     unfolding status_ok status lives_in
     tag-none a b c d = ap status (no-tag a b c d)
 
@@ -155,11 +153,11 @@ module _ (n next : Seq) (roster : Roster) (time : ℕ) where
     sent-tag (suc (suc (suc tag))) e l m = absurd (omega arith)
 
     pub tag-flying : 0 < slice_index xs 2 → slice_index xs 2 < 3 → flight_fine roster xs (slice_index xs 3 % 256) time ≡ true
-        → status_weight xs n next roster time ≡ Flying (slice_index xs 3 % 256) (slice_index xs 1 / 256 % 16777216)
+        → status_weight xs n next roster time ≡ Some (Flying (slice_index xs 3 % 256) (slice_index xs 1 / 256 % 16777216))
     unfolding status_ok status
     tag-flying l m e = ap status (sent-tag (slice_index xs 2) refl l m).1 ∙ simp e
 
-    pub tag-grounded : 0 < slice_index xs 2 → slice_index xs 2 < 3 → flight_fine roster xs (slice_index xs 3 % 256) time ≡ false → status_weight xs n next roster time ≡ Wrong
+    pub tag-grounded : 0 < slice_index xs 2 → slice_index xs 2 < 3 → flight_fine roster xs (slice_index xs 3 % 256) time ≡ false → status_weight xs n next roster time ≡ None
     unfolding status_ok status
     tag-grounded l m e = ap status (sent-tag (slice_index xs 2) refl l m).1 ∙ simp e
 
@@ -174,7 +172,7 @@ data-long len = cases (len == 0) (λ t. simp t (le-leb len DATA_BYTES (omega (ar
 
 -- ---- laws: the tally
 
-flying : (st : SentReliableStatus) (n : ℕ) (ok : Bool) (t : Tally) (j len : ℕ) → t.ok ≡ true → cond ok (weight_by st n) Wrong ≡ Flying j len
+flying : (st : SentReliableStatus) (n : ℕ) (ok : Bool) (t : Tally) (j len : ℕ) → t.ok ≡ true → cond ok (Some (weight_by st n)) None ≡ Some (Flying j len)
     → weighed st t n ok ≡ record {
       ok = t.ok;
       on = slice_set t.on (j % SLOTS) (plus (slice_index t.on (j % SLOTS)) len);
@@ -191,7 +189,7 @@ flying Received n true t j len h e = let z : ◌≡◌ {A = ℕ} 0 1 = cc in abs
 flying (ResendQueued link) n true t j len h e = let z : ◌≡◌ {A = ℕ} 0 1 = cc in absurd (omega arith)
 flying st n false t j len h e = let z : ◌≡◌ {A = ℕ} 0 1 = cc in absurd (omega arith)
 
-settled : (st : SentReliableStatus) (n : ℕ) (ok : Bool) (t : Tally) (len : ℕ) → t.ok ≡ true → cond ok (weight_by st n) Wrong ≡ Settled len
+settled : (st : SentReliableStatus) (n : ℕ) (ok : Bool) (t : Tally) (len : ℕ) → t.ok ≡ true → cond ok (Some (weight_by st n)) None ≡ Some (Settled len)
     → weighed st t n ok ≡ record { ok = t.ok; on = t.on; unacked = t.unacked; unconsumable = plus t.unconsumable len; queued = t.queued }
 unfolding weighed
 settled (Sent flight) n true t len h e = let z : ◌≡◌ {A = ℕ} 0 1 = cc in absurd (omega arith)
@@ -201,7 +199,7 @@ settled Received n true t len h e =
 settled (ResendQueued link) n true t len h e = let z : ◌≡◌ {A = ℕ} 0 1 = cc in absurd (omega arith)
 settled st n false t len h e = let z : ◌≡◌ {A = ℕ} 0 1 = cc in absurd (omega arith)
 
-waiting : (st : SentReliableStatus) (n : ℕ) (ok : Bool) (t : Tally) (len : ℕ) → t.ok ≡ true → cond ok (weight_by st n) Wrong ≡ Waiting len
+waiting : (st : SentReliableStatus) (n : ℕ) (ok : Bool) (t : Tally) (len : ℕ) → t.ok ≡ true → cond ok (Some (weight_by st n)) None ≡ Some (Waiting len)
     → weighed st t n ok ≡ record { ok = t.ok; on = t.on; unacked = plus t.unacked len; unconsumable = t.unconsumable; queued = (t.queued + 1) % 2 ^ 64 }
 unfolding weighed
 waiting (Sent flight) n true t len h e = let z : ◌≡◌ {A = ℕ} 0 1 = cc in absurd (omega arith)
@@ -215,7 +213,7 @@ and-false : (b : Bool) → (b && false) ≡ false
 and-false true = refl
 and-false false = refl
 
-wrong : (st : SentReliableStatus) (n : ℕ) (ok : Bool) → cond ok (weight_by st n) Wrong ≡ Wrong → ok ≡ false
+wrong : (st : SentReliableStatus) (n : ℕ) (ok : Bool) → cond ok (Some (weight_by st n)) None ≡ None → ok ≡ false
 wrong (Sent flight) n true e = let z : ◌≡◌ {A = ℕ} 0 1 = cc in absurd (omega arith)
 wrong Received n true e = let z : ◌≡◌ {A = ℕ} 0 1 = cc in absurd (omega arith)
 wrong (ResendQueued link) n true e = let z : ◌≡◌ {A = ℕ} 0 1 = cc in absurd (omega arith)
@@ -223,13 +221,18 @@ wrong st n false e = refl
 
 -- ---- laws: a turn of the pass, which ends where a packet is not well
 
-pub clipped-ok : (t : Tally) → (clipped t).ok ≡ t.ok
-clipped-ok t = cases t.ok (λ e. simp e) (λ e. simp e)
+pub clipped-some : (t u : Tally) → clipped t ≡ Some u → (t.ok ≡ true) × (t ≡ u)
+clipped-some t u e = cond_some t.ok t u e
 
-pub clipped-well : (t : Tally) → t.ok ≡ true → clipped t ≡ t
+pub clipped-none : (t : Tally) → clipped t ≡ None → t.ok ≡ false
+clipped-none t e = cases t.ok
+    (λ w. let h : ◌≡◌ {A = Option Tally} (Some t) None = simp w at e in let z : ◌≡◌ {A = ℕ} 0 1 = cc in absurd (omega arith))
+    (λ w. w)
+
+pub clipped-well : (t : Tally) → t.ok ≡ true → clipped t ≡ Some t
 clipped-well t e = simp e
 
-clipped-bad : (t : Tally) → t.ok ≡ false → clipped t ≡ spoilt
+clipped-bad : (t : Tally) → t.ok ≡ false → clipped t ≡ None
 clipped-bad t e = simp e
 
 weighed-spoilt : (st : SentReliableStatus) (t : Tally) (len : ℕ) (ok : Bool) → ok ≡ false → (weighed st t len ok).ok ≡ false
@@ -241,13 +244,17 @@ weighed-spoilt (ResendQueued link) t len ok e = simp e (and-false t.ok)
 abbrev pub pass_from : State → (at left : ℕ) → Seq → Tally → Tally
 pass_from s at left n t = pass_of s (window PACKETS no_packet s.tx.txed_packets at left) n.0 t
 
+-- one more packet is weighed
+pub one-done : (n k : ℕ) → n - k - 1 ≡ n - (k + 1)
+one-done n k = omega arith
+
 -- the cell of the next number is the next cell
 pub next-number : (n : ℕ) → plus n 1 % 64 ≡ next_cell PACKETS (n % 64)
 unfolding plus
 next-number n = let round : (n + 1) % 2 ^ 32 % 64 ≡ (n % 64 + 1) % 64 = omega arith in round ∙ sym (next-mod PACKETS (n % 64) (omega arith))
 
 -- what the packet in a cell adds, where so many are queued before it
-abbrev pub weight_at : State → ℕ → Seq → ℕ → Weight
+abbrev pub weight_at : State → ℕ → Seq → ℕ → Option Weight
 weight_at s at n queued =
     weight_of (slice_index_or s.tx.txed_packets at no_packet) n (slice_index_or s.tx.resend_queue (queued % PACKETS) (seq_of 0)) (roster_of s.links) s.time
 
@@ -263,7 +270,7 @@ module _ (s : State) (at left : ℕ) (n : Seq) (t : Tally) (some : 0 < left) whe
       (λ i. pass_from s (a i) (left - 1) (b i) (sym e i)) ∙ sym (tally-step s.tx.resend_queue (roster_of s.links) s.time s.tx.txed_packets at left n.0 t some)
 
   -- whatever follows
-  pub wrong-turn : weight_at s at n t.queued ≡ Wrong → clipped (pass_from s at left n t) ≡ spoilt
+  pub wrong-turn : weight_at s at n t.queued ≡ None → clipped (pass_from s at left n t) ≡ None
   unfolding weight_of ok_here
   wrong-turn e =
       let p = get_or s.tx.txed_packets at no_packet in
@@ -274,7 +281,7 @@ module _ (s : State) (at left : ℕ) (n : Seq) (t : Tally) (some : 0 < left) whe
       ap clipped (sym (turn (next_cell PACKETS at) (seq_of (plus n.0 1)) t2 refl refl refl)) ∙ clipped-bad (pass_of s rest (plus n.0 1) t2) worse
 
   module _ (well : t.ok ≡ true) (at2 : ℕ) (n2 : Seq) (t2 : Tally) (a : at2 ≡ next_cell PACKETS at) (b : n2 ≡ seq_of (plus n.0 1)) where
-    pub flying-turn : (j len : ℕ) → weight_at s at n t.queued ≡ Flying j len
+    pub flying-turn : (j len : ℕ) → weight_at s at n t.queued ≡ Some (Flying j len)
         → t2 ≡ record {
           ok = t.ok;
           on = slice_set t.on (j % SLOTS) (plus (slice_index t.on (j % SLOTS)) len);
@@ -287,14 +294,14 @@ module _ (s : State) (at left : ℕ) (n : Seq) (t : Tally) (some : 0 < left) whe
     flying-turn j len e q =
         turn at2 n2 t2 a b (flying (get_or s.tx.txed_packets at no_packet).status (get_or s.tx.txed_packets at no_packet).len ok_here t j len well e ∙ sym q)
 
-    pub settled-turn : (len : ℕ) → weight_at s at n t.queued ≡ Settled len
+    pub settled-turn : (len : ℕ) → weight_at s at n t.queued ≡ Some (Settled len)
         → t2 ≡ record { ok = t.ok; on = t.on; unacked = t.unacked; unconsumable = plus t.unconsumable len; queued = t.queued }
         → pass_from s at2 (left - 1) n2 t2 ≡ pass_from s at left n t
     unfolding weight_of ok_here
     settled-turn len e q =
         turn at2 n2 t2 a b (settled (get_or s.tx.txed_packets at no_packet).status (get_or s.tx.txed_packets at no_packet).len ok_here t len well e ∙ sym q)
 
-    pub waiting-turn : (len : ℕ) → weight_at s at n t.queued ≡ Waiting len
+    pub waiting-turn : (len : ℕ) → weight_at s at n t.queued ≡ Some (Waiting len)
         → t2 ≡ record { ok = t.ok; on = t.on; unacked = plus t.unacked len; unconsumable = t.unconsumable; queued = (t.queued + 1) % 2 ^ 64 }
         → pass_from s at2 (left - 1) n2 t2 ≡ pass_from s at left n t
     unfolding weight_of ok_here

@@ -2,9 +2,11 @@
 // use, with neither the state nor a row's acks read.
 #![tactic(auto)]
 
+mod entry;
 mod packet;
 mod pass;
 mod roster;
 pub mod sound;
 
+pub use entry::{as_mut_sound, as_mut_sound_with, as_sound, as_sound_with};
 pub use sound::{is_sound, is_sound_with};

@@ -14,13 +14,12 @@ use engine::packets::length_ok;
 use engine::records::{is_data_record, length_in};
 use engine::{Held, PACKETS, held_of};
 use seq::Seq;
-use words::layout::{PACKET, PACKETS_START};
+use words::layout::{PACKET, PACKETS_START, WORDS};
 use words::queues::queued_at;
 
-// What a packet adds to the tally, by its status: its bytes, and a Sent one's slot. One that is not well ends the pass.
+// What a packet that is well adds to the tally, by its status: its bytes, and a Sent one's slot.
 #[derive(Clone, Copy)]
 pub enum Weight {
-    Wrong,
     Flying(usize, u32),
     Settled(u32),
     Waiting(u32),
@@ -50,8 +49,8 @@ fn flushed_ok(some: u64, at: u64, time: u64) -> bool
 }
 
 // Whether a packet's flight is over a live link, and not later than the time.
-fn flight_ok(words: &[u64], part: &[u64], slot: usize, time: u64) -> bool
-    requires { (length words.now ≡ WORDS) × (length part.now ≡ 8) }
+fn flight_ok(words: &[u64; WORDS], part: &[u64], slot: usize, time: u64) -> bool
+    requires { length part.now ≡ 8 }
     ensures { result ≡ flight_fine (roster_of (state_of words.now).links) part.now slot time }
 {
     if !lives_in(words, slot, part[4]) {
@@ -64,8 +63,8 @@ fn flight_ok(words: &[u64], part: &[u64], slot: usize, time: u64) -> bool
 }
 
 // What a packet adds whose number n and message are well. Sent, a tag of 1 or 2, is told first, since most packets are.
-fn status_in(words: &[u64], part: &[u64], n: Seq, queued: usize, time: u64) -> Weight
-    requires { (length words.now ≡ WORDS) × (length part.now ≡ 8) }
+fn status_in(words: &[u64; WORDS], part: &[u64], n: Seq, queued: usize, time: u64) -> Option<Weight>
+    requires { length part.now ≡ 8 }
     ensures { result ≡ status_weight part.now n (slice_index_or (state_of words.now).tx.resend_queue (queued % 64) (seq_of 0)) (roster_of (state_of words.now).links) time }
 {
     let len = length_in(part[1]);
@@ -73,39 +72,45 @@ fn status_in(words: &[u64], part: &[u64], n: Seq, queued: usize, time: u64) -> W
     if std::num::wrapping_sub_u64(tag, 1) < 2 {
         let slot = (part[3] % 0x100) as usize;
         if flight_ok(words, part, slot, time) {
-            return Weight::Flying(slot, len);
+            return Some(Weight::Flying(slot, len));
         }
-        return Weight::Wrong;
+        return None;
     }
     if tag == 3 {
-        return Weight::Settled(len);
+        return Some(Weight::Settled(len));
     }
     if tag != 4 {
-        return Weight::Wrong;
+        return None;
     }
-    if queued_at(words, queued % PACKETS).eq(n) {
-        return Weight::Waiting(len);
+    if queued_at(words, queued % PACKETS) == n {
+        return Some(Weight::Waiting(len));
     }
-    Weight::Wrong
+    None
 }
 
-fn weight_in(words: &[u64], part: &[u64], n: Seq, queued: usize, time: u64) -> Weight
-    requires { (length words.now ≡ WORDS) × (length part.now ≡ 8) }
+fn weight_in(words: &[u64; WORDS], part: &[u64], n: Seq, queued: usize, time: u64) -> Option<Weight>
+    requires { length part.now ≡ 8 }
     ensures { result ≡ weight_of (packet_of part.now) n (slice_index_or (state_of words.now).tx.resend_queue (queued % 64) (seq_of 0)) (roster_of (state_of words.now).links) time }
 {
     let seq = Seq((part[0] % 0x1_0000_0000) as u32);
-    if !seq.eq(n) {
-        return Weight::Wrong;
+    if seq != n {
+        return None;
     }
     if !message_ok(part[1]) {
-        return Weight::Wrong;
+        return None;
     }
     status_in(words, part, n, queued, time)
 }
 
-// What the packet in a cell adds, which is to be the number n, with so many queued before it.
-pub(crate) fn weight_at(words: &[u64], at: usize, n: Seq, queued: usize, time: u64) -> Weight
-    requires { (length words.now ≡ WORDS) × (at < 64) }
+// What the packet in a cell adds, which is to be the number n, with so many queued before it; nothing where it is not well.
+pub(crate) fn weight_at(
+    words: &[u64; WORDS],
+    at: usize,
+    n: Seq,
+    queued: usize,
+    time: u64,
+) -> Option<Weight>
+    requires { at < 64 }
     ensures { result ≡ weight_of (slice_index_or (state_of words.now).tx.txed_packets at no_packet) n (slice_index_or (state_of words.now).tx.resend_queue (queued % 64) (seq_of 0)) (roster_of (state_of words.now).links) time }
 {
     let start = PACKETS_START + at * PACKET;

@@ -7,25 +7,24 @@ ghost use Rattle.words.specs.Layout.{WORDS};
 ghost use Rattle.words.specs.Meaning.{state_of};
 
 use engine::SLOTS;
-use words::layout::{ROW, ROWS};
+use words::layout::{ROW, ROWS, WORDS};
 
-fn is_live(words: &[u64], slot: usize) -> bool
-    requires { (length words.now ≡ WORDS) × (slot < 8) }
+fn is_live(words: &[u64; WORDS], slot: usize) -> bool
+    requires { slot < 8 }
     ensures { result ≡ (row_at (state_of words.now) slot).live }
 {
     words[ROWS + slot * ROW] != 0
 }
 
-fn id_of(words: &[u64], slot: usize) -> u64
-    requires { (length words.now ≡ WORDS) × (slot < 8) }
+fn id_of(words: &[u64; WORDS], slot: usize) -> u64
+    requires { slot < 8 }
     ensures { result ≡ (row_at (state_of words.now) slot).link_id }
 {
     words[ROWS + slot * ROW + 1]
 }
 
 // Whether a slot holds a live link with the identity.
-pub(crate) fn lives_in(words: &[u64], slot: usize, id: u64) -> bool
-    requires { length words.now ≡ WORDS }
+pub(crate) fn lives_in(words: &[u64; WORDS], slot: usize, id: u64) -> bool
     ensures { result ≡ lives_in (roster_of (state_of words.now).links) slot id }
 {
     if SLOTS <= slot {
@@ -38,14 +37,11 @@ pub(crate) fn lives_in(words: &[u64], slot: usize, id: u64) -> bool
 }
 
 // Whether one of the first n slots holds a live link with the identity.
-fn lives_before(words: &[u64], n: usize, id: u64) -> bool
-    requires { length words.now ≡ WORDS }
+fn lives_before(words: &[u64; WORDS], n: usize, id: u64) -> bool
     ensures { result ≡ lives_before (roster_of (state_of words.now).links) n id }
 {
-    let mut left = n;
-    while 0 < left {
-        left -= 1;
-        if lives_in(words, left, id) {
+    for slot in (0..n).rev() {
+        if lives_in(words, slot, id) {
             return true;
         }
     }
@@ -53,15 +49,12 @@ fn lives_before(words: &[u64], n: usize, id: u64) -> bool
 }
 
 // No identity lives twice: nobody below a live slot has its identity.
-pub(crate) fn distinct(words: &[u64]) -> bool
-    requires { length words.now ≡ WORDS }
+pub(crate) fn distinct(words: &[u64; WORDS]) -> bool
     ensures { result ≡ distinct_below (roster_of (state_of words.now).links) 8 }
 {
-    let mut left: usize = SLOTS;
-    while 0 < left {
-        left -= 1;
-        if is_live(words, left) {
-            if lives_before(words, left, id_of(words, left)) {
+    for slot in (0..SLOTS).rev() {
+        if is_live(words, slot) {
+            if lives_before(words, slot, id_of(words, slot)) {
                 return false;
             }
         }

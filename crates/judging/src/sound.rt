@@ -16,7 +16,6 @@ use engine::sizes::PACKET_ROUND;
 use engine::sound::{receiving_ok, row_ok};
 use engine::{PACKETS, SLOTS};
 use link::sizes::MAX_TIME;
-use refusal::both;
 use seq::Seq;
 use words::layout::{PACKET, PACKETS_START, TIME, WORDS};
 use words::receiving::rx_of;
@@ -27,8 +26,8 @@ use words::sending::tx_of;
 const RECEIVED: u64 = 3;
 
 // The first packet isn't Received: its tag alone is read.
-fn first_ok(words: &[u64], count: usize, first: Seq) -> bool
-    requires { (length words.now ≡ WORDS) × (count ≡ (state_of words.now).tx.txed_count) × (first ≡ seq_of (first_of (state_of words.now).tx)) }
+fn first_ok(words: &[u64; WORDS], count: usize, first: Seq) -> bool
+    requires { (count ≡ (state_of words.now).tx.txed_count) × (first ≡ seq_of (first_of (state_of words.now).tx)) }
     ensures { result ≡ first_ok (state_of words.now).tx }
 {
     if count == 0 {
@@ -38,24 +37,19 @@ fn first_ok(words: &[u64], count: usize, first: Seq) -> bool
     words[PACKETS_START + at * PACKET + 2] != RECEIVED
 }
 
-fn rows_ok(words: &[u64], on: [u32; SLOTS], time: u64) -> bool
-    requires { length words.now ≡ WORDS }
+fn rows_ok(words: &[u64; WORDS], on: [u32; SLOTS], time: u64) -> bool
     ensures { result ≡ rows_from (state_of words.now).links on time 0 8 }
 {
-    let mut j: usize = 0;
-    while j < SLOTS {
-        let row = row_at(words, j);
-        if !row_ok(row, on[j], time) {
+    for (slot, bytes) in on.iter().enumerate() {
+        if !row_ok(row_at(words, slot), *bytes, time) {
             return false;
         }
-        j += 1;
     }
     true
 }
 
 // The sums of a pass are those that the words say.
-fn sums_ok(words: &[u64], t: Tally) -> bool
-    requires { length words.now ≡ WORDS }
+fn sums_ok(words: &[u64; WORDS], t: Tally) -> bool
     ensures { result ≡ sums_ok (state_of words.now).tx t }
 {
     let tx = tx_of(words);
@@ -65,14 +59,10 @@ fn sums_ok(words: &[u64], t: Tally) -> bool
     if PACKETS < tx.resend_count {
         return false;
     }
-    both(
-        t.unacked == tx.txed_unacked,
-        t.unconsumable == tx.txed_unconsumable,
-    )
+    t.unacked == tx.txed_unacked && t.unconsumable == tx.txed_unconsumable
 }
 
-fn links_ok(words: &[u64], on: [u32; SLOTS], time: u64) -> bool
-    requires { length words.now ≡ WORDS }
+fn links_ok(words: &[u64; WORDS], on: [u32; SLOTS], time: u64) -> bool
     ensures { result ≡ links_ok (state_of words.now).links on time }
 {
     if !rows_ok(words, on, time) {
@@ -85,8 +75,7 @@ fn links_ok(words: &[u64], on: [u32; SLOTS], time: u64) -> bool
 }
 
 // What the passes find. A count above PACKETS is told first: a pass goes through as many packets as the count says.
-fn found_sound(words: &[u64]) -> bool
-    requires { length words.now ≡ WORDS }
+fn found_sound(words: &[u64; WORDS]) -> bool
     ensures { result ≡ found_sound (state_of words.now) }
 {
     let tx = tx_of(words);
@@ -102,24 +91,25 @@ fn found_sound(words: &[u64]) -> bool
         return false;
     }
     let now = words[TIME];
-    let t = tallied(words, tx.txed_count, n, now);
-    if !t.ok {
-        return false;
+    let tally = tallied(words, tx.txed_count, n, now);
+    match tally {
+        None => false,
+        Some(t) => {
+            if !sums_ok(words, t) {
+                return false;
+            }
+            links_ok(words, t.on, now)
+        }
     }
-    if !sums_ok(words, t) {
-        return false;
-    }
-    let on = t.on;
-    links_ok(words, on, now)
 }
 
 // Whether the words are those of a sound state, but for what the records hold.
 pub fn is_sound(words: &[u64]) -> bool
     ensures { result ≡ soundb (state_of words.now) }
 {
-    if words.len() != WORDS {
+    let Some(words) = words.as_array::<WORDS>() else {
         return false;
-    }
+    };
     found_sound(words)
 }
 
@@ -130,6 +120,9 @@ pub fn is_sound_with(words: &[u64], records: &[u64]) -> bool
     if !is_sound(words) {
         return false;
     }
+    let Some(words) = words.as_array::<WORDS>() else {
+        return false;
+    };
     let rx = rx_of(words);
     if records.len() != rx.cells as usize {
         return false;

@@ -2,7 +2,7 @@
 -- checker makes of the source, and whatever meets it tells what `told` says and leaves the state and the stores that `next` says.
 -- So what `refused`, `kept` and `always-good` say of them holds of the calls, and a promise that comes to cite another definition
 -- is refused here. Assumes nothing.
-use Rattle.std.specs.Prelude.{◌≡◌, refl, Bool, List, [], ◌≢◌, ℕ, length, Option, Result}
+use Rattle.std.specs.Prelude.{◌≡◌, refl, Bool, List, [], ◌≢◌, ℕ, length, Result}
 use Rattle.refusal.specs.declared.Refusal.{Refusal}
 use Rattle.engine.specs.Held.{ConfirmTimeout, HandOut}
 use Rattle.std.proofs.Common.{ap, sym, subst, ◌∙◌}

@@ -2,7 +2,7 @@
 -- call of every library crate has its line here under its path; docs/EXCEPTIONS.md has the exceptions, and .ci/unique holds both
 -- to the sources. `Reads.Learnt` of a call is its promise: what its `ensures` say of its arguments, its answer (with the next state
 -- in it) and what was lent to it at exit. The checker makes it of the source, so that no copy here can differ. Assumes nothing.
-use Rattle.std.specs.Prelude.{length, ◌≡◌, refl, List, ℕ, Bool, Result}
+use Rattle.std.specs.Prelude.{length, ◌≡◌, refl, List, ℕ, Bool, ◌&&◌, ◌||◌, Result}
 use Rattle.refusal.specs.declared.Refusal.{Refusal}
 use Rattle.engine.specs.declared.slowness.SlowLinks.{SlowLinks}
 use Rattle.engine.specs.Held.{HandOut}
@@ -20,6 +20,7 @@ use Rattle.engine.specs.declared.handing_out.TakeResult.{TakeResult}
 use Rattle.engine.specs.HandingOut.{shown_at}
 use Rattle.engine.specs.Slowness.{slow_slots, slow_verdict, slow_told, slow_links_of}
 use Rattle.refusal.specs.Answers.{told_by}
+use Rattle.refusal.specs.Verdicts.{Verdict, gate_by}
 use Rattle.refusal.proofs as refusal
 use Rattle.seq.proofs as seq
 use Rattle.msg.proofs as msg
@@ -46,18 +47,19 @@ pub refusal-lib : Unique refusal.Refusal.number.Reads.Learnt
 refusal-lib = sole
 
 -- crates/refusal/src/verdict.rt
+-- The three lines behind the first say it of what `gate`, `both` and `either` promised, which the code has `?`, `&&` and `||` for.
 pub refusal-verdict :
     Unique refusal.verdict.refuse_unless.Reads.Learnt
-    × Unique refusal.verdict.gate.Reads.Learnt
-    × Unique refusal.verdict.both.Reads.Learnt
-    × Unique refusal.verdict.either.Reads.Learnt
-refusal-verdict = (sole, sole, sole, sole)
+    × ((ok : Bool) (e : Refusal) (rest r r' : Verdict) → r ≡ gate_by ok e rest → r' ≡ gate_by ok e rest → r ≡ r')
+    × ((a b r r' : Bool) → r ≡ (a && b) → r' ≡ (a && b) → r ≡ r')
+    × ((a b r r' : Bool) → r ≡ (a || b) → r' ≡ (a || b) → r ≡ r')
+refusal-verdict = (sole, (λ ok e rest r r' p q. p ∙ sym q), (λ a b r r' p q. p ∙ sym q), (λ a b r r' p q. p ∙ sym q))
 
 -- crates/seq/src/lib.rt
 pub seq-lib :
     Unique seq.Seq.add.Reads.Learnt
     × Unique seq.Seq.sub.Reads.Learnt
-    × Unique seq.Seq.eq.Reads.Learnt
+    × Unique seq.SeqPartialEq.eq.Reads.Learnt
     × Unique seq.Seq.distance.Reads.Learnt
     × Unique seq.Seq.is_near.Reads.Learnt
     × Unique seq.Seq.is_before.Reads.Learnt

@@ -1,17 +1,13 @@
 // The round trip: how a ping, its pong and an acknowledged packet move it.
-ghost use Rattle.std.specs.Prelude.{◌≡◌, ◌+◌, ◌-◌, ◌*◌, ◌/◌};
-ghost use Rattle.link.specs.Roundtrip.{trip_after, with_ping, pinged, ponged, trip_moved};
+#![tactic(auto, unfolding(crate::specs::Roundtrip::trip_after, crate::specs::Roundtrip::pinged, crate::specs::Roundtrip::ponged_as, crate::specs::Roundtrip::trip_moved))]
+
+ghost use Rattle.std.specs.Prelude.{◌≡◌, ◌+◌, ◌*◌, ◌/◌};
+ghost use Rattle.link.specs.Roundtrip.{trip_after, pinged, ponged, trip_moved};
 
 use crate::row::LinkRow;
 
-// a less b, or 0.
-fn less(a: u64, b: u64) -> u64
-    ensures { result ≡ a - b }
-{
-    if b <= a { a - b } else { 0 }
-}
-
-// (r + 3e) / 4, rounded down, in steps that cannot pass 64 bits.
+// (r + 3e) / 4, rounded down, in steps that cannot pass 64 bits. Not one function with `smoother`: with the weights as parameters the
+// steps fit only under a bound on them, which is no plainer.
 fn nearer(r: u64, e: u64) -> u64
     ensures { result ≡ (r + 3 * e) / 4 }
 {
@@ -39,48 +35,28 @@ pub fn trip_after(zero_estimate: bool, r: u64, e: u64) -> u64
 }
 
 impl LinkRow {
-    fn with_ping(self, ping: Option<u64>) -> LinkRow
-        ensures { result ≡ with_ping self ping }
-    {
-        let max_ping = self.max_ping;
-        let limit_increased = self.limit_increased;
-        let tx_ack_queue = self.tx_ack_queue;
-        LinkRow {
-            live: self.live,
-            link_id: self.link_id,
-            roundtrip: self.roundtrip,
-            max_ping,
-            blocked: self.blocked,
-            unconfirmed: self.unconfirmed,
-            zero_estimate: self.zero_estimate,
-            limit_increased,
-            current_ping_sent: ping,
-            txed_unacked_data: self.txed_unacked_data,
-            tx_ack_queue,
-            ack_count: self.ack_count,
-        }
-    }
-
     // Notes that a ping was sent.
     pub fn ping(self, time: u64) -> LinkRow
         ensures { result ≡ pinged self time }
     {
-        self.with_ping(Some(time))
+        LinkRow {
+            current_ping_sent: Some(time),
+            ..self
+        }
     }
 
     // The outstanding ping is answered.
     pub fn pong(self, time: u64) -> LinkRow
         ensures { result ≡ ponged self time }
     {
-        let ping = self.current_ping_sent;
-        match ping {
+        match self.current_ping_sent {
             None => self,
-            Some(since) => {
-                let mut out = self.with_ping(None);
-                out.roundtrip = less(time, since);
-                out.zero_estimate = false;
-                out
-            }
+            Some(since) => LinkRow {
+                roundtrip: time.saturating_sub(since),
+                zero_estimate: false,
+                current_ping_sent: None,
+                ..self
+            },
         }
     }
 
@@ -88,9 +64,11 @@ impl LinkRow {
     pub fn trip(self, since: u64, time: u64) -> LinkRow
         ensures { result ≡ trip_moved self since time }
     {
-        let mut out = self;
-        out.roundtrip = trip_after(self.zero_estimate, self.roundtrip, less(time, since));
-        out.zero_estimate = false;
-        out
+        let elapsed = time.saturating_sub(since);
+        LinkRow {
+            roundtrip: trip_after(self.zero_estimate, self.roundtrip, elapsed),
+            zero_estimate: false,
+            ..self
+        }
     }
 }

@@ -1,4 +1,6 @@
 // The row itself, and the plain changes of it.
+#![tactic(auto, unfolding(crate::specs::Row::empty_row, crate::specs::Row::fresh_row, crate::specs::Row::confirmed, crate::specs::Row::unconfirmed_row, crate::specs::Row::blocked_row, crate::specs::Row::with_unacked))]
+
 ghost use Rattle.std.specs.Prelude.{◌≡◌};
 ghost use Rattle.link.specs.Row.{empty_row, fresh_row, confirmed, unconfirmed_row, blocked_row, with_unacked};
 
@@ -27,7 +29,7 @@ pub struct LinkRow {
     pub current_ping_sent: Option<u64>,
     // the data bytes Sent over this link and not acknowledged
     pub txed_unacked_data: u32,
-    // the waiting acks, oldest first: the first ack_count of these
+    // the waiting acks, oldest first: the first ack_count of these (an array with its length beside it, since memory is fixed here)
     pub tx_ack_queue: [Seq; ACKS],
     pub ack_count: usize,
 }
@@ -70,59 +72,43 @@ impl LinkRow {
             max_ping,
             blocked,
             unconfirmed,
-            zero_estimate: false,
-            limit_increased: None,
-            current_ping_sent: None,
-            txed_unacked_data: 0,
-            tx_ack_queue: [Seq::ZERO; ACKS],
-            ack_count: 0,
+            ..LinkRow::empty()
         }
     }
 
     pub fn confirm(self) -> LinkRow
         ensures { result ≡ confirmed self }
     {
-        let mut out = self;
-        out.unconfirmed = false;
-        out
+        LinkRow {
+            unconfirmed: false,
+            ..self
+        }
     }
 
     // The row's part of unconfirming: none of its packets stays Sent.
     pub fn unconfirm(self) -> LinkRow
         ensures { result ≡ unconfirmed_row self }
     {
-        let max_ping = self.max_ping;
-        let current_ping_sent = self.current_ping_sent;
-        let tx_ack_queue = self.tx_ack_queue;
         LinkRow {
-            live: self.live,
-            link_id: self.link_id,
-            roundtrip: self.roundtrip,
-            max_ping,
-            blocked: self.blocked,
             unconfirmed: true,
-            zero_estimate: self.zero_estimate,
             limit_increased: None,
-            current_ping_sent,
             txed_unacked_data: 0,
-            tx_ack_queue,
-            ack_count: self.ack_count,
+            ..self
         }
     }
 
     pub fn block(self, blocked: bool) -> LinkRow
         ensures { result ≡ blocked_row self blocked }
     {
-        let mut out = self;
-        out.blocked = blocked;
-        out
+        LinkRow { blocked, ..self }
     }
 
     pub fn with_unacked(self, bytes: u32) -> LinkRow
         ensures { result ≡ with_unacked self bytes }
     {
-        let mut out = self;
-        out.txed_unacked_data = bytes;
-        out
+        LinkRow {
+            txed_unacked_data: bytes,
+            ..self
+        }
     }
 }

@@ -1,9 +1,10 @@
 // What Sound asks of a row by itself: counts and times within their sizes.
+#![tactic(auto, unfolding(crate::specs::Sizes::row_within))]
+
 ghost use Rattle.std.specs.Prelude.{◌≡◌};
 ghost use Rattle.link.specs.Sizes.{max_ping_within, ping_within, row_within};
 
 use crate::row::LinkRow;
-use refusal::both;
 
 // Acks that may wait on a link.
 pub const ACKS: usize = 64;
@@ -17,19 +18,13 @@ pub const MAX_FACTOR: u64 = 1000;
 pub fn max_ping_within(max_ping: Option<u64>) -> bool
     ensures { result ≡ max_ping_within max_ping }
 {
-    match max_ping {
-        None => true,
-        Some(limit) => limit <= MAX_TIME,
-    }
+    max_ping.is_none_or(|limit| limit <= MAX_TIME)
 }
 
 fn ping_within(ping: Option<u64>, time: u64) -> bool
     ensures { result ≡ ping_within ping time }
 {
-    match ping {
-        None => true,
-        Some(since) => since <= time,
-    }
+    ping.is_none_or(|since| since <= time)
 }
 
 impl LinkRow {
@@ -37,11 +32,9 @@ impl LinkRow {
     pub fn is_within(self, time: u64) -> bool
         ensures { result ≡ row_within self time }
     {
-        let max_ping = self.max_ping;
-        let ping = self.current_ping_sent;
-        let limit = max_ping_within(max_ping);
-        let pinged = ping_within(ping, time);
-        let acks = self.ack_count <= ACKS;
-        both(self.roundtrip <= MAX_TIME, both(limit, both(pinged, acks)))
+        self.roundtrip <= MAX_TIME
+            && max_ping_within(self.max_ping)
+            && ping_within(self.current_ping_sent, time)
+            && self.ack_count <= ACKS
     }
 }

@@ -1,4 +1,6 @@
 // The per-row tests of "Slow links".
+#![tactic(auto, unfolding(crate::specs::Slow::confirmed_link, crate::specs::Slow::above_max_ping, crate::specs::Slow::slow_row))]
+
 ghost use Rattle.std.specs.Prelude.{◌≡◌};
 ghost use Rattle.link.specs.Slow.{confirmed_link, above_max_ping, slow_row};
 
@@ -8,29 +10,18 @@ impl LinkRow {
     pub fn is_confirmed(self) -> bool
         ensures { result ≡ confirmed_link self }
     {
-        if self.live { !self.unconfirmed } else { false }
+        self.live && !self.unconfirmed
     }
 
     pub fn is_above_max_ping(self) -> bool
         ensures { result ≡ above_max_ping self }
     {
-        let max = self.max_ping;
-        match max {
-            None => false,
-            Some(limit) => limit < self.roundtrip,
-        }
+        self.max_ping.is_some_and(|limit| limit < self.roundtrip)
     }
 
     pub fn is_slow(self) -> bool
         ensures { result ≡ slow_row self }
     {
-        if self.blocked {
-            return true;
-        }
-        let max = self.max_ping;
-        match max {
-            None => true,
-            Some(limit) => limit < self.roundtrip,
-        }
+        self.blocked || self.max_ping.is_none() || self.is_above_max_ping()
     }
 }

@@ -1,9 +1,10 @@
 // How long an acknowledgement may be in coming over a link (request [1] of document 02). Times are nanoseconds.
-ghost use Rattle.std.specs.Prelude.{◌≡◌, cond, ◌*◌, min};
+#![tactic(auto, unfolding(crate::specs::Timeout::factor_ok, crate::specs::Timeout::timeout_within, crate::specs::Timeout::duration_of))]
+
+ghost use Rattle.std.specs.Prelude.{◌≡◌, cond};
 ghost use Rattle.link.specs.Timeout.{factor_ok, timeout_within, duration_of};
 
 use crate::sizes::{MAX_FACTOR, MAX_TIME};
-use refusal::both;
 
 // A host's settings, by their names in the original without `ack_timeout`.
 #[derive(Clone, Copy, PartialEq, Eq)]
@@ -21,7 +22,7 @@ pub struct AckTimeout {
 fn factor_ok(factor: u64) -> bool
     ensures { result ≡ factor_ok factor }
 {
-    both(1 <= factor, factor <= MAX_FACTOR)
+    1 <= factor && factor <= MAX_FACTOR
 }
 
 // A factor, or 1 where it does not count.
@@ -31,37 +32,28 @@ fn factor_if(counts: bool, factor: u64) -> u64
     if counts { factor } else { 1 }
 }
 
-// The product, or the most that is asked for: it is made only where it fits.
-fn times(a: u64, factor: u64, most: u64) -> u64
-    ensures { result ≡ min (a * factor) most }
-{
-    if factor == 0 {
-        return 0;
-    }
-    if most / factor < a { most } else { a * factor }
-}
-
 impl AckTimeout {
     // Whether factors and bounds are within their sizes.
     pub fn is_within(self) -> bool
         ensures { result ≡ timeout_within self }
     {
-        let roundtrip = factor_ok(self.roundtrip_factor);
-        let resent = factor_ok(self.resent_factor);
-        let unreliable = factor_ok(self.unreliable_factor);
-        let bounds = both(self.min <= MAX_TIME, self.max <= MAX_TIME);
-        let ordered = both(self.min <= self.max, bounds);
-        both(roundtrip, both(resent, both(unreliable, ordered)))
+        factor_ok(self.roundtrip_factor)
+            && factor_ok(self.resent_factor)
+            && factor_ok(self.unreliable_factor)
+            && self.min <= self.max
+            && self.min <= MAX_TIME
+            && self.max <= MAX_TIME
     }
 
-    // How long after a packet was definitely sent its acknowledgement may be in coming.
+    // How long after a packet was definitely sent its acknowledgement may be in coming. A product too large for 64 bits is above any
+    // maximum.
     pub fn duration(self, roundtrip: u64, resent: bool, unreliable: bool) -> u64
         ensures { result ≡ duration_of self roundtrip resent unreliable }
     {
-        let most = self.max;
-        let a = times(roundtrip, self.roundtrip_factor, most);
-        let b = times(a, factor_if(resent, self.resent_factor), most);
-        let c = times(b, factor_if(unreliable, self.unreliable_factor), most);
-        if c < self.min { self.min } else { c }
+        let product = roundtrip
+            .saturating_mul(self.roundtrip_factor)
+            .saturating_mul(factor_if(resent, self.resent_factor))
+            .saturating_mul(factor_if(unreliable, self.unreliable_factor));
+        product.min(self.max).max(self.min)
     }
 }

@@ -1,12 +1,14 @@
 -- Adding a link: what the identity words say, a slot's acks all 0, and what the call is refused by. Assumes nothing.
-use Rattle.std.specs.Prelude.{◌≡◌, refl, Bool, true, false, ◌&&◌, leb, take, drop, Option, Ok, Err}
+use Rattle.std.specs.Prelude.{◌≡◌, refl, Bool, true, false, ◌&&◌, cond, leb, ltb, Some, None, take, drop, Option, Ok, Err}
 use Rattle.std.proofs.Common.{sym, ◌∙◌}
 use Rattle.std.proofs.Math.Path.{ap}
 use mathlib.Core.List.{List, ◌∷◌, map}
 use Prim.Native.Nat.{ℕ, zero, suc, ◌+◌, ◌-◌, ◌*◌, ◌≤◌, ◌<◌}
 use native.Mathlib.Omega.{arith}
 use Rattle.std.proofs.Math.ListN.{length, get_or, replicate, length-replicate}
-use borrow.Author.Tests.{lt-ltb, le-ltb}
+use Rattle.std.proofs.lemmas.Option.{cond_some}
+use borrow.Table.Steps.{cases}
+use borrow.Author.Tests.{lt-ltb, le-ltb, ltb-true, ltb-false}
 use Rattle.refusal.specs.declared.Refusal.TheVariants.{Time, NoSlot, Identity}
 use Rattle.seq.specs.declared.Seq.{Seq}
 use Rattle.seq.specs.Numbers.{seq_of}
@@ -30,6 +32,20 @@ use Rattle.words.specs.Read.{row_read}
 use Rattle.words.specs.Written.{acks-written}
 use Rattle.links_in_place.specs.Acks.{row_put, row-put-twice}
 use Rattle.links_in_place.specs.RowsBare.{over}
+
+-- the lowest slot without a link, where there is one
+unfoldable pub lowest_slot : State → Option ℕ
+lowest_slot s = cond (ltb (lowest_in s) SLOTS) (Some (lowest_in s)) None
+
+pub slot_found : (s : State) (slot : ℕ) → lowest_slot s ≡ Some slot → (lowest_in s < SLOTS) × (slot ≡ lowest_in s)
+unfolding lowest_slot
+slot_found s slot e = let p = cond_some (ltb (lowest_in s) SLOTS) (lowest_in s) slot e in (ltb-true (lowest_in s) SLOTS p.0, sym p.1)
+
+pub slot-none : (s : State) → lowest_slot s ≡ None → SLOTS ≤ lowest_in s
+unfolding lowest_slot
+slot-none s e = cases (ltb (lowest_in s) SLOTS)
+    (λ t. let h : ◌≡◌ {A = Option ℕ} (Some (lowest_in s)) None = simp t at e in let z : ◌≡◌ {A = ℕ} 0 1 = cc in absurd (omega arith))
+    (λ t. ltb-false (lowest_in s) SLOTS t)
 
 pub slot-live : (s : State) (slot : ℕ) → slot < SLOTS → slot_ok s slot ≡ (row_at s slot).live
 unfolding slot_ok

@@ -1,5 +1,6 @@
 -- Which links are slow is not said by their acks. Assumes nothing.
-use Rattle.std.specs.Prelude.{◌≡◌, refl, cond, ◌&&◌, List, [], ◌∷◌, map, ℕ, suc, length, get_or}
+use Rattle.std.proofs.Common.{arith}
+use Rattle.std.specs.Prelude.{◌≡◌, refl, cond, ◌&&◌, List, [], ◌∷◌, map, ℕ, suc, ◌<◌, length, get_or}
 use Rattle.std.proofs.Common.{sym, ap, ◌∙◌}
 use Rattle.link.specs.declared.row.LinkRow.{LinkRow}
 use Rattle.link.specs.Row.{no_row}
@@ -29,3 +30,9 @@ eight_of rows =
 
 pub slow-bare : (rows : List LinkRow) → length rows ≡ SLOTS → slow_of (map bare (eight_of rows)) ≡ slow_of rows
 slow-bare rows h = bare-slow (eight_of rows) ∙ ap slow_of (sym (eight rows h))
+
+-- eight rows that are each a row of others without its acks
+pub eight-bare : (ys rows : List LinkRow) → length ys ≡ SLOTS → ((i : ℕ) → i < SLOTS → get_or ys i no_row ≡ bare (get_or rows i no_row)) → ys ≡ map bare (eight_of rows)
+eight-bare ys rows long one =
+    eight ys long
+    ∙ (λ i. one 0 (omega arith) i ∷ one 1 (omega arith) i ∷ one 2 (omega arith) i ∷ one 3 (omega arith) i ∷ one 4 (omega arith) i ∷ one 5 (omega arith) i ∷ one 6 (omega arith) i ∷ one 7 (omega arith) i ∷ [])

@@ -14,6 +14,7 @@ use engine::{InFlight, Receiving, SentReliable, SentReliableStatus};
 use msg::ReliableMsg;
 use seq::Seq;
 use words::clock::put_read_open;
+use words::layout::WORDS;
 use words::packet::put_packet;
 use words::receiving::put_rx;
 use words::sending::{SendingNumbers, put_tx};
@@ -27,15 +28,12 @@ fn no_packet() -> SentReliable
 }
 
 // Empties every cell of the packet table.
-fn put_packets(words: &mut [u64])
-    requires { length words.old ≡ WORDS }
+fn put_packets(words: &mut [u64; WORDS])
     ensures { state_of words.new ≡ with_tx (state_of words.old) (with_packets (state_of words.old).tx (replicate PACKETS no_packet)) }
 {
     let none = no_packet();
-    let mut at: usize = 0;
-    while at < PACKETS {
+    for at in 0..PACKETS {
         put_packet(words, at, none);
-        at += 1;
     }
 }
 
@@ -70,8 +68,7 @@ fn fresh_rx(start: Seq, recv_buffer: u32, cells: u32) -> Receiving
 }
 
 // The words of a fresh state; words that are all 0 say its rows, its queue and its time.
-pub fn put_fresh(words: &mut [u64], start: Seq, recv_buffer: u32, cells: u32)
-    requires { length words.old ≡ WORDS }
+pub fn put_fresh(words: &mut [u64; WORDS], start: Seq, recv_buffer: u32, cells: u32)
     ensures { state_of words.new ≡ fresh_state start.0 recv_buffer cells }
 {
     empty_records(words);

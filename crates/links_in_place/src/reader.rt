@@ -8,10 +8,11 @@ ghost use Rattle.engine.specs.Answer.{outcome_told};
 
 use refusal::Refusal;
 use words::clock::{put_read_open, read_open};
+use words::layout::WORDS;
 use words::receiving::rx_of;
 
 // Closes the reader for good; one that has closed stays so.
-pub fn close_reader(words: &mut [u64]) -> Result<(), Refusal>
+pub fn close_reader(words: &mut [u64; WORDS]) -> Result<(), Refusal>
     requires { Ready words.old }
     ensures value { result ≡ (close_of (state_of words.old)).outcome }
     ensures words_after { state_of words.new ≡ (close_of (state_of words.old)).state }
@@ -29,7 +30,7 @@ fn due_above(reads: bool, recv_buffer: u32) -> u32
 }
 
 // Whether the other end is to be told what was taken.
-pub fn is_consume_ack_required(words: &[u64]) -> Result<bool, Refusal>
+pub fn is_consume_ack_required(words: &[u64; WORDS]) -> Result<bool, Refusal>
     requires { Ready words.now }
     ensures { result ≡ due_of (state_of words.now) }
 {

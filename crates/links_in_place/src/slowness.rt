@@ -6,22 +6,12 @@ ghost use Rattle.words.specs.Meaning.{state_of};
 
 use engine::SlowLinks;
 use engine::slowness::slow_rows;
+use words::layout::WORDS;
 use words::row::row_at;
 
 // None of a row's acks is asked for.
-pub fn slow(words: &[u64]) -> SlowLinks
-    requires { length words.now ≡ WORDS }
+pub fn slow(words: &[u64; WORDS]) -> SlowLinks
     ensures { result ≡ slow_of (state_of words.now).links }
 {
-    let rows = [
-        row_at(words, 0),
-        row_at(words, 1),
-        row_at(words, 2),
-        row_at(words, 3),
-        row_at(words, 4),
-        row_at(words, 5),
-        row_at(words, 6),
-        row_at(words, 7),
-    ];
-    slow_rows(rows)
+    slow_rows(std::array::from_fn(|slot| row_at(words, slot)))
 }

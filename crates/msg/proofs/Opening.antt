@@ -1,15 +1,17 @@
 -- `opensWith` of what is left of a head and of the bytes, as the loops of `opens_with` and `is_pattern` go through both. Assumes nothing.
-use mathlib.Core.Path.{◌≡◌, refl, sym, ap, ◌∙◌}
+use mathlib.Core.Path.{◌≡◌, refl, sym, ◌∙◌}
 use mathlib.Core.Bool.{true, false, ◌&&◌}
 use mathlib.Core.List.{List, [], ◌∷◌}
-use Prim.Native.Nat.{ℕ, suc, ◌+◌, ◌-◌, ◌≤◌, ◌<◌}
+use Prim.Native.Nat.{ℕ, suc, ◌+◌, ◌≤◌, ◌<◌}
 use native.Mathlib.Numerals.{add-one}
-use native.Mathlib.Omega.{arith}
 use lib.Dec.{eqb}
-use lib.ListN.{length, take, drop, get_or, drop_of_length-le}
-use lib.Seq.{take_all, drop-cons}
+use Rattle.std.specs.List.{starts_with}
+use lib.ListN.{length, drop, get_or, drop_of_length-le}
+use lib.Seq.{drop-cons}
 use borrow.Author.Tests.{eq-eqb, ne_eqb}
-use Rattle.msg.specs.Reading.{bad, opens_with, read_kind, read_of}
+use Rattle.std.proofs.Common.{eqb-true}
+use Rattle.refusal.specs.Tests.{same_test, and-eq}
+use Rattle.msg.specs.Reading.{opens_with}
 
 module _ (head bytes : List ℕ) (i : ℕ) where
   -- the head is at its end
@@ -34,13 +36,12 @@ module _ (head bytes : List ℕ) (i : ℕ) where
   pub opens-same : i < length head → i < length bytes → get_or bytes i 0 ≡ get_or head i 0 → opens_with (drop (i + 1) head) (drop (i + 1) bytes) ≡ opens_with (drop i head) (drop i bytes)
   opens-same h g e = simp (add-one, step h g, eq-eqb _ _ e)
 
--- the first byte and the rest
-pub read-empty : (bytes : List ℕ) → length bytes ≡ 0 → read_of bytes ≡ bad
-unfolding read_of
-read-empty [] e = refl
-read-empty (b ∷ bytes) e = absurd (omega arith)
+eqb-turned : (x y : ℕ) → eqb x y ≡ eqb y x
+eqb-turned x y = same_test (eqb x y) (eqb y x) (λ t. eq-eqb y x (sym (eqb-true x y t))) (λ t. eq-eqb x y (sym (eqb-true y x t)))
 
-pub read_some : (bytes : List ℕ) → (length bytes ≡ 0 → ⊥) → read_of bytes ≡ read_kind (get_or bytes 0 0) (take (length bytes - 1) (drop 1 bytes))
-unfolding read_of
-read_some [] n = absurd (n refl)
-read_some (b ∷ bytes) n = ap (read_kind b) (sym (take_all (suc (length bytes) - 1) bytes (omega arith)))
+-- std's test of a head
+pub starts_opens : (head bytes : List ℕ) → starts_with eqb bytes head ≡ opens_with head bytes
+unfolding opens_with
+starts_opens [] bytes = refl
+starts_opens (x ∷ head) [] = refl
+starts_opens (x ∷ head) (y ∷ bytes) = and-eq (eqb-turned x y) (starts_opens head bytes)

@@ -4,3 +4,4 @@ pub mod Writing
 pub mod Reliable
 pub mod RoundTrip
 pub mod Encoding
+pub mod Reasons

@@ -1,5 +1,5 @@
 -- Document 01, "Message bytes (002)": what writing answers, and what the lent buffer holds afterwards. Assumes nothing.
-use Rattle.std.specs.Prelude.{Bool, true, false, cond, not, ◌&&◌, ◌||◌, ◌≡◌, List, [], ◌∷◌, ◌++◌, ℕ, ◌≤◌, leb, length, take, drop, Ok, Err, Result}
+use Rattle.std.specs.Prelude.{Bool, true, false, cond, not, ◌&&◌, ◌||◌, ◌≡◌, List, [], ◌∷◌, ◌++◌, ℕ, leb, length, drop, Ok, Err, Result}
 use Rattle.refusal.specs.declared.Refusal.{Refusal}
 use Rattle.refusal.specs.Refusals.{refuse}
 use Rattle.refusal.specs.Answers.{Told, success, refused, told_by}
@@ -7,8 +7,7 @@ use Rattle.refusal.specs.Verdicts.{Verdict, gate}
 use borrow.Table.Steps.{cases}
 use Rattle.msg.specs.declared.link_msg.LinkMsg.{LinkMsg}
 use Rattle.msg.specs.declared.link_msg.LinkMsg.TheVariants.{Welcome, Connect, Accepted, Refused, Ping, Pong, Data, Ack, Consumed, SendFinish, ReceiveClose, ReceiveFinish, TestData, SetBlock, Goodbye, Terminate}
-use Rattle.msg.specs.declared.writing.Parts.{Parts}
-use Rattle.msg.specs.Messages.{kind_of, bytes_of}
+use Rattle.msg.specs.Messages.{bytes_of}
 
 -- "asking to write one" (a Welcome or Connect), "or what reading refuses, gives 20 whatever the buffer": what reading
 -- refuses is a TestData above 1,024 (`unwritable-is-unreadable` of RoundTrip)
@@ -61,47 +60,10 @@ write-told msg buffer =
     (λ t. cases (leb (length (bytes_of msg)) (length buffer)) (λ u. simp (t, u)) (λ u. simp (t, u)))
     (λ t. simp t)
 
--- What the private functions of src/writing.rt say to each other: a message is its head and then its test data
--- (`bytes-parted` of proofs/Parting).
-abbrev pub head_of : LinkMsg → List ℕ
-head_of Welcome = bytes_of Welcome
-head_of Connect = bytes_of Connect
-head_of Accepted = bytes_of Accepted
-head_of (Refused reason) = bytes_of (Refused reason)
-head_of Ping = bytes_of Ping
-head_of Pong = bytes_of Pong
-head_of (Data seq) = bytes_of (Data seq)
-head_of (Ack received) = bytes_of (Ack received)
-head_of (Consumed seq consumed) = bytes_of (Consumed seq consumed)
-head_of (SendFinish seq) = bytes_of (SendFinish seq)
-head_of (ReceiveClose seq) = bytes_of (ReceiveClose seq)
-head_of (ReceiveFinish seq) = bytes_of (ReceiveFinish seq)
-head_of (TestData size) = kind_of (TestData size) ∷ []
-head_of (SetBlock blocked) = bytes_of (SetBlock blocked)
-head_of Goodbye = bytes_of Goodbye
-head_of Terminate = bytes_of Terminate
+-- What the private functions of src/writing.rt say to each other: whether bytes have room at a buffer's start, and the buffer with
+-- them there.
+abbrev pub put_of : List ℕ → List ℕ → Result ℕ Refusal
+put_of bytes buffer = cond (leb (length bytes) (length buffer)) (Ok (length bytes)) (Err (refuse 7 tt))
 
-abbrev pub size_of : LinkMsg → ℕ
-size_of Welcome = 0
-size_of Connect = 0
-size_of Accepted = 0
-size_of (Refused reason) = 0
-size_of Ping = 0
-size_of Pong = 0
-size_of (Data seq) = 0
-size_of (Ack received) = 0
-size_of (Consumed seq consumed) = 0
-size_of (SendFinish seq) = 0
-size_of (ReceiveClose seq) = 0
-size_of (ReceiveFinish seq) = 0
-size_of (TestData size) = size
-size_of (SetBlock blocked) = 0
-size_of Goodbye = 0
-size_of Terminate = 0
-
-pub record Parted (ok : Bool) (head : List ℕ) (size : ℕ) (parts : Parts) : Type 0 where
-  pub may : parts.ok ≡ ok
-  pub bytes-head : take parts.len parts.bytes ≡ head
-  pub len-head : parts.len ≡ length head
-  pub short : parts.len ≤ 9
-  pub test : parts.size ≡ size
+abbrev pub put_in : List ℕ → List ℕ → List ℕ
+put_in bytes buffer = cond (leb (length bytes) (length buffer)) (bytes ++ drop (length bytes) buffer) buffer

@@ -1,13 +1,32 @@
 // The messages between two ends, their kind bytes and their lengths.
+ghost use Rattle.msg.specs.Reasons.{Decodes};
+
+use refusal::Refusal;
 use seq::Seq;
 
-// Why a link was refused.
+// Why a link was refused, under the byte that says so.
 #[derive(Clone, Copy, PartialEq, Eq)]
 pub enum RefusedReason {
-    Closed,
-    NotListening,
-    ConnectionRefused,
-    LinkRefused,
+    Closed = 1,
+    NotListening = 2,
+    ConnectionRefused = 3,
+    LinkRefused = 4,
+}
+
+impl TryFrom<u8> for RefusedReason {
+    type Error = Refusal;
+
+    ghost try_from_gives = { Decodes };
+
+    fn try_from(byte: u8) -> Result<Self, Refusal> {
+        match byte {
+            1 => Ok(RefusedReason::Closed),
+            2 => Ok(RefusedReason::NotListening),
+            3 => Ok(RefusedReason::ConnectionRefused),
+            4 => Ok(RefusedReason::LinkRefused),
+            _ => Err(Refusal::Bytes),
+        }
+    }
 }
 
 // A message over a link. Of the handshake pair, Welcome and Connect, only the head is ours: the rest is the host's.

@@ -46,11 +46,8 @@ impl ReliableMsg {
         ensures { result ≡ count_of self }
     {
         match self {
-            ReliableMsg::Data => 0,
             ReliableMsg::Consumed(n) => n,
-            ReliableMsg::SendFinish => 0,
-            ReliableMsg::ReceiveClose => 0,
-            ReliableMsg::ReceiveFinish => 0,
+            _ => 0,
         }
     }
 
@@ -59,22 +56,12 @@ impl ReliableMsg {
         ensures { result ≡ from_link msg }
     {
         match msg {
-            LinkMsg::Welcome => None,
-            LinkMsg::Connect => None,
-            LinkMsg::Accepted => None,
-            LinkMsg::Refused { reason: _ } => None,
-            LinkMsg::Ping => None,
-            LinkMsg::Pong => None,
             LinkMsg::Data { seq } => Some((ReliableMsg::Data, seq)),
-            LinkMsg::Ack { received: _ } => None,
             LinkMsg::Consumed { seq, consumed } => Some((ReliableMsg::Consumed(consumed), seq)),
             LinkMsg::SendFinish { seq } => Some((ReliableMsg::SendFinish, seq)),
             LinkMsg::ReceiveClose { seq } => Some((ReliableMsg::ReceiveClose, seq)),
             LinkMsg::ReceiveFinish { seq } => Some((ReliableMsg::ReceiveFinish, seq)),
-            LinkMsg::TestData { size: _ } => None,
-            LinkMsg::SetBlock { blocked: _ } => None,
-            LinkMsg::Goodbye => None,
-            LinkMsg::Terminate => None,
+            _ => None,
         }
     }
 }

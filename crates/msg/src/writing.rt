@@ -1,152 +1,69 @@
 // Writing a message to bytes.
-ghost use Rattle.std.specs.Prelude.{◌≡◌, true, false, ◌∷◌, [], ◌++◌, length, ◌%◌};
-ghost use Rattle.msg.specs.Messages.{be32, pattern, reason_byte, block_byte, bytes_of};
-ghost use Rattle.msg.specs.Writing.{Parted, writable, head_of, size_of, written_told, write_verdict, write_of, buffer_of};
+#![tactic(auto, unfolding(crate::specs::Messages::be32, crate::specs::Messages::pattern, crate::specs::Writing::write_verdict, crate::specs::Writing::write_of, crate::specs::Writing::buffer_of))]
+
+ghost use Rattle.std.specs.Prelude.{◌≡◌, ◌∷◌, [], ◌++◌, length};
+ghost use Rattle.msg.specs.Messages.{be32, pattern, bytes_of};
+ghost use Rattle.msg.specs.Writing.{put_of, put_in, written_told, write_verdict, write_of, buffer_of};
 ghost use Rattle.refusal.specs.Answers.{told_by};
 
-use crate::link_msg::{LinkMsg, RefusedReason};
+use crate::link_msg::LinkMsg;
 use refusal::Refusal;
 use seq::Seq;
 
-// A message taken apart for writing: whether it may be written, its head, which is the first len of these bytes, and how
-// many bytes of test data follow.
-#[derive(Clone, Copy)]
-struct Parts {
-    ok: bool,
-    bytes: [u8; 9],
-    len: usize,
-    size: usize,
-}
-
-fn alone(ok: bool, kind: u8, size: usize) -> Parts
-    ensures { Parted ok (kind ∷ []) size result }
+// Puts bytes to the start of the buffer, and answers how many they are.
+fn put(bytes: &[u8], buffer: &mut [u8]) -> Result<usize, Refusal>
+    ensures value { result ≡ put_of bytes.now buffer.old }
+    ensures buffer_after { buffer.new ≡ put_in bytes.now buffer.old }
 {
-    Parts {
-        ok,
-        bytes: [kind, 0, 0, 0, 0, 0, 0, 0, 0],
-        len: 1,
-        size,
+    let count = bytes.len();
+    if buffer.len() < count {
+        return Err(Refusal::Length);
     }
+    buffer[..count].copy_from_slice(bytes);
+    Ok(count)
 }
 
-fn with_byte(kind: u8, b: u8) -> Parts
-    ensures { Parted true (kind ∷ b ∷ []) 0 result }
+fn numbered(kind: u8, seq: Seq, buffer: &mut [u8]) -> Result<usize, Refusal>
+    ensures value { result ≡ put_of (kind ∷ be32 seq.0) buffer.old }
+    ensures buffer_after { buffer.new ≡ put_in (kind ∷ be32 seq.0) buffer.old }
 {
-    Parts {
-        ok: true,
-        bytes: [kind, b, 0, 0, 0, 0, 0, 0, 0],
-        len: 1 + LinkMsg::LEN_BYTE,
-        size: 0,
-    }
+    let [a, b, c, d] = seq.0.to_be_bytes();
+    put(&[kind, a, b, c, d], buffer)
 }
 
-fn byte(n: u32) -> u8
-    ensures { result ≡ n % 256 }
+fn counted(seq: Seq, count: u32, buffer: &mut [u8]) -> Result<usize, Refusal>
+    ensures value { result ≡ put_of (9 ∷ (be32 seq.0 ++ be32 count)) buffer.old }
+    ensures buffer_after { buffer.new ≡ put_in (9 ∷ (be32 seq.0 ++ be32 count)) buffer.old }
 {
-    (n % 256) as u8
-}
-
-fn numbered(kind: u8, seq: Seq) -> Parts
-    ensures { Parted true (kind ∷ be32 seq.0) 0 result }
-{
-    let n = seq.0;
-    let bytes = [
-        kind,
-        byte(n / 0x100_0000),
-        byte(n / 0x1_0000),
-        byte(n / 0x100),
-        byte(n),
-        0,
-        0,
-        0,
-        0,
-    ];
-    Parts {
-        ok: true,
-        bytes,
-        len: 1 + LinkMsg::LEN_NUMBER,
-        size: 0,
-    }
-}
-
-fn counted(kind: u8, seq: Seq, count: u32) -> Parts
-    ensures { Parted true (kind ∷ (be32 seq.0 ++ be32 count)) 0 result }
-{
-    let n = seq.0;
-    let bytes = [
-        kind,
-        byte(n / 0x100_0000),
-        byte(n / 0x1_0000),
-        byte(n / 0x100),
-        byte(n),
-        byte(count / 0x100_0000),
-        byte(count / 0x1_0000),
-        byte(count / 0x100),
-        byte(count),
-    ];
-    Parts {
-        ok: true,
-        bytes,
-        len: 1 + LinkMsg::LEN_CONSUMED,
-        size: 0,
-    }
-}
-
-fn reason_byte(reason: RefusedReason) -> u8
-    ensures { result ≡ reason_byte reason }
-{
-    match reason {
-        RefusedReason::Closed => 1,
-        RefusedReason::NotListening => 2,
-        RefusedReason::ConnectionRefused => 3,
-        RefusedReason::LinkRefused => 4,
-    }
-}
-
-fn block_byte(blocked: bool) -> u8
-    ensures { result ≡ block_byte blocked }
-{
-    if blocked { 1 } else { 0 }
-}
-
-fn parts_of(msg: LinkMsg) -> Parts
-    ensures { Parted (writable msg) (head_of msg) (size_of msg) result }
-{
-    match msg {
-        LinkMsg::Welcome => alone(false, LinkMsg::MSG_WELCOME, 0),
-        LinkMsg::Connect => alone(false, LinkMsg::MSG_CONNECT, 0),
-        LinkMsg::Accepted => alone(true, LinkMsg::MSG_ACCEPTED, 0),
-        LinkMsg::Refused { reason } => with_byte(LinkMsg::MSG_REFUSED, reason_byte(reason)),
-        LinkMsg::Ping => alone(true, LinkMsg::MSG_PING, 0),
-        LinkMsg::Pong => alone(true, LinkMsg::MSG_PONG, 0),
-        LinkMsg::Data { seq } => numbered(LinkMsg::MSG_DATA, seq),
-        LinkMsg::Ack { received } => numbered(LinkMsg::MSG_ACK, received),
-        LinkMsg::Consumed { seq, consumed } => counted(LinkMsg::MSG_CONSUMED, seq, consumed),
-        LinkMsg::SendFinish { seq } => numbered(LinkMsg::MSG_SEND_FINISH, seq),
-        LinkMsg::ReceiveClose { seq } => numbered(LinkMsg::MSG_RECEIVE_CLOSE, seq),
-        LinkMsg::ReceiveFinish { seq } => numbered(LinkMsg::MSG_RECEIVE_FINISH, seq),
-        LinkMsg::TestData { size } => alone(
-            size <= LinkMsg::MAX_TEST_DATA,
-            LinkMsg::MSG_TEST_DATA,
-            size,
-        ),
-        LinkMsg::SetBlock { blocked } => with_byte(LinkMsg::MSG_SET_BLOCK, block_byte(blocked)),
-        LinkMsg::Goodbye => alone(true, LinkMsg::MSG_GOODBYE, 0),
-        LinkMsg::Terminate => alone(true, LinkMsg::MSG_TERMINATE, 0),
-    }
+    let [a, b, c, d] = seq.0.to_be_bytes();
+    let [e, f, g, h] = count.to_be_bytes();
+    put(&[LinkMsg::MSG_CONSUMED, a, b, c, d, e, f, g, h], buffer)
 }
 
 // Fills a part with test data: a counter that goes back to zero after 255 needs no remainder for each byte.
 fn fill(part: &mut [u8])
     ensures { part.new ≡ pattern (length part.old) }
 {
-    let mut i = 0;
     let mut next: u8 = 0;
-    while i < part.len() {
-        part[i] = next;
-        next = if next == 255 { 0 } else { next + 1 };
-        i += 1;
+    for byte in part.iter_mut() {
+        *byte = next;
+        next = next.wrapping_add(1);
     }
+}
+
+fn test_data(size: usize, buffer: &mut [u8]) -> Result<usize, Refusal>
+    ensures value { result ≡ write_of (LinkMsg.TestData size) buffer.old }
+    ensures buffer_after { buffer.new ≡ buffer_of (LinkMsg.TestData size) buffer.old }
+{
+    if size > LinkMsg::MAX_TEST_DATA {
+        return Err(Refusal::Bytes);
+    }
+    if buffer.len() <= size {
+        return Err(Refusal::Length);
+    }
+    buffer[0] = LinkMsg::MSG_TEST_DATA;
+    fill(&mut buffer[1..=size]);
+    Ok(1 + size)
 }
 
 // Writes a message to the start of the buffer, and answers how many bytes it has.
@@ -155,17 +72,21 @@ pub fn write(msg: LinkMsg, buffer: &mut [u8]) -> Result<usize, Refusal>
     ensures result_value { written_told result ≡ told_by (write_verdict msg (length buffer.old)) (length (bytes_of msg) ∷ []) }
     ensures buffer_after { buffer.new ≡ buffer_of msg buffer.old }
 {
-    let parts = parts_of(msg);
-    let head = parts.bytes;
-    let at = parts.len;
-    if !parts.ok {
-        return Err(Refusal::Bytes);
+    match msg {
+        LinkMsg::Welcome | LinkMsg::Connect => Err(Refusal::Bytes),
+        LinkMsg::Accepted => put(&[LinkMsg::MSG_ACCEPTED], buffer),
+        LinkMsg::Refused { reason } => put(&[LinkMsg::MSG_REFUSED, reason as u8], buffer),
+        LinkMsg::Ping => put(&[LinkMsg::MSG_PING], buffer),
+        LinkMsg::Pong => put(&[LinkMsg::MSG_PONG], buffer),
+        LinkMsg::Data { seq } => numbered(LinkMsg::MSG_DATA, seq, buffer),
+        LinkMsg::Ack { received } => numbered(LinkMsg::MSG_ACK, received, buffer),
+        LinkMsg::Consumed { seq, consumed } => counted(seq, consumed, buffer),
+        LinkMsg::SendFinish { seq } => numbered(LinkMsg::MSG_SEND_FINISH, seq, buffer),
+        LinkMsg::ReceiveClose { seq } => numbered(LinkMsg::MSG_RECEIVE_CLOSE, seq, buffer),
+        LinkMsg::ReceiveFinish { seq } => numbered(LinkMsg::MSG_RECEIVE_FINISH, seq, buffer),
+        LinkMsg::TestData { size } => test_data(size, buffer),
+        LinkMsg::SetBlock { blocked } => put(&[LinkMsg::MSG_SET_BLOCK, u8::from(blocked)], buffer),
+        LinkMsg::Goodbye => put(&[LinkMsg::MSG_GOODBYE], buffer),
+        LinkMsg::Terminate => put(&[LinkMsg::MSG_TERMINATE], buffer),
     }
-    let end = at + parts.size;
-    if buffer.len() < end {
-        return Err(Refusal::Length);
-    }
-    buffer[..at].copy_from_slice(&head[..at]);
-    fill(&mut buffer[at..end]);
-    Ok(end)
 }

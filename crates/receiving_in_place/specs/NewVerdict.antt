@@ -1,9 +1,11 @@
 -- What receive asks of a new number and of one that was received already: "11, 12, 14 and 15 are for new numbers" of `messageVerdict`, in two cases. Assumes nothing.
-use Rattle.std.specs.Prelude.{◌≡◌, true, false, List, ℕ, leb, ltb, Ok}
+use Rattle.std.specs.Prelude.{◌≡◌, refl, Bool, true, false, List, ℕ, leb, ltb, Ok, Err}
+use Rattle.std.proofs.Common.{arith}
+use Rattle.refusal.specs.declared.Refusal.{Refusal}
 use Rattle.seq.specs.Distance.{near, past}
 use Rattle.seq.specs.Numbers.{USABLE_INTERVAL}
 use Rattle.msg.specs.declared.reliable.ReliableMsg.{ReliableMsg}
-use Rattle.refusal.specs.Verdicts.{Verdict, gate}
+use Rattle.refusal.specs.Verdicts.{Verdict, gate, gate_by}
 use Rattle.link.specs.Sizes.{ACKS}
 use Rattle.engine.specs.declared.state.State.{State}
 use Rattle.engine.specs.Cells.{is_repeat, near_oldest}
@@ -30,3 +32,8 @@ module _ (s : State) (records : List ℕ) (slot : ℕ) (msg : ReliableMsg) (n le
   pub new-verdict : is_repeat s.rx.cells (table_of s.rx records) n ≡ false → message_verdict s records slot msg n len ≡ new_verdict s slot msg n len
   unfolding message_verdict new_verdict
   new-verdict again = simp (e4, e7, e22, again)
+
+-- a gate that is shut refuses by its own refusal
+pub gate-stop : (ok : Bool) (e x : Refusal) → gate_by ok e (Ok tt) ≡ Err x → (ok ≡ false) × (x ≡ e)
+gate-stop true e x h = let z : ◌≡◌ {A = ℕ} 0 1 = cc in absurd (omega arith)
+gate-stop false e x h = let same : ◌≡◌ {A = Verdict} (Err e) (Err x) = h in (refl, cc)

@@ -14,19 +14,18 @@ use engine::receiving::lengths_ok;
 use engine::ring::cell_at;
 use engine::totals::{MAX_TOTAL, sum_fits};
 use engine::{DATA_BYTES, HandOut, Held, Receiving};
-use refusal::Refusal;
+use refusal::{Refusal, refuse_unless};
 use seq::Seq;
+use words::layout::WORDS;
 use words::receiving::{put_rx_oldest, put_rxed_reliable_consumed, put_rxed_reliable_size, rx_of};
 
 // What is shown: the message, its number and the length of its data, or why there is nothing to show.
-pub fn showing(words: &[u64], store: usize, records: &[u64]) -> HandOut
+pub fn showing(words: &[u64; WORDS], store: usize, records: &[u64]) -> HandOut
     requires { ReadyWith words.now records.now }
     ensures { result ≡ showing_of (state_of words.now) store records.now }
 {
     let rx = rx_of(words);
-    if !lengths_ok(rx, store, records.len()) {
-        return Err(Refusal::StoreLength);
-    }
+    refuse_unless(lengths_ok(rx, store, records.len()), Refusal::StoreLength)?;
     let held = oldest_ready(rx, records);
     let seq = rx.rx_oldest;
     match held {
@@ -36,7 +35,7 @@ pub fn showing(words: &[u64], store: usize, records: &[u64]) -> HandOut
 }
 
 // Where a number's bytes start in the received store.
-pub fn shown_start(words: &[u64], seq: Seq) -> usize
+pub fn shown_start(words: &[u64; WORDS], seq: Seq) -> usize
     requires { Ready words.now }
     ensures { result ≡ cell_start (state_of words.now).rx.cells seq.0 }
 {
@@ -45,8 +44,7 @@ pub fn shown_start(words: &[u64], seq: Seq) -> usize
 }
 
 // What a taken message moves of the receiving half.
-fn put_taken(words: &mut [u64], rx: Receiving)
-    requires { length words.old ≡ WORDS }
+fn put_taken(words: &mut [u64; WORDS], rx: Receiving)
     ensures { state_of words.new ≡ with_rx (state_of words.old) (taken_moves (state_of words.old).rx rx) }
 {
     let oldest = rx.rx_oldest;
@@ -56,7 +54,7 @@ fn put_taken(words: &mut [u64], rx: Receiving)
 }
 
 // Takes the oldest ready message, and empties its record.
-pub fn take(words: &mut [u64], records: &mut [u64]) -> HandOut
+pub fn take(words: &mut [u64; WORDS], records: &mut [u64]) -> HandOut
     requires { ReadyWith words.old records.old }
     ensures value { result ≡ (take_of (state_of words.old) records.old).answer }
     ensures words_after { state_of words.new ≡ (take_of (state_of words.old) records.old).state }
@@ -64,14 +62,11 @@ pub fn take(words: &mut [u64], records: &mut [u64]) -> HandOut
     ensures left { Left (hand_out_told result).number words.old words.new }
 {
     let rx = rx_of(words);
-    if records.len() != rx.cells as usize {
-        return Err(Refusal::StoreLength);
-    }
+    refuse_unless(records.len() == rx.cells as usize, Refusal::StoreLength)?;
     let held = oldest_ready(rx, records);
     let bytes = ready_bytes(held);
-    if !sum_fits(rx.rxed_reliable_consumed, bytes as usize, MAX_TOTAL) {
-        return Err(Refusal::Total);
-    }
+    let fits = sum_fits(rx.rxed_reliable_consumed, bytes as usize, MAX_TOTAL);
+    refuse_unless(fits, Refusal::Total)?;
     let seq = rx.rx_oldest;
     match held {
         None => Err(Refusal::Nothing),

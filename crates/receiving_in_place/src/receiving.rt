@@ -23,47 +23,38 @@ use engine::totals::sum_fits;
 use engine::{DATA_BYTES, Receiving};
 use link::sizes::ACKS;
 use msg::ReliableMsg;
-use refusal::{Refusal, gate};
+use refusal::{Refusal, refuse_unless};
 use seq::Seq;
 use words::copying::copy;
 use words::gates::slot_ok;
+use words::layout::WORDS;
 use words::receiving::rx_of;
 use words::sending::tx_of;
 
 // What is asked of a message with a new number, after what is asked of any.
 fn new_verdict(
-    words: &[u64],
+    words: &[u64; WORDS],
     rx: Receiving,
     slot: u8,
     msg: ReliableMsg,
     seq: Seq,
     len: usize,
 ) -> Result<(), Refusal>
-    requires { (length words.now ≡ WORDS) × (rx ≡ (state_of words.now).rx) }
+    requires { rx ≡ (state_of words.now).rx }
     ensures { result ≡ new_verdict (state_of words.now) slot msg seq.0 len }
 {
-    if MAX_OFFSET < seq.past(rx.rx_seq) {
-        return Err(Refusal::Offset);
-    }
-    if !near_oldest(rx, seq) {
-        return Err(Refusal::Window);
-    }
-    if ACKS <= acks_at(words, slot) {
-        return Err(Refusal::Acks);
-    }
-    if !sum_fits(rx.rxed_reliable_size, len, rx.recv_buffer) {
-        return Err(Refusal::Buffer);
-    }
-    gate(
-        msg.count() <= tx_of(words).txed_unconsumed,
-        Refusal::Consumed,
-        Ok(()),
-    )
+    refuse_unless(seq.past(rx.rx_seq) <= MAX_OFFSET, Refusal::Offset)?;
+    refuse_unless(near_oldest(rx, seq), Refusal::Window)?;
+    refuse_unless(acks_at(words, slot) < ACKS, Refusal::Acks)?;
+    let fits = sum_fits(rx.rxed_reliable_size, len, rx.recv_buffer);
+    refuse_unless(fits, Refusal::Buffer)?;
+    let known = msg.count() <= tx_of(words).txed_unconsumed;
+    refuse_unless(known, Refusal::Consumed)
 }
 
 // What is asked of a message in a sound state, with its records.
 fn message_verdict(
-    words: &[u64],
+    words: &[u64; WORDS],
     rx: Receiving,
     records: &[u64],
     slot: u8,
@@ -71,20 +62,14 @@ fn message_verdict(
     seq: Seq,
     len: usize,
 ) -> Result<(), Refusal>
-    requires { (length words.now ≡ WORDS) × (rx ≡ (state_of words.now).rx) × Lent rx (length records.now) }
+    requires { (rx ≡ (state_of words.now).rx) × Lent rx (length records.now) }
     ensures { result ≡ message_verdict (state_of words.now) records.now slot msg seq.0 len }
 {
-    if !slot_ok(words, slot) {
-        return Err(Refusal::Slot);
-    }
-    if !length_ok(msg, len) {
-        return Err(Refusal::Length);
-    }
-    if !seq.is_near(rx.rx_seq) {
-        return Err(Refusal::Far);
-    }
+    refuse_unless(slot_ok(words, slot), Refusal::Slot)?;
+    refuse_unless(length_ok(msg, len), Refusal::Length)?;
+    refuse_unless(seq.is_near(rx.rx_seq), Refusal::Far)?;
     if is_repeat(rx, records, seq) {
-        return gate(acks_at(words, slot) < ACKS, Refusal::Acks, Ok(()));
+        return refuse_unless(acks_at(words, slot) < ACKS, Refusal::Acks);
     }
     new_verdict(words, rx, slot, msg, seq, len)
 }
@@ -101,7 +86,7 @@ fn keep_bytes(store: &mut [u8], cells: u32, seq: Seq, payload: &[u8])
 
 // A new message that is accepted: its bytes, its record, and what it leaves of the state.
 fn receive_new(
-    words: &mut [u64],
+    words: &mut [u64; WORDS],
     store: &mut [u8],
     records: &mut [u64],
     rx: Receiving,
@@ -110,7 +95,7 @@ fn receive_new(
     seq: Seq,
     payload: &[u8],
 )
-    requires words_len { (length words.old ≡ WORDS) × (rx ≡ (state_of words.old).rx) }
+    requires words_len { rx ≡ (state_of words.old).rx }
     requires payload_value { receive_verdict (state_of words.old) (length store.old) records.old slot msg seq.0 (length payload.now) ≡ Ok tt }
     requires seq_value { is_repeat (state_of words.old).rx.cells (table_of (state_of words.old).rx records.old) seq.0 ≡ false }
     ensures words_after { state_of words.new ≡ received_state (state_of words.old) records.old slot msg seq.0 (length payload.now) }
@@ -124,7 +109,7 @@ fn receive_new(
 
 // Receives a message over a link: a new one's record and bytes go to the number's cell of the record space and of the received store.
 pub fn receive(
-    words: &mut [u64],
+    words: &mut [u64; WORDS],
     store: &mut [u8],
     records: &mut [u64],
     slot: u8,
@@ -140,19 +125,13 @@ pub fn receive(
     ensures left { Left (outcome_told result).number words.old words.new }
 {
     let rx = rx_of(words);
-    if !lengths_ok(rx, store.len(), records.len()) {
-        return Err(Refusal::StoreLength);
+    let lent = lengths_ok(rx, store.len(), records.len());
+    refuse_unless(lent, Refusal::StoreLength)?;
+    message_verdict(words, rx, records, slot, msg, seq, payload.len())?;
+    if is_repeat(rx, records, seq) {
+        queue_ack(words, slot, seq);
+    } else {
+        receive_new(words, store, records, rx, slot, msg, seq, payload);
     }
-    let verdict = message_verdict(words, rx, records, slot, msg, seq, payload.len());
-    match verdict {
-        Err(e) => Err(e),
-        Ok(()) => {
-            if is_repeat(rx, records, seq) {
-                queue_ack(words, slot, seq);
-                return Ok(());
-            }
-            receive_new(words, store, records, rx, slot, msg, seq, payload);
-            Ok(())
-        }
-    }
+    Ok(())
 }

@@ -2,7 +2,7 @@
 // writes one line a frame: the answer in two digits, a space, and the next expected number in eight.
 #![tactic(auto)]
 
-ghost use Rattle.std.specs.Prelude.{◌≡◌, true};
+ghost use Rattle.std.specs.Prelude.{◌≡◌, IfOk};
 ghost use Rattle.replaying.specs.Feeding.{carrying, fed_by};
 ghost use Rattle.replaying.specs.Pieces.{lent};
 
@@ -40,26 +40,26 @@ fn complain_of(what: &[u8], error: Error) {
     complain(b"\n");
 }
 
+// Why a replay ended early, which was said.
+#[derive(Clone, Copy)]
+enum Stopped {
+    Unread,
+    Unwritten,
+}
+
 // Writes a text, or says why it could not be written.
-fn show(output: &mut impl Write, text: &[u8]) -> bool {
+fn show(output: &mut impl Write, text: &[u8]) -> Result<(), Stopped> {
     match output.write_all(text) {
-        Ok(()) => true,
+        Ok(()) => Ok(()),
         Err(error) => {
             complain_of(b"replay: standard output cannot be written", error);
-            false
+            Err(Stopped::Unwritten)
         }
     }
 }
 
-// A session to go on with, and whether all of its text could be written.
-#[derive(Clone, Copy)]
-struct Going {
-    session: Session,
-    is_written: bool,
-}
-
-// Answers the lines that end in a piece of the input, up to the first text that cannot be written. What a buffer has no room for is
-// fed again.
+// Answers the lines that end in a piece of the input, up to the first text that cannot be written, and says with which session to go
+// on. What a buffer has no room for is fed again.
 fn answer_piece(
     output: &mut impl Write,
     session: Session,
@@ -67,37 +67,21 @@ fn answer_piece(
     records: &mut [u64],
     line: &mut [u8; MAX_LINE],
     piece: &[u8],
-) -> Going
-    ensures { result.is_written ≡ true → carrying result.session store.new records.new line.new ≡ lent (fed_by (carrying session store.old records.old line.old) piece.now) }
+) -> Result<Session, Stopped>
+    ensures { IfOk result (λ next. carrying next store.new records.new line.new ≡ lent (fed_by (carrying session store.old records.old line.old) piece.now)) }
 {
     let mut space = io::buffer();
     let out: &mut [u8] = &mut space;
     let mut going = session;
     let mut at: usize = 0;
+    // by what `feed` used, which no `for` says plainer
     while at < piece.len() {
         let fed = feed(going, store, records, line, &piece[at..], out);
         going = fed.session;
         at += fed.used;
-        if !show(output, &out[..fed.wrote]) {
-            return Going {
-                session: going,
-                is_written: false,
-            };
-        }
+        show(output, &out[..fed.wrote])?;
     }
-    Going {
-        session: going,
-        is_written: true,
-    }
-}
-
-// How the replay ended.
-#[derive(Clone, Copy)]
-enum Ended {
-    Closed,
-    // and why was said
-    Unread,
-    Unwritten,
+    Ok(going)
 }
 
 // The end of the input: its last line is answered.
@@ -107,13 +91,10 @@ fn finish(
     store: &mut [u8],
     records: &mut [u64],
     line: &[u8; MAX_LINE],
-) -> Ended {
+) -> Result<(), Stopped> {
     let mut text = [0u8; LINE_TEXT];
     let closed = close(session, store, records, line, &mut text);
-    if show(output, &text[..closed.wrote]) {
-        return Ended::Closed;
-    }
-    Ended::Unwritten
+    show(output, &text[..closed.wrote])
 }
 
 // Replays an input. A read that a signal interrupted has brought an empty piece. A proved loop has to end, so this one has a number of turns
@@ -124,7 +105,7 @@ fn replay_input(
     store: &mut [u8],
     records: &mut [u64],
     line: &mut [u8; MAX_LINE],
-) -> Ended {
+) -> Result<(), Stopped> {
     let mut session = begin(records);
     let mut buffer = io::large_buffer();
     for _ in 0..u64::MAX {
@@ -134,25 +115,21 @@ fn replay_input(
             Err(error) => {
                 if error.kind() != ErrorKind::Interrupted {
                     complain_of(b"replay: standard input cannot be read", error);
-                    return Ended::Unread;
+                    return Err(Stopped::Unread);
                 }
                 0
             }
         };
-        let going = answer_piece(output, session, store, records, line, &buffer[..n]);
-        if !going.is_written {
-            return Ended::Unwritten;
-        }
-        session = going.session;
+        session = answer_piece(output, session, store, records, line, &buffer[..n])?;
     }
-    Ended::Unread
+    Err(Stopped::Unread)
 }
 
 fn main(rt: HostRuntime) {
     let mut store = [0u8; RECEIVED_BYTES];
     let mut records = [0u64; CELLS];
     let mut line = [0u8; MAX_LINE];
-    replay_input(
+    let _ = replay_input(
         &mut rt.stdin(),
         &mut rt.stdout(),
         &mut store,

@@ -1,7 +1,6 @@
 // Input in pieces: the unfinished line is carried along in a lent buffer, with a count of its bytes, and the text of the lines that end is
 // written to another.
-ghost use Rattle.std.specs.Prelude.{◌≡◌, ◌+◌, ◌≤◌, length, drop};
-ghost use Rattle.recording.specs.Lines.{until_feed};
+ghost use Rattle.std.specs.Prelude.{◌≡◌, ◌+◌, ◌≤◌, length};
 ghost use Rattle.text.specs.Put.{put_in};
 ghost use Rattle.replaying.specs.Writing.{LINE_TEXT};
 ghost use Rattle.replaying.specs.Line.{left};
@@ -12,7 +11,7 @@ use crate::lines::answer_line;
 use crate::session::{Answered, Replay, Session};
 use crate::taking::end_frame;
 use crate::writing::{LINE_TEXT, write_line};
-use recording::MAX_LINE;
+use recording::{MAX_LINE, line_end};
 use refusal::Refusal;
 use seq::Seq;
 use text::put;
@@ -32,14 +31,8 @@ pub struct Closed {
     pub wrote: usize,
 }
 
-// A count of bytes carried and a place in a piece.
-#[derive(Clone, Copy)]
-struct Place {
-    count: usize,
-    at: usize,
-}
-
-// Carries one byte more. A count above 2,080 marks a line that is too long: its bytes are dropped.
+// Carries one byte more. A count above 2,080 marks a line that is too long: its bytes are dropped. It stays a number, since the public
+// promises of `feed` and `close` are on `Session.count`.
 fn carry(line: &mut [u8; MAX_LINE], count: usize, b: u8) -> usize
     ensures value { result ≡ count_with count }
     ensures line_after { line.new ≡ line_with line.old count b }
@@ -51,37 +44,26 @@ fn carry(line: &mut [u8; MAX_LINE], count: usize, b: u8) -> usize
     MAX_LINE + 1
 }
 
-// Carries the bytes of a piece from a place to the next line feed, or to the piece's end.
-fn gather(line: &mut [u8; MAX_LINE], count: usize, piece: &[u8], at: usize) -> Place
-    ensures count_value { result.count ≡ carried_count count (until_feed (drop at piece.now)) }
-    ensures at_value { result.at ≡ at + length (until_feed (drop at piece.now)) }
-    ensures line_after { line.new ≡ carried_line line.old count (until_feed (drop at piece.now)) }
+// Carries the bytes of a line, or of a part of it, and says how many are carried then.
+fn gather(line: &mut [u8; MAX_LINE], count: usize, part: &[u8]) -> usize
+    ensures value { result ≡ carried_count count part.now }
+    ensures line_after { line.new ≡ carried_line line.old count part.now }
 {
     let mut n = count;
-    let mut i = at;
-    while i < piece.len() {
-        let b = piece[i];
-        if b == b'\n' {
-            return Place { count: n, at: i };
-        }
-        n = carry(line, n, b);
-        i += 1;
+    for b in part {
+        n = carry(line, n, *b);
     }
-    Place { count: n, at: i }
+    n
 }
 
 // The end of the line that is carried.
 fn end_line(r: Replay, store: &mut [u8], records: &mut [u64], line: &[u8], count: usize) -> Answered
     ensures { left result store.new records.new ≡ line_left r store.old records.old line.now count }
 {
-    let state = r.state;
     if MAX_LINE < count {
-        return end_frame(Refusal::Bytes.number(), state, records);
+        return end_frame(Refusal::Bytes.number(), r.state, records);
     }
-    if line.len() < count {
-        return answer_line(r, store, records, line);
-    }
-    answer_line(r, store, records, &line[..count])
+    answer_line(r, store, records, &line[..count.min(line.len())])
 }
 
 // Writes an answer's line at a place, if there is one, and says where its text ends.
@@ -104,9 +86,11 @@ fn show(answer: Option<(u8, Seq)>, out: &mut [u8], at: usize) -> usize
 fn fed_as(said: Answered, count: usize, used: usize, wrote: usize) -> Fed
     ensures { result ≡ fed_as (record { replay = said.replay; count = count }) used wrote }
 {
-    let replay = said.replay;
     Fed {
-        session: Session { replay, count },
+        session: Session {
+            replay: said.replay,
+            count,
+        },
         used,
         wrote,
     }
@@ -129,28 +113,26 @@ pub fn feed(
     ensures line_after { line.new ≡ feed_line (carrying session store.old records.old line.old) piece.now (length out.old) }
     ensures out_after { out.new ≡ feed_out (carrying session store.old records.old line.old) piece.now out.old }
 {
-    let first = session.replay;
     let mut said = Answered {
         answer: None,
-        replay: first,
+        replay: session.replay,
     };
     let mut count = session.count;
     let mut used: usize = 0;
     let mut wrote: usize = 0;
+    // a turn takes a line, as long as there is room for its text, so the turns go by places and not by bytes
     while used < piece.len() {
         if out.len() - wrote < LINE_TEXT {
             return fed_as(said, count, used, wrote);
         }
-        let place = gather(line, count, piece, used);
-        count = place.count;
-        used = place.at;
+        let end = line_end(piece, used);
+        count = gather(line, count, &piece[used..end]);
+        used = end;
         if piece.len() <= used {
             return fed_as(said, count, used, wrote);
         }
-        let replay = said.replay;
-        said = end_line(replay, store, records, line, count);
-        let answer = said.answer;
-        wrote = show(answer, out, wrote);
+        said = end_line(said.replay, store, records, line, count);
+        wrote = show(said.answer, out, wrote);
         count = 0;
         used += 1;
     }
@@ -161,15 +143,13 @@ pub fn feed(
 fn last_line(session: Session, store: &mut [u8], records: &mut [u64], line: &[u8]) -> Answered
     ensures { left result store.new records.new ≡ last_line (carrying session store.old records.old line.now) }
 {
-    let replay = session.replay;
-    let count = session.count;
-    if count == 0 {
+    if session.count == 0 {
         return Answered {
             answer: None,
-            replay,
+            replay: session.replay,
         };
     }
-    end_line(replay, store, records, line, count)
+    end_line(session.replay, store, records, line, session.count)
 }
 
 // The last line, and a Data whose payload doesn't come any more.
@@ -177,12 +157,9 @@ fn end_input(session: Session, store: &mut [u8], records: &mut [u64], line: &[u8
     ensures { left result store.new records.new ≡ last_of (carrying session store.old records.old line.now) }
 {
     let said = last_line(session, store, records, line);
-    let replay = said.replay;
-    let state = replay.state;
-    let waiting = replay.waiting;
-    match waiting {
+    match said.replay.waiting {
         None => said,
-        Some(_) => end_frame(Refusal::Bytes.number(), state, records),
+        Some(_) => end_frame(Refusal::Bytes.number(), said.replay.state, records),
     }
 }
 
@@ -200,11 +177,12 @@ pub fn close(
     ensures out_after { out.new ≡ close_out (carrying session store.old records.old line.now) out.old }
 {
     let last = end_input(session, store, records, line);
-    let answer = last.answer;
-    let replay = last.replay;
-    let wrote = show(answer, out, 0);
+    let wrote = show(last.answer, out, 0);
     Closed {
-        session: Session { replay, count: 0 },
+        session: Session {
+            replay: last.replay,
+            count: 0,
+        },
         wrote,
     }
 }

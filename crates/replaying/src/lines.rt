@@ -1,4 +1,4 @@
-// What one line does.
+// What one line does. The state and what is lent with it stay separate arguments, as the public functions of the engine take them.
 ghost use Rattle.std.specs.Prelude.{◌≡◌};
 ghost use Rattle.engine.specs.Answer.{outcome_told};
 ghost use Rattle.replaying.specs.Taking.{recorded};
@@ -33,9 +33,7 @@ fn receive_frame(
     ensures { left result store.new records.new ≡ received (recorded s records.old) store.old msg seq payload.now }
 {
     let changed = engine::receive(s, store, records, 0, msg, seq, payload);
-    let outcome = changed.outcome;
-    let state = changed.state;
-    end_frame(outcome_number(outcome), state, records)
+    end_frame(outcome_number(changed.outcome), changed.state, records)
 }
 
 // A Data waits for its payload line; the other reliable messages have none.
@@ -56,10 +54,10 @@ fn answer_reliable(
                 waiting: Some(seq),
             },
         },
-        ReliableMsg::Consumed(_) => receive_frame(s, store, records, msg, seq, b""),
-        ReliableMsg::SendFinish => receive_frame(s, store, records, msg, seq, b""),
-        ReliableMsg::ReceiveClose => receive_frame(s, store, records, msg, seq, b""),
-        ReliableMsg::ReceiveFinish => receive_frame(s, store, records, msg, seq, b""),
+        ReliableMsg::Consumed(_)
+        | ReliableMsg::SendFinish
+        | ReliableMsg::ReceiveClose
+        | ReliableMsg::ReceiveFinish => receive_frame(s, store, records, msg, seq, b""),
     }
 }
 
@@ -67,8 +65,7 @@ fn answer_reliable(
 fn answer_message(s: State, store: &mut [u8], records: &mut [u64], msg: LinkMsg) -> Answered
     ensures { left result store.new records.new ≡ after_message (recorded s records.old) store.old msg }
 {
-    let carried = ReliableMsg::from_link_msg(msg);
-    match carried {
+    match ReliableMsg::from_link_msg(msg) {
         None => end_frame(0, s, records),
         Some((reliable, seq)) => answer_reliable(s, store, records, reliable, seq),
     }
@@ -109,13 +106,8 @@ fn answer_payload(
 pub(crate) fn answer_line(r: Replay, store: &mut [u8], records: &mut [u64], line: &[u8]) -> Answered
     ensures { left result store.new records.new ≡ answer_of r store.old records.old line.now }
 {
-    let state = r.state;
-    let waiting = r.waiting;
-    match waiting {
-        None => {
-            let reading = read_frame(line);
-            answer_reading(state, store, records, reading)
-        }
-        Some(seq) => answer_payload(state, store, records, seq, line),
+    match r.waiting {
+        None => answer_reading(r.state, store, records, read_frame(line)),
+        Some(seq) => answer_payload(r.state, store, records, seq, line),
     }
 }

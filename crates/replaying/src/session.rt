@@ -34,12 +34,10 @@ pub fn begin(records: &mut [u64]) -> Session
     ensures records_after { records.new ≡ begun_records records.old }
 {
     let made = engine::fresh(Seq::ZERO, RECEIVED_BYTES as u32, CELLS as u32, records);
-    let empty = made.state;
-    let added = engine::add(empty, 0, 0, None, false, false);
-    let state = added.state;
+    let added = engine::add(made.state, 0, 0, None, false, false);
     Session {
         replay: Replay {
-            state,
+            state: added.state,
             waiting: None,
         },
         count: 0,

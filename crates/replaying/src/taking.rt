@@ -2,51 +2,27 @@
 ghost use Rattle.std.specs.Prelude.{◌≡◌};
 ghost use Rattle.link.specs.Sizes.{ACKS};
 ghost use Rattle.replaying.specs.Sizes.{CELLS};
-ghost use Rattle.replaying.specs.Taking.{is_ack, is_message, without_acks, recorded, without_ready, without_all, ended};
+ghost use Rattle.replaying.specs.Taking.{without_acks, recorded, without_ready, without_all, ended};
 
 use crate::session::{Answered, Replay};
 use crate::sizes::CELLS;
-use engine::{HandOut, State};
+use engine::State;
 use link::sizes::ACKS;
-use refusal::Refusal;
-use seq::Seq;
-
-fn is_ack(answer: Result<Seq, Refusal>) -> bool
-    ensures { result ≡ is_ack answer }
-{
-    match answer {
-        Ok(_) => true,
-        Err(_) => false,
-    }
-}
-
-fn is_message(answer: HandOut) -> bool
-    ensures { result ≡ is_message answer }
-{
-    match answer {
-        Ok((_, _, _)) => true,
-        Err(_) => false,
-    }
-}
 
 // Takes every waiting ack of link 0: there are at most ACKS. Where none waits the engine isn't asked, which would judge the whole state.
 fn take_acks(s: State) -> State
     ensures { result ≡ without_acks ACKS s }
 {
     let mut out = s;
-    let mut left: usize = ACKS;
-    while 0 < left {
-        let row = engine::row_of(out, 0);
-        if row.ack_count == 0 {
+    for _ in 0..ACKS {
+        if engine::row_of(out, 0).ack_count == 0 {
             return out;
         }
         let taken = engine::take_ack(out, 0);
-        let answer = taken.answer;
-        if !is_ack(answer) {
+        if taken.answer.is_err() {
             return out;
         }
         out = taken.state;
-        left -= 1;
     }
     out
 }
@@ -56,19 +32,15 @@ fn take_ready(s: State, records: &mut [u64]) -> State
     ensures { recorded result records.new ≡ without_ready CELLS (recorded s records.old) }
 {
     let mut out = s;
-    let mut left: usize = CELLS;
-    while 0 < left {
-        let rx = out.rx;
-        if rx.rx_oldest.eq(rx.rx_seq) {
+    for _ in 0..CELLS {
+        if out.rx.rx_oldest == out.rx.rx_seq {
             return out;
         }
         let taken = engine::take(out, records);
-        let answer = taken.answer;
-        if !is_message(answer) {
+        if taken.answer.is_err() {
             return out;
         }
         out = taken.state;
-        left -= 1;
     }
     out
 }
@@ -79,10 +51,8 @@ pub fn end_frame(number: u8, s: State, records: &mut [u64]) -> Answered
     ensures records_after { records.new ≡ (without_all (recorded s records.old)).records }
 {
     let state = take_ready(take_acks(s), records);
-    let rx = state.rx;
-    let next = rx.rx_seq;
     Answered {
-        answer: Some((number, next)),
+        answer: Some((number, state.rx.rx_seq)),
         replay: Replay {
             state,
             waiting: None,

@@ -1,6 +1,6 @@
 // What a call answers: its number and three values, 0 where there is none.
 ghost use Rattle.std.specs.Prelude.{◌≡◌};
-ghost use Rattle.refusal.specs.Answers.{flag, refused};
+ghost use Rattle.refusal.specs.Answers.{refused};
 ghost use Rattle.engine.specs.Answer.{outcome_told};
 ghost use Rattle.engine.specs.Deadlines.{confirm_timeout_told};
 ghost use Rattle.engine.specs.HandingOut.{due_told, hand_out_told, take_ack_told};
@@ -13,6 +13,7 @@ use engine::{ConfirmTimeout, HandOut};
 use msg::ReliableMsg;
 use refusal::Refusal;
 use seq::Seq;
+use words::bits::flag;
 
 #[derive(Clone, Copy)]
 pub struct Answer {
@@ -59,13 +60,7 @@ pub(crate) fn no_call() -> Answer
 fn word(seq: Seq) -> u64
     ensures { result ≡ seq.0 }
 {
-    seq.0 as u64
-}
-
-fn flag(set: bool) -> u64
-    ensures { result ≡ flag set }
-{
-    if set { 1 } else { 0 }
+    u64::from(seq.0)
 }
 
 pub(crate) fn tell(outcome: Result<(), Refusal>) -> Answer

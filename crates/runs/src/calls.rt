@@ -9,10 +9,11 @@ use crate::links::links_call;
 use crate::reader::reader_call;
 use crate::receiving::receiving_call;
 use crate::sending::sending_call;
+use words::layout::WORDS;
 
 // One call on words that are known to be sound: nothing is judged.
 pub(crate) fn one_call(
-    words: &mut [u64],
+    words: &mut [u64; WORDS],
     sent: &mut [u8],
     received: &mut [u8],
     records: &mut [u64],

@@ -1,6 +1,5 @@
 // What a call's words say.
 ghost use Rattle.std.specs.Prelude.{◌≡◌};
-ghost use Rattle.words.specs.Meaning.{is_set, max_ping_of};
 ghost use Rattle.runs.specs.Asked.{slot_of, plain_given, given, withinb};
 
 use msg::{LinkMsg, ReliableMsg};
@@ -8,7 +7,7 @@ use msg::{LinkMsg, ReliableMsg};
 // A number of 32 bits is below this.
 pub(crate) const HALF: u64 = 0x1_0000_0000;
 
-// A slot above 255 is read as 255, which holds no link.
+// A slot above 255 is read as 255, which holds no link: so says the definition of this name, which the run's promise cites.
 pub(crate) fn slot_of(word: u64) -> u8
     ensures { result ≡ slot_of word }
 {
@@ -16,23 +15,6 @@ pub(crate) fn slot_of(word: u64) -> u8
         return word as u8;
     }
     255
-}
-
-// A flag: set by any word but 0.
-pub(crate) fn is_set(word: u64) -> bool
-    ensures { result ≡ is_set word }
-{
-    word != 0
-}
-
-// The longest round trip that a link may have, where it has one.
-pub(crate) fn max_ping_of(some: u64, value: u64) -> Option<u64>
-    ensures { result ≡ max_ping_of some value }
-{
-    if some == 0 {
-        return None;
-    }
-    Some(value)
 }
 
 // Whether a part lies within so many bytes.

@@ -8,22 +8,24 @@ ghost use Rattle.runs.specs.Asked.{It, numbered, link_asked};
 ghost use Rattle.runs.specs.Did.{OnWords};
 
 use crate::answers::{Answer, no_call, tell, tell_added};
-use crate::given::{HALF, is_set, max_ping_of, slot_of};
+use crate::given::{HALF, slot_of};
 use links_in_place::{adding, links};
 use sending_in_place::unconfirming;
 use seq::Seq;
+use words::bits::is_set;
+use words::layout::WORDS;
 
-fn add_call(words: &mut [u64], call: &[u64]) -> Answer
+fn add_call(words: &mut [u64; WORDS], call: &[u64]) -> Answer
     requires { Ready words.old × (length call.now ≡ 8) }
     ensures { OnWords (It (Add (get_or call.now 1 0) (get_or call.now 2 0) (max_ping_of (get_or call.now 3 0) (get_or call.now 4 0)) (is_set (get_or call.now 5 0)) (is_set (get_or call.now 6 0)))) words.old words.new result }
 {
-    let max = max_ping_of(call[3], call[4]);
+    let max = is_set(call[3]).then_some(call[4]);
     let blocked = is_set(call[5]);
     let unconfirmed = is_set(call[6]);
     tell_added(adding::add(words, call[1], call[2], max, blocked, unconfirmed))
 }
 
-fn mark_call(words: &mut [u64], slot: u8, number: u64) -> Answer
+fn mark_call(words: &mut [u64; WORDS], slot: u8, number: u64) -> Answer
     requires { Ready words.old }
     ensures { OnWords (numbered number (It (Mark slot (seq_of number)))) words.old words.new result }
 {
@@ -33,8 +35,8 @@ fn mark_call(words: &mut [u64], slot: u8, number: u64) -> Answer
     tell(links::mark(words, slot, Seq(number as u32)))
 }
 
-// The calls 1 to 8.
-pub(crate) fn links_call(words: &mut [u64], call: &[u64]) -> Answer
+// The calls 1 to 8, by the numbers that a host writes (docs/RUNS.md).
+pub(crate) fn links_call(words: &mut [u64; WORDS], call: &[u64]) -> Answer
     requires { Ready words.old × (length call.now ≡ 8) }
     ensures { OnWords (link_asked call.now) words.old words.new result }
 {

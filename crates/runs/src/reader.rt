@@ -7,12 +7,14 @@ ghost use Rattle.runs.specs.Asked.{It, timeout_in, reader_asked};
 ghost use Rattle.runs.specs.Did.{OnWords};
 
 use crate::answers::{Answer, no_call, tell, tell_ack, tell_due, tell_timeout};
-use crate::given::{is_set, slot_of};
+use crate::given::slot_of;
 use link::AckTimeout;
 use links_in_place::{acks, reader};
 use sending_in_place::deadlines;
+use words::bits::is_set;
+use words::layout::WORDS;
 
-fn deadline_call(words: &[u64], call: &[u64]) -> Answer
+fn deadline_call(words: &[u64; WORDS], call: &[u64]) -> Answer
     requires { Ready words.now × (length call.now ≡ 8) }
     ensures { OnWords (It (EarliestConfirmTimeout (timeout_in call.now) (is_set (get_or call.now 6 0)))) words.now words.now result }
 {
@@ -28,7 +30,7 @@ fn deadline_call(words: &[u64], call: &[u64]) -> Answer
 }
 
 // The calls 16 to 19.
-pub(crate) fn reader_call(words: &mut [u64], call: &[u64]) -> Answer
+pub(crate) fn reader_call(words: &mut [u64; WORDS], call: &[u64]) -> Answer
     requires { Ready words.old × (length call.now ≡ 8) }
     ensures { OnWords (reader_asked call.now) words.old words.new result }
 {

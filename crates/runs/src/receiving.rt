@@ -10,9 +10,10 @@ use crate::given::{HALF, message_given, slot_of, within};
 use msg::ReliableMsg;
 use receiving_in_place::{handing_out, receiving};
 use seq::Seq;
+use words::layout::WORDS;
 
 fn receive_message(
-    words: &mut [u64],
+    words: &mut [u64; WORDS],
     received: &mut [u8],
     records: &mut [u64],
     call: &[u64],
@@ -35,7 +36,7 @@ fn receive_message(
 }
 
 fn receive_call(
-    words: &mut [u64],
+    words: &mut [u64; WORDS],
     received: &mut [u8],
     records: &mut [u64],
     call: &[u64],
@@ -56,7 +57,7 @@ fn receive_call(
 
 // The calls 13 to 15.
 pub(crate) fn receiving_call(
-    words: &mut [u64],
+    words: &mut [u64; WORDS],
     received: &mut [u8],
     records: &mut [u64],
     call: &[u64],

@@ -1,6 +1,6 @@
 // A list of calls, one after another, under one judgement.
 ghost use Rattle.std.specs.Prelude.{◌≡◌, cond, ◌+◌, ◌*◌, ◌≤◌, length};
-ghost use Rattle.words.specs.Ready.{Left};
+ghost use Rattle.words.specs.Ready.{Left, Words64};
 ghost use Rattle.receiving_in_place.specs.ReadyWith.{ReadyWith};
 ghost use Rattle.runs.specs.Runs.{run_of, put, ran, room_for, readyb};
 
@@ -29,12 +29,9 @@ fn put_answer(answers: &mut [u64], at: usize, answer: Answer)
 }
 
 // Whether the words are sound, and the records with them where they are as many as the cells.
-fn is_ready(words: &[u64], records: &[u64]) -> bool
+fn is_ready(words: &[u64; WORDS], records: &[u64]) -> bool
     ensures { result ≡ readyb words.now records.now }
 {
-    if words.len() != WORDS {
-        return false;
-    }
     let rx = rx_of(words);
     if records.len() == rx.cells as usize {
         return is_sound_with(words, records);
@@ -50,9 +47,16 @@ fn room_for(calls: usize, answers: usize) -> usize
     if asked <= room { asked } else { room }
 }
 
+// Every word is one of 64 bits: what the type says of an array that was lent, told of one that a call has changed.
+fn each_fits(words: &[u64; WORDS])
+    ensures { Words64 words.now }
+{
+    let _first = words[0];
+}
+
 // So many calls, each with its answer.
 fn do_calls(
-    words: &mut [u64],
+    words: &mut [u64; WORDS],
     sent: &mut [u8],
     received: &mut [u8],
     records: &mut [u64],
@@ -64,13 +68,12 @@ fn do_calls(
     requires { ReadyWith words.old records.old × ((count * 8 ≤ length calls.now) × (count * 4 ≤ length answers.old)) }
     ensures { run_of words.new sent.new received.new records.new answers.new ≡ ran count calls.now bytes.now (run_of words.old sent.old received.old records.old answers.old) }
 {
-    let mut i: usize = 0;
-    while i < count {
+    for i in 0..count {
         let start = i * CALL;
         let end = start + CALL;
         let answer = one_call(words, sent, received, records, &calls[start..end], bytes);
+        each_fits(words);
         put_answer(answers, i * ANSWER, answer);
-        i += 1;
     }
 }
 
@@ -88,6 +91,9 @@ pub fn run(
     ensures answers_after { run_of words.new sent.new received.new records.new answers.new ≡ cond (readyb words.old records.old) (ran (room_for (length calls.now) (length answers.old)) calls.now bytes.now (run_of words.old sent.old received.old records.old answers.old)) (run_of words.old sent.old received.old records.old answers.old) }
     ensures left { Left result words.old words.new }
 {
+    let Some(words) = words.as_mut_array::<WORDS>() else {
+        return UNSOUND;
+    };
     if !is_ready(words, records) {
         return UNSOUND;
     }

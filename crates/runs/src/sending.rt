@@ -10,8 +10,9 @@ use crate::given::{HALF, message_given, slot_of, within};
 use msg::ReliableMsg;
 use sending_in_place::{acking, flushing, resending, sending};
 use seq::Seq;
+use words::layout::WORDS;
 
-fn ack_call(words: &mut [u64], slot: u8, time: u64, number: u64) -> Answer
+fn ack_call(words: &mut [u64; WORDS], slot: u8, time: u64, number: u64) -> Answer
     requires { Ready words.old }
     ensures { OnWords (numbered number (It (Ack slot time number))) words.old words.new result }
 {
@@ -21,7 +22,7 @@ fn ack_call(words: &mut [u64], slot: u8, time: u64, number: u64) -> Answer
     tell(acking::ack(words, slot, time, Seq(number as u32)))
 }
 
-fn resend_call(words: &mut [u64], slot: u8, time: u64, number: u64) -> Answer
+fn resend_call(words: &mut [u64; WORDS], slot: u8, time: u64, number: u64) -> Answer
     requires { Ready words.old }
     ensures { OnWords (numbered number (It (Resend slot time number))) words.old words.new result }
 {
@@ -32,7 +33,7 @@ fn resend_call(words: &mut [u64], slot: u8, time: u64, number: u64) -> Answer
 }
 
 fn send_message(
-    words: &mut [u64],
+    words: &mut [u64; WORDS],
     sent: &mut [u8],
     call: &[u64],
     msg: ReliableMsg,
@@ -52,7 +53,7 @@ fn send_message(
     tell_sent(sending::send(words, sent, slot, call[2], msg, &bytes[start..end]))
 }
 
-fn send_call(words: &mut [u64], sent: &mut [u8], call: &[u64], bytes: &[u8]) -> Answer
+fn send_call(words: &mut [u64; WORDS], sent: &mut [u8], call: &[u64], bytes: &[u8]) -> Answer
     requires { Ready words.old × (length call.now ≡ 8) }
     ensures { OnSent (send_asked call.now bytes.now) words.old sent.old words.new sent.new result }
 {
@@ -64,7 +65,12 @@ fn send_call(words: &mut [u64], sent: &mut [u8], call: &[u64], bytes: &[u8]) -> 
 }
 
 // The calls 9 to 12: those of every message first.
-pub(crate) fn sending_call(words: &mut [u64], sent: &mut [u8], call: &[u64], bytes: &[u8]) -> Answer
+pub(crate) fn sending_call(
+    words: &mut [u64; WORDS],
+    sent: &mut [u8],
+    call: &[u64],
+    bytes: &[u8],
+) -> Answer
     requires { Ready words.old × (length call.now ≡ 8) }
     ensures { OnSent (sending_asked call.now bytes.now) words.old sent.old words.new sent.new result }
 {

@@ -1,5 +1,5 @@
 -- The packets of the table changed in their places: what a loop over them does in a turn. Assumes nothing.
-use Rattle.std.specs.Prelude.{◌≡◌, refl, ℕ, ◌-◌, ◌%◌, ◌≤◌, ◌<◌, get_or, set}
+use Rattle.std.specs.Prelude.{◌≡◌, refl, ℕ, ◌+◌, ◌-◌, ◌%◌, ◌≤◌, ◌<◌, get_or, set}
 use Rattle.std.proofs.Common.{sym, ◌∙◌, arith}
 use Rattle.std.proofs.Math.Path.{ap}
 use mathlib.Core.List.{List, map}
@@ -43,3 +43,10 @@ module _ (f : SentReliable → SentReliable) where
   change-end s then at left h none =
       h.others
       ∙ ap (λ (ps : List SentReliable). with_tx s (with_packets s.tx ps)) (sym (change-none PACKETS no_packet f then.tx.txed_packets at left none) ∙ h.rest)
+
+-- nothing is taken off at the first turn of a loop, and one more at each next
+pub none-done : (n : ℕ) → n ≡ n - 0
+none-done n = omega arith
+
+pub one-done : (n k : ℕ) → n - k - 1 ≡ n - (k + 1)
+one-done n k = omega arith

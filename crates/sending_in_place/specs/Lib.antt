@@ -4,3 +4,4 @@ pub mod Swept
 pub mod Requeue
 pub mod Changing
 pub mod Untold
+pub mod Timed

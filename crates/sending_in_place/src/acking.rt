@@ -10,9 +10,9 @@ ghost use Rattle.words.specs.Layout.{WORDS};
 ghost use Rattle.words.specs.Meaning.{state_of};
 ghost use Rattle.words.specs.Encoded.{numbers_of};
 ghost use Rattle.words.specs.Ready.{Ready, Left};
-ghost use Rattle.sending_in_place.specs.Swept.{swept_to};
 ghost use Rattle.engine.specs.Answer.{outcome_told};
 
+use crate::gates::timed_verdict;
 use crate::queue::requeue;
 use crate::table::{cell_of, first_cell, in_table};
 use engine::acking::settle_row;
@@ -21,10 +21,10 @@ use engine::ring::next_cell;
 use engine::totals::less;
 use engine::{PACKETS, SentReliable, SentReliableStatus};
 use link::LinkRow;
-use refusal::Refusal;
+use refusal::{Refusal, refuse_unless};
 use seq::Seq;
 use words::clock::put_time;
-use words::gates::{slot_ok, time_ok};
+use words::layout::WORDS;
 use words::packet::{packet_at, put_received};
 use words::row::{put_acked, row_at};
 use words::sending::{
@@ -33,8 +33,8 @@ use words::sending::{
 };
 
 // The packet becomes Received, and its size moves from one total to the other.
-fn settle_packet(words: &mut [u64], seq: Seq, p: SentReliable)
-    requires { (length words.old ≡ WORDS) × (p ≡ packet_of (state_of words.old).tx seq.0) × ((state_of words.old).tx.txed_unconsumable + p.len < 2 ^ 32) }
+fn settle_packet(words: &mut [u64; WORDS], seq: Seq, p: SentReliable)
+    requires { (p ≡ packet_of (state_of words.old).tx seq.0) × ((state_of words.old).tx.txed_unconsumable + p.len < 2 ^ 32) }
     ensures { state_of words.new ≡ with_tx (state_of words.old) (received_tx (state_of words.old).tx seq.0 p) }
 {
     let tx = tx_of(words);
@@ -45,8 +45,8 @@ fn settle_packet(words: &mut [u64], seq: Seq, p: SentReliable)
 }
 
 // The sending half, by the packet's status.
-fn settle_tx(words: &mut [u64], slot: u8, seq: Seq, p: SentReliable)
-    requires { (length words.old ≡ WORDS) × (p ≡ packet_of (state_of words.old).tx seq.0) × ((state_of words.old).tx.txed_unconsumable + p.len < 2 ^ 32) × ((state_of words.old).tx.txed_count ≤ PACKETS) }
+fn settle_tx(words: &mut [u64; WORDS], slot: u8, seq: Seq, p: SentReliable)
+    requires { (p ≡ packet_of (state_of words.old).tx seq.0) × ((state_of words.old).tx.txed_unconsumable + p.len < 2 ^ 32) × ((state_of words.old).tx.txed_count ≤ PACKETS) }
     ensures { state_of words.new ≡ with_tx (state_of words.old) (settled_tx (state_of words.old).tx slot seq.0 p) }
 {
     let status = p.status;
@@ -64,43 +64,29 @@ fn settle_tx(words: &mut [u64], slot: u8, seq: Seq, p: SentReliable)
     }
 }
 
-// The numbers with what a sweep leaves: how many packets, the last number looked at, and the bytes that still wait.
-fn swept_to(tx: SendingNumbers, left: usize, last: Seq, held: u32) -> SendingNumbers
-    ensures { result ≡ swept_to tx left last held }
-{
-    let mut out = tx;
-    out.txed_count = left;
-    out.txed_last_consumed = last;
-    out.txed_unconsumable = held;
-    out
-}
-
 // The numbers after a sweep of the Received packets at the front.
-fn swept(words: &[u64]) -> SendingNumbers
-    requires { (length words.now ≡ WORDS) × ((state_of words.now).tx.txed_count ≤ PACKETS) }
+fn swept(words: &[u64; WORDS]) -> SendingNumbers
+    requires { (state_of words.now).tx.txed_count ≤ PACKETS }
     ensures { result ≡ numbers_of (swept_tx (state_of words.now).tx) }
 {
-    let tx = tx_of(words);
-    let mut left = tx.txed_count;
-    let mut last = tx.txed_last_consumed;
-    let mut held = tx.txed_unconsumable;
+    let mut tx = tx_of(words);
     let mut at = first_cell(tx);
-    while 0 < left {
+    for _ in 0..tx.txed_count {
         let p = packet_at(words, at);
         let status = p.status;
-        last = p.seq;
+        tx.txed_last_consumed = p.seq;
         if !is_received(status) {
-            return swept_to(tx, left, last, held);
+            return tx;
         }
-        held = less(held, p.len);
+        tx.txed_unconsumable = less(tx.txed_unconsumable, p.len);
+        tx.txed_count -= 1;
         at = next_cell(PACKETS, at);
-        left -= 1;
     }
-    swept_to(tx, left, last, held)
+    tx
 }
 
-fn sweep(words: &mut [u64])
-    requires { (length words.old ≡ WORDS) × ((state_of words.old).tx.txed_count ≤ PACKETS) }
+fn sweep(words: &mut [u64; WORDS])
+    requires { (state_of words.old).tx.txed_count ≤ PACKETS }
     ensures { state_of words.new ≡ with_tx (state_of words.old) (swept_tx (state_of words.old).tx) }
 {
     let tx = swept(words);
@@ -111,7 +97,7 @@ fn sweep(words: &mut [u64])
 }
 
 // The acked packet, where the table holds the number; the answer is the link's row, but for its acks. The mark's step comes first, and a flag that it sets counts in this ack.
-fn settle(words: &mut [u64], slot: u8, time: u64, seq: Seq) -> LinkRow
+fn settle(words: &mut [u64; WORDS], slot: u8, time: u64, seq: Seq) -> LinkRow
     requires { Ready words.old × (slot < 8) }
     ensures ack_count_value { with_acks result (row_at (state_of words.old) slot).tx_ack_queue result.ack_count ≡ acked_row (state_of words.old) slot time seq.0 }
     ensures words_after { state_of words.new ≡ with_tx (state_of words.old) (acked_tx (state_of words.old) slot seq.0) }
@@ -127,37 +113,24 @@ fn settle(words: &mut [u64], slot: u8, time: u64, seq: Seq) -> LinkRow
 }
 
 // Its own gate judges the number against the next to send.
-fn ack_verdict(words: &[u64], slot: u8, time: u64, seq: Seq) -> Result<(), Refusal>
+fn ack_verdict(words: &[u64; WORDS], slot: u8, time: u64, seq: Seq) -> Result<(), Refusal>
     requires { Ready words.now }
     ensures { result ≡ ack_verdict (state_of words.now) slot time seq.0 }
 {
-    if !time_ok(words, time) {
-        return Err(Refusal::Time);
-    }
-    if !slot_ok(words, slot) {
-        return Err(Refusal::Slot);
-    }
-    if seq.is_near(tx_of(words).tx_seq) {
-        return Ok(());
-    }
-    Err(Refusal::Far)
+    timed_verdict(words, slot, time)?;
+    refuse_unless(seq.is_near(tx_of(words).tx_seq), Refusal::Far)
 }
 
-pub fn ack(words: &mut [u64], slot: u8, time: u64, seq: Seq) -> Result<(), Refusal>
+pub fn ack(words: &mut [u64; WORDS], slot: u8, time: u64, seq: Seq) -> Result<(), Refusal>
     requires { Ready words.old }
     ensures value { result ≡ (ack_of (state_of words.old) slot time seq.0).outcome }
     ensures words_after { state_of words.new ≡ (ack_of (state_of words.old) slot time seq.0).state }
     ensures left { Left (outcome_told result).number words.old words.new }
 {
-    let verdict = ack_verdict(words, slot, time, seq);
-    match verdict {
-        Err(e) => Err(e),
-        Ok(()) => {
-            let row = settle(words, slot, time, seq);
-            sweep(words);
-            put_acked(words, slot as usize, row);
-            put_time(words, time);
-            Ok(())
-        }
-    }
+    ack_verdict(words, slot, time, seq)?;
+    let row = settle(words, slot, time, seq);
+    sweep(words);
+    put_acked(words, slot as usize, row);
+    put_time(words, time);
+    Ok(())
 }

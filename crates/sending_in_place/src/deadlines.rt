@@ -17,31 +17,30 @@ use engine::ring::next_cell;
 use engine::{ConfirmTimeout, InFlight, PACKETS};
 use link::AckTimeout;
 use refusal::Refusal;
+use words::layout::WORDS;
 use words::packet::packet_at;
 use words::sending::tx_of;
 
 // The first packet in table order that is Sent.
-fn first_sent(words: &[u64]) -> Option<InFlight>
-    requires { (length words.now ≡ WORDS) × ((state_of words.now).tx.txed_count ≤ PACKETS) }
+fn first_sent(words: &[u64; WORDS]) -> Option<InFlight>
+    requires { (state_of words.now).tx.txed_count ≤ PACKETS }
     ensures { result ≡ first_sent (packets (state_of words.now).tx) }
 {
     let tx = tx_of(words);
-    let mut left = tx.txed_count;
     let mut at = first_cell(tx);
-    while 0 < left {
+    for _ in 0..tx.txed_count {
         let p = packet_at(words, at);
         let status = p.status;
         if is_sent(status) {
             return in_flight(status);
         }
         at = next_cell(PACKETS, at);
-        left -= 1;
     }
     None
 }
 
-fn deadline(words: &[u64], flight: InFlight, timeout: AckTimeout, unreliable: bool) -> u64
-    requires { (length words.now ≡ WORDS) × (definitely_sent flight ≤ MAX_TIME) × (timeout_within timeout ≡ true) }
+fn deadline(words: &[u64; WORDS], flight: InFlight, timeout: AckTimeout, unreliable: bool) -> u64
+    requires { (definitely_sent flight ≤ MAX_TIME) × (timeout_within timeout ≡ true) }
     ensures { result ≡ deadline_of (state_of words.now) flight timeout unreliable }
 {
     let roundtrip = row_of(words, flight.slot).roundtrip;
@@ -50,7 +49,7 @@ fn deadline(words: &[u64], flight: InFlight, timeout: AckTimeout, unreliable: bo
 }
 
 // What is named where the settings are within their sizes.
-fn named(words: &[u64], timeout: AckTimeout, unreliable: bool) -> ConfirmTimeout
+fn named(words: &[u64; WORDS], timeout: AckTimeout, unreliable: bool) -> ConfirmTimeout
     requires { Ready words.now × (timeout_within timeout ≡ true) }
     ensures { result ≡ named_by (first_sent (packets (state_of words.now).tx)) (state_of words.now) timeout unreliable }
 {
@@ -67,7 +66,7 @@ fn named(words: &[u64], timeout: AckTimeout, unreliable: bool) -> ConfirmTimeout
 
 // The oldest packet that is Sent, and until when its acknowledgement is waited for.
 pub fn earliest_confirm_timeout(
-    words: &[u64],
+    words: &[u64; WORDS],
     timeout: AckTimeout,
     unreliable: bool,
 ) -> ConfirmTimeout

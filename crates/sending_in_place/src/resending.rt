@@ -13,30 +13,27 @@ use engine::packets::is_queued;
 use engine::resending::last_link;
 use engine::{InFlight, SentReliable, SentReliableStatus};
 use msg::ReliableMsg;
-use refusal::{Refusal, both, gate};
+use refusal::{Refusal, refuse_unless};
 use seq::Seq;
 use words::clock::put_time;
+use words::layout::WORDS;
 use words::packet::{packet_at, put_packet};
 use words::row::{put_row, row_at};
 use words::sending::tx_of;
 
-fn resend_verdict(words: &[u64], slot: u8, time: u64, seq: Seq) -> Result<(), Refusal>
+fn resend_verdict(words: &[u64; WORDS], slot: u8, time: u64, seq: Seq) -> Result<(), Refusal>
     requires { Ready words.now }
     ensures { result ≡ resend_verdict (state_of words.now) slot time seq.0 }
 {
-    let tx = tx_of(words);
-    let held = in_table(tx, seq);
-    let p = packet_at(words, cell_of(seq));
-    let status = p.status;
-    let queued = both(held, is_queued(status));
-    let id = row_of(words, slot).link_id;
-    let other = last_link(status) != id;
-    let v17 = gate(other, Refusal::SameIdentity, Ok(()));
-    let v16 = gate(queued, Refusal::NotQueued, v17);
-    timed_verdict(words, slot, time, v16)
+    timed_verdict(words, slot, time)?;
+    let status = packet_at(words, cell_of(seq)).status;
+    let queued = in_table(tx_of(words), seq) && is_queued(status);
+    refuse_unless(queued, Refusal::NotQueued)?;
+    let other = last_link(status) != row_of(words, slot).link_id;
+    refuse_unless(other, Refusal::SameIdentity)
 }
 
-fn put_resent(words: &mut [u64], slot: u8, time: u64, seq: Seq, p: SentReliable)
+fn put_resent(words: &mut [u64; WORDS], slot: u8, time: u64, seq: Seq, p: SentReliable)
     requires { Ready words.old × (resend_verdict (state_of words.old) slot time seq.0 ≡ Ok tt) × (p ≡ looked_at (state_of words.old).tx seq.0) }
     ensures { state_of words.new ≡ resent_state (state_of words.old) slot time seq.0 }
 {
@@ -53,7 +50,7 @@ fn put_resent(words: &mut [u64], slot: u8, time: u64, seq: Seq, p: SentReliable)
 
 // Puts a queued packet on another link.
 pub fn resend(
-    words: &mut [u64],
+    words: &mut [u64; WORDS],
     slot: u8,
     time: u64,
     seq: Seq,
@@ -63,14 +60,9 @@ pub fn resend(
     ensures words_after { state_of words.new ≡ (resend_of (state_of words.old) slot time seq.0).state }
     ensures left { Left (resend_told result).number words.old words.new }
 {
-    let verdict = resend_verdict(words, slot, time, seq);
-    match verdict {
-        Err(e) => Err(e),
-        Ok(()) => {
-            let p = packet_at(words, cell_of(seq));
-            let msg = p.msg;
-            put_resent(words, slot, time, seq, p);
-            Ok((msg, p.len))
-        }
-    }
+    resend_verdict(words, slot, time, seq)?;
+    let p = packet_at(words, cell_of(seq));
+    let msg = p.msg;
+    put_resent(words, slot, time, seq, p);
+    Ok((msg, p.len))
 }

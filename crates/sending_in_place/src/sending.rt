@@ -17,11 +17,12 @@ use engine::sending::{open_ok, told_ok};
 use engine::totals::{MAX_TOTAL, sum_fits};
 use engine::{DATA_BYTES, InFlight, PACKETS, SENT_BYTES, SentReliable, SentReliableStatus};
 use msg::{LinkMsg, ReliableMsg};
-use refusal::Refusal;
+use refusal::{Refusal, refuse_unless};
 use seq::Seq;
 use words::clock::put_time;
 use words::copying::copy;
 use words::gates::{slot_ok, time_ok};
+use words::layout::WORDS;
 use words::packet::put_packet;
 use words::receiving::{put_rxed_reliable_consumed, rx_of};
 use words::sending::{
@@ -29,8 +30,14 @@ use words::sending::{
     put_txed_unconsumed, tx_of,
 };
 
-fn totals_ok(words: &[u64], tx: SendingNumbers, slot: u8, msg: ReliableMsg, len: usize) -> bool
-    requires { (length words.now ≡ WORDS) × (tx ≡ numbers_of (state_of words.now).tx) }
+fn totals_ok(
+    words: &[u64; WORDS],
+    tx: SendingNumbers,
+    slot: u8,
+    msg: ReliableMsg,
+    len: usize,
+) -> bool
+    requires { tx ≡ numbers_of (state_of words.now).tx }
     ensures { result ≡ totals_ok (state_of words.now) slot msg len }
 {
     if !sum_fits(tx.txed_unacked, len, MAX_TOTAL) {
@@ -46,7 +53,7 @@ fn totals_ok(words: &[u64], tx: SendingNumbers, slot: u8, msg: ReliableMsg, len:
 }
 
 fn send_verdict(
-    words: &[u64],
+    words: &[u64; WORDS],
     store: usize,
     slot: u8,
     time: u64,
@@ -56,34 +63,18 @@ fn send_verdict(
     requires { Ready words.now }
     ensures { result ≡ send_verdict (state_of words.now) store slot time msg len }
 {
-    if store != SENT_BYTES {
-        return Err(Refusal::StoreLength);
-    }
-    if !time_ok(words, time) {
-        return Err(Refusal::Time);
-    }
-    if !slot_ok(words, slot) {
-        return Err(Refusal::Slot);
-    }
-    if !length_ok(msg, len) {
-        return Err(Refusal::Length);
-    }
+    refuse_unless(store == SENT_BYTES, Refusal::StoreLength)?;
+    refuse_unless(time_ok(words, time), Refusal::Time)?;
+    refuse_unless(slot_ok(words, slot), Refusal::Slot)?;
+    refuse_unless(length_ok(msg, len), Refusal::Length)?;
     let tx = tx_of(words);
-    if !open_ok(tx.send_finish_sent, msg) {
-        return Err(Refusal::Finished);
-    }
-    if !totals_ok(words, tx, slot, msg, len) {
-        return Err(Refusal::Total);
-    }
-    if tx.txed_count < PACKETS {
-        return Ok(());
-    }
-    Err(Refusal::Full)
+    refuse_unless(open_ok(tx.send_finish_sent, msg), Refusal::Finished)?;
+    refuse_unless(totals_ok(words, tx, slot, msg, len), Refusal::Total)?;
+    refuse_unless(tx.txed_count < PACKETS, Refusal::Full)
 }
 
 // A SendFinish ends sending.
-fn put_finish(words: &mut [u64], msg: ReliableMsg)
-    requires { length words.old ≡ WORDS }
+fn put_finish(words: &mut [u64; WORDS], msg: ReliableMsg)
     ensures { state_of words.new ≡ with_tx (state_of words.old) (finished_tx (state_of words.old).tx msg) }
 {
     if msg.kind() == LinkMsg::MSG_SEND_FINISH {
@@ -92,8 +83,8 @@ fn put_finish(words: &mut [u64], msg: ReliableMsg)
 }
 
 // The sending half with one packet more.
-fn put_next(words: &mut [u64], slot: u8, link: u64, time: u64, msg: ReliableMsg, len: u32)
-    requires { (length words.old ≡ WORDS) × (len < 2 ^ 24) × ((state_of words.old).tx.txed_count < PACKETS) × ((state_of words.old).tx.txed_unacked + len < 2 ^ 32) × ((state_of words.old).tx.txed_unconsumed + len < 2 ^ 32) }
+fn put_next(words: &mut [u64; WORDS], slot: u8, link: u64, time: u64, msg: ReliableMsg, len: u32)
+    requires { (len < 2 ^ 24) × ((state_of words.old).tx.txed_count < PACKETS) × ((state_of words.old).tx.txed_unacked + len < 2 ^ 32) × ((state_of words.old).tx.txed_unconsumed + len < 2 ^ 32) }
     ensures { state_of words.new ≡ with_tx (state_of words.old) (sent_tx (state_of words.old).tx slot link time msg len) }
 {
     let tx = tx_of(words);
@@ -109,8 +100,8 @@ fn put_next(words: &mut [u64], slot: u8, link: u64, time: u64, msg: ReliableMsg,
 }
 
 // Most messages are a Data, which tells of nothing.
-fn put_told(words: &mut [u64], msg: ReliableMsg)
-    requires { (length words.old ≡ WORDS) × (count_of msg ≤ (state_of words.old).rx.rxed_reliable_consumed) }
+fn put_told(words: &mut [u64; WORDS], msg: ReliableMsg)
+    requires { count_of msg ≤ (state_of words.old).rx.rxed_reliable_consumed }
     ensures { state_of words.new ≡ with_rx (state_of words.old) (told_rx (state_of words.old).rx msg) }
 {
     if let ReliableMsg::Data = msg {
@@ -120,8 +111,8 @@ fn put_told(words: &mut [u64], msg: ReliableMsg)
     put_rxed_reliable_consumed(words, rx.rxed_reliable_consumed - msg.count());
 }
 
-fn put_sent(words: &mut [u64], slot: u8, time: u64, msg: ReliableMsg, len: u32)
-    requires { (length words.old ≡ WORDS) × (slot < 8) × (len < 2 ^ 24) × Room (state_of words.old) slot msg len }
+fn put_sent(words: &mut [u64; WORDS], slot: u8, time: u64, msg: ReliableMsg, len: u32)
+    requires { (slot < 8) × (len < 2 ^ 24) × Room (state_of words.old) slot msg len }
     ensures { state_of words.new ≡ sent_state (state_of words.old) slot time msg len }
 {
     let link = row_of(words, slot).link_id;
@@ -133,7 +124,7 @@ fn put_sent(words: &mut [u64], slot: u8, time: u64, msg: ReliableMsg, len: u32)
 
 // Takes the next number for a message, keeps it, and copies its data to the number's cell of the sent store.
 pub fn send(
-    words: &mut [u64],
+    words: &mut [u64; WORDS],
     store: &mut [u8],
     slot: u8,
     time: u64,
@@ -147,16 +138,11 @@ pub fn send(
     ensures left { Left (send_told result).number words.old words.new }
 {
     let len = payload.len();
-    let verdict = send_verdict(words, store.len(), slot, time, msg, len);
-    match verdict {
-        Err(e) => Err(e),
-        Ok(()) => {
-            let seq = tx_of(words).tx_seq;
-            let start = cell_of(seq) * DATA_BYTES;
-            let end = start + len;
-            copy(payload, &mut store[start..end]);
-            put_sent(words, slot, time, msg, len as u32);
-            Ok(seq)
-        }
-    }
+    send_verdict(words, store.len(), slot, time, msg, len)?;
+    let seq = tx_of(words).tx_seq;
+    let start = cell_of(seq) * DATA_BYTES;
+    let end = start + len;
+    copy(payload, &mut store[start..end]);
+    put_sent(words, slot, time, msg, len as u32);
+    Ok(seq)
 }

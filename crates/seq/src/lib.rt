@@ -22,32 +22,21 @@ impl Seq {
     pub fn add(self, n: u32) -> Self
         ensures { result ≡ seq_of (plus self.0 n) }
     {
-        let a = self.0;
-        Self(std::num::wrapping_add_u32(a, n))
+        Self(self.0.wrapping_add(n))
     }
 
     // The number n before this one.
     pub fn sub(self, n: u32) -> Self
         ensures { result ≡ seq_of (minus self.0 n) }
     {
-        let a = self.0;
-        Self(std::num::wrapping_sub_u32(a, n))
+        Self(self.0.wrapping_sub(n))
     }
 
-    // Whether the two are one number.
-    pub fn eq(self, other: Self) -> bool
-        ensures { result ≡ (self.0 == other.0) }
+    // How many numbers lead from other to this one, going round at 2^32 the shorter way. Only the one place below asks for it.
+    fn difference(self, other: Self) -> i32
+        ensures { result ≡ signed (minus self.0 other.0) }
     {
-        self.0 == other.0
-    }
-
-    // How many numbers lead from other up to this one, going round at 2^32. Only the one place below asks for it.
-    fn difference(self, other: Self) -> u32
-        ensures { result ≡ minus self.0 other.0 }
-    {
-        let a = self.0;
-        let b = other.0;
-        std::num::wrapping_sub_u32(a, b)
+        self.0.wrapping_sub(other.0).cast_signed()
     }
 
     // The one place that says how far this number is from other: negative where it is before it, none where the two are too far from
@@ -56,23 +45,18 @@ impl Seq {
         ensures { result ≡ distance_of self.0 other.0 }
     {
         let d = self.difference(other);
-        if d < Self::FAR {
-            return Some(as_signed(d));
+        if d.unsigned_abs() < Self::FAR {
+            Some(d)
+        } else {
+            None
         }
-        if 0xFFFF_FFFF - d < Self::FAR - 1 {
-            return Some(as_signed(d));
-        }
-        None
     }
 
     // Whether the two are not far from each other.
     pub fn is_near(self, other: Self) -> bool
         ensures { result ≡ near self.0 other.0 }
     {
-        match self.distance(other) {
-            Some(_) => true,
-            None => false,
-        }
+        self.distance(other).is_some()
     }
 
     // Not by comparing raw numbers: at the wrap the next tile would look old. Of two that are far apart neither is before the other.
@@ -85,17 +69,13 @@ impl Seq {
         }
     }
 
-    // How many numbers past other this one is: 2^30, more than any size, where it is before it or far from it.
+    // How many numbers past other this one is: 2^30, more than any size, where it is before it or far from it. Not None there: the
+    // definition `past`, which contracts above cite, has that number.
     pub fn past(self, other: Self) -> u32
         ensures { result ≡ past self.0 other.0 }
     {
         match self.distance(other) {
-            Some(d) => {
-                if 0 <= d {
-                    return d as u32;
-                }
-                Self::FAR
-            }
+            Some(d) => u32::try_from(d).unwrap_or(Self::FAR),
             None => Self::FAR,
         }
     }
@@ -118,16 +98,4 @@ fn usable_interval() -> i32
     ensures { result ≡ pos USABLE_INTERVAL }
 {
     Seq::USABLE_INTERVAL
-}
-
-// A word of 32 bits read as signed. Rattle's `as` refuses a cast that changes the value.
-fn as_signed(d: u32) -> i32
-    ensures { result ≡ signed d }
-{
-    if d < 0x8000_0000 {
-        d as i32
-    } else {
-        let m = (0xFFFF_FFFF - d) as i32;
-        -1 - m
-    }
 }

@@ -1,19 +1,21 @@
 // A fixed run of pseudo-random numbers: every run of the program meets the same misfortunes.
 
-// The last number of the run.
-pub type Chance = [u64; 1];
-
 const MODULUS: u64 = 2147483647;
 
 const FACTOR: u64 = 48271;
 
-pub fn next(chance: &mut Chance) -> u64 {
-    let number = chance[0] % MODULUS * FACTOR % MODULUS;
-    chance[0] = number;
-    number
-}
+// The last number of the run.
+#[derive(Clone, Copy)]
+pub struct Chance(pub u64);
 
-// Whether something strikes that does so this often in a thousand times.
-pub fn strikes(chance: &mut Chance, in_thousand: u64) -> bool {
-    next(chance) % 1000 < in_thousand
+impl Chance {
+    pub fn next(&mut self) -> u64 {
+        self.0 = self.0 % MODULUS * FACTOR % MODULUS;
+        self.0
+    }
+
+    // Whether something strikes that does so this often in a thousand times.
+    pub fn strikes(&mut self, in_thousand: u64) -> bool {
+        self.next() % 1000 < in_thousand
+    }
 }

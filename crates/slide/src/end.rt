@@ -1,310 +1,234 @@
 // What either end does, whatever it sends: it gives messages to the links, takes what arrives, acks it, doubts a silent link,
 // resends and flushes.
-use crate::air;
-use crate::air::{Air, PLACES, RADIO, ROOM, Room, part};
-use crate::plan::SentStore;
-use crate::tally::{AGAIN, AHEAD, DOUBTED, REFUSED, RESENT, Tally, WINDOW, count};
-use engine::{ConfirmTimeout, DATA_BYTES, PACKETS, State, row_of};
+ghost use Rattle.std.specs.Prelude.{◌<◌, ◌^◌};
+
+use crate::air::{Parcel, RADIO, Side, take};
+use crate::plan::Plan;
+use crate::tally::Tally;
+use crate::world::World;
+use engine::{DATA_BYTES, PACKETS, State, row_of};
 use link::AckTimeout;
 use msg::{LinkMsg, ReliableMsg};
 use refusal::Refusal;
 use seq::Seq;
 
+// 512 numbers before the wrap.
+const START: Seq = Seq(0xFFFF_FE00);
+
 // The links' slots are 0 to 2.
 const LINKS: u8 = 3;
 
-// Writes a message and gives it to a link.
-fn post(tally: &mut Tally, air: &mut Air, slot: u8, to: u8, msg: LinkMsg, payload: &[u8]) {
-    let mut frame = [0u8; 9];
-    let written = msg::write(msg, &mut frame);
-    match written {
-        Ok(n) => air::put(air, slot, to, part(&frame, 0, n), payload, tally),
-        Err(_) => count(tally, REFUSED),
+// An ack may take four round trips, and twice as long after a resend or over the radio: from 10 to 50 ticks.
+const TIMEOUT: AckTimeout = AckTimeout {
+    roundtrip_factor: 4,
+    resent_factor: 2,
+    unreliable_factor: 2,
+    min: 10_000_000,
+    max: 50_000_000,
+};
+
+fn first<T>(run: &mut [T], n: usize) -> &mut [T] {
+    let end = n.min(run.len());
+    &mut run[..end]
+}
+
+// The bytes of a store from a place on; none where it has not so many.
+fn part(store: &[u8], at: usize, length: usize) -> &[u8]
+    requires bounds { (at < 2 ^ 32) × (length < 2 ^ 32) }
+{
+    store.get(at..at + length).unwrap_or(&[])
+}
+
+#[derive(Drop)]
+pub struct End<'a> {
+    side: Side,
+    pub state: State,
+    sent: &'a mut [u8],
+    pub received: &'a mut [u8],
+    pub records: &'a mut [u64],
+}
+
+impl<'a> End<'a> {
+    // An end with its three links, lent as much of the stores as its cells take. Whatever they held in an earlier journey doesn't matter.
+    pub fn new(
+        side: Side,
+        plan: Plan,
+        sent: &'a mut [u8],
+        received: &'a mut [u8],
+        records: &'a mut [u64],
+    ) -> Self {
+        let cells = plan.cells as usize;
+        let lent = first(records, cells);
+        let state = engine::fresh(START, plan.buffer, plan.cells, lent).state;
+        let mut end = End {
+            side,
+            state,
+            sent,
+            received: first(received, cells * DATA_BYTES),
+            records: lent,
+        };
+        for identity in [1, 2, 3] {
+            end.add_link(identity);
+        }
+        end
     }
 }
 
-// Gives a message to a link, and counts it where the engine takes it: a full packet table or a dead link has it wait.
-pub fn give(
-    s: State,
-    sent: &mut SentStore,
-    tally: &mut Tally,
-    air: &mut Air,
-    slot: u8,
-    to: u8,
-    now: u64,
-    msg: ReliableMsg,
-    payload: &[u8],
-    what: usize,
-) -> State {
-    let result = engine::send(s, sent, slot, now, msg, payload);
-    let answer = result.answer;
-    let Ok(seq) = answer else {
-        return s;
-    };
-    count(tally, what);
-    post(tally, air, slot, to, msg.to_link_msg(seq), payload);
-    result.state
-}
-
-fn note_arrival(tally: &mut Tally, expected: Seq, seq: Seq) {
-    if seq.is_before(expected) {
-        count(tally, AGAIN);
-    } else if !seq.eq(expected) {
-        count(tally, AHEAD);
+impl End<'_> {
+    pub fn add_link(&mut self, identity: u64) {
+        self.state = engine::add(self.state, identity, 0, None, false, false).state;
     }
-}
 
-fn refuse(tally: &mut Tally, why: Refusal) {
-    count(tally, REFUSED);
-    match why {
-        Refusal::Window => count(tally, WINDOW),
-        _ => {}
+    pub fn remove_link(&mut self, slot: u8) {
+        self.state = engine::remove(self.state, slot).state;
+    }
+
+    // Gives a message to a link, and says whether the engine takes it: a full packet table or a dead link has it wait.
+    pub fn give(&mut self, world: &mut World, slot: u8, msg: ReliableMsg, payload: &[u8]) -> bool {
+        let to = self.side.other();
+        let out = engine::send(self.state, self.sent, slot, world.now(), msg, payload);
+        let Ok(seq) = out.answer else {
+            return false;
+        };
+        world.post(slot, to, msg.to_link_msg(seq), payload);
+        self.state = out.state;
+        true
+    }
+
+    fn receive(&mut self, tally: &mut Tally, parcel: &Parcel, msg: ReliableMsg, seq: Seq) {
+        let expected = self.state.rx.rx_seq;
+        if seq.is_before(expected) {
+            tally.again.add_one();
+        } else if seq != expected {
+            tally.ahead.add_one();
+        }
+        let out = engine::receive(
+            self.state,
+            self.received,
+            self.records,
+            parcel.slot,
+            msg,
+            seq,
+            parcel.payload(),
+        );
+        note_refusal(tally, out.outcome);
+        self.state = out.state;
+    }
+
+    // A parcel has arrived.
+    fn arrive(&mut self, tally: &mut Tally, parcel: &Parcel, now: u64) {
+        let Ok(msg) = msg::read(parcel.frame()) else {
+            tally.refused.add_one();
+            return;
+        };
+        if let Some((reliable, seq)) = ReliableMsg::from_link_msg(msg) {
+            self.receive(tally, parcel, reliable, seq);
+            return;
+        }
+        let LinkMsg::Ack { received } = msg else {
+            tally.refused.add_one();
+            return;
+        };
+        let out = engine::ack(self.state, parcel.slot, now, received);
+        note_refusal(tally, out.outcome);
+        self.state = out.state;
+    }
+
+    // All that has arrived.
+    fn arrivals(&mut self, world: &mut World) {
+        let now = world.now();
+        for place in world.air.places.iter_mut() {
+            if let Some(parcel) = take(place, self.side) {
+                self.arrive(&mut world.tally, &parcel, now);
+            }
+        }
+    }
+
+    // Sends the acks that wait on a link, over that link.
+    fn send_acks(&mut self, world: &mut World, slot: u8) {
+        let to = self.side.other();
+        for _ in 0..row_of(self.state, slot).ack_count {
+            let out = engine::take_ack(self.state, slot);
+            let Ok(received) = out.answer else {
+                return;
+            };
+            world.post(slot, to, LinkMsg::Ack { received }, b"");
+            self.state = out.state;
+        }
+    }
+
+    pub fn flush(&mut self, slot: u8, now: u64) {
+        self.state = engine::flush(self.state, slot, now).state;
+    }
+
+    // A silent link is unconfirmed, so that what it has is resent elsewhere; the host then finds it in order again.
+    fn doubt(&mut self, tally: &mut Tally, slot: u8) {
+        tally.doubted.add_one();
+        let unconfirmed = engine::unconfirm(self.state, slot).state;
+        self.state = engine::confirm(unconfirmed, slot).state;
+    }
+
+    // The link of the oldest packet in flight, whether that was flushed, and its deadline. The first question tells the link, and the
+    // second is asked with the word on that link: the radio's round trip says little.
+    fn deadline(&self) -> Option<(u8, bool, u64)> {
+        let asked = engine::earliest_confirm_timeout(self.state, TIMEOUT, false);
+        let (slot, is_flushed, _) = asked.ok()??;
+        let named = engine::earliest_confirm_timeout(self.state, TIMEOUT, slot == RADIO);
+        let (_, _, deadline) = named.ok()??;
+        Some((slot, is_flushed, deadline))
+    }
+
+    // Gives up on the link of the oldest packet in flight once its deadline has come: what was not flushed is flushed first, as the
+    // original does.
+    fn watch(&mut self, world: &mut World) {
+        let Some((slot, is_flushed, deadline)) = self.deadline() else {
+            return;
+        };
+        if world.now() < deadline {
+            return;
+        }
+        if is_flushed {
+            self.doubt(&mut world.tally, slot);
+        } else {
+            self.flush(slot, world.now());
+        }
+    }
+
+    // Resends the oldest queued message over a link, where the engine allows it.
+    fn resend(&mut self, world: &mut World, slot: u8) {
+        if self.state.tx.resend_count == 0 {
+            return;
+        }
+        let seq = self.state.tx.resend_queue[0];
+        let out = engine::resend(self.state, slot, world.now(), seq);
+        let Ok((msg, len)) = out.answer else {
+            return;
+        };
+        world.tally.resent.add_one();
+        let at = seq.0 as usize % PACKETS * DATA_BYTES;
+        let to = self.side.other();
+        let payload = part(self.sent, at, len as usize);
+        world.post(slot, to, msg.to_link_msg(seq), payload);
+        self.state = out.state;
+    }
+
+    // A tick at an end; the link whose turn it is is flushed.
+    pub fn turn(&mut self, world: &mut World) {
+        self.arrivals(world);
+        self.watch(world);
+        for slot in 0..LINKS {
+            self.send_acks(world, slot);
+            self.resend(world, slot);
+        }
+        self.flush(world.slot(), world.now());
     }
 }
 
 fn note_refusal(tally: &mut Tally, outcome: Result<(), Refusal>) {
-    match outcome {
-        Ok(()) => {}
-        Err(why) => refuse(tally, why),
+    if outcome.is_err() {
+        tally.refused.add_one();
     }
-}
-
-fn receive(
-    s: State,
-    received: &mut [u8],
-    records: &mut [u64],
-    tally: &mut Tally,
-    slot: u8,
-    msg: ReliableMsg,
-    seq: Seq,
-    payload: &[u8],
-) -> State {
-    let rx = s.rx;
-    note_arrival(tally, rx.rx_seq, seq);
-    let changed = engine::receive(s, received, records, slot, msg, seq, payload);
-    let outcome = changed.outcome;
-    note_refusal(tally, outcome);
-    changed.state
-}
-
-fn ack(s: State, tally: &mut Tally, slot: u8, msg: LinkMsg, now: u64) -> State {
-    let LinkMsg::Ack { received } = msg else {
-        count(tally, REFUSED);
-        return s;
-    };
-    let changed = engine::ack(s, slot, now, received);
-    let outcome = changed.outcome;
-    note_refusal(tally, outcome);
-    changed.state
-}
-
-// A frame has arrived.
-fn arrive(
-    s: State,
-    received: &mut [u8],
-    records: &mut [u64],
-    tally: &mut Tally,
-    room: &Room,
-    now: u64,
-) -> State {
-    let slot = air::slot_of(room);
-    let reading = msg::read(air::frame_of(room));
-    let Ok(msg) = reading else {
-        count(tally, REFUSED);
-        return s;
-    };
-    let carried = ReliableMsg::from_link_msg(msg);
-    match carried {
-        Some((reliable, seq)) => receive(
-            s,
-            received,
-            records,
-            tally,
-            slot,
-            reliable,
-            seq,
-            air::payload_of(room),
-        ),
-        None => ack(s, tally, slot, msg, now),
+    if outcome == Err(Refusal::Window) {
+        tally.window.add_one();
     }
-}
-
-// What has arrived at a place, if it goes to this end.
-fn arrive_at(
-    s: State,
-    received: &mut [u8],
-    records: &mut [u64],
-    tally: &mut Tally,
-    air: &mut Air,
-    k: usize,
-    end: u8,
-    now: u64,
-) -> State {
-    let mut room = [0u8; ROOM];
-    if !air::take(air, k, end, &mut room) {
-        return s;
-    }
-    arrive(s, received, records, tally, &room, now)
-}
-
-// All that has arrived at an end.
-fn arrivals(
-    s: State,
-    received: &mut [u8],
-    records: &mut [u64],
-    tally: &mut Tally,
-    air: &mut Air,
-    end: u8,
-    now: u64,
-) -> State {
-    let mut out = s;
-    for k in 0..PLACES {
-        out = arrive_at(out, received, records, tally, air, k, end, now);
-    }
-    out
-}
-
-// Sends the acks that wait on a link, over that link.
-fn send_acks(s: State, tally: &mut Tally, air: &mut Air, slot: u8, to: u8) -> State {
-    let row = row_of(s, slot);
-    let mut out = s;
-    for _ in 0..row.ack_count {
-        let taken = engine::take_ack(out, slot);
-        let answer = taken.answer;
-        let Ok(received) = answer else {
-            return out;
-        };
-        post(tally, air, slot, to, LinkMsg::Ack { received }, b"");
-        out = taken.state;
-    }
-    out
-}
-
-// A silent link is unconfirmed, so that what it has is resent elsewhere; the host then finds it in order again.
-fn doubt(s: State, tally: &mut Tally, slot: u8) -> State {
-    count(tally, DOUBTED);
-    let unconfirmed = engine::unconfirm(s, slot);
-    let state = unconfirmed.state;
-    let confirmed = engine::confirm(state, slot);
-    confirmed.state
-}
-
-// An ack may take four round trips, and twice as long after a resend or over the radio: from 10 to 50 ticks.
-fn timeout() -> AckTimeout {
-    AckTimeout {
-        roundtrip_factor: 4,
-        resent_factor: 2,
-        unreliable_factor: 2,
-        min: 10_000_000,
-        max: 50_000_000,
-    }
-}
-
-// The deadline has come: what was not flushed is flushed first, as the original does.
-fn give_up(s: State, tally: &mut Tally, slot: u8, flushed: bool, now: u64) -> State {
-    if flushed {
-        return doubt(s, tally, slot);
-    }
-    let changed = engine::flush(s, slot, now);
-    changed.state
-}
-
-// Gives up on the link of the oldest packet in flight once its deadline has come. The first question tells the link, and the
-// second is asked with the word on that link: the radio's round trip says little.
-fn watch(s: State, tally: &mut Tally, now: u64) -> State {
-    let asked = engine::earliest_confirm_timeout(s, timeout(), false);
-    let Ok(Some((slot, flushed, _))) = asked else {
-        return s;
-    };
-    let named = engine::earliest_confirm_timeout(s, timeout(), slot == RADIO);
-    let Ok(Some((_, _, deadline))) = named else {
-        return s;
-    };
-    if now < deadline {
-        return s;
-    }
-    give_up(s, tally, slot, flushed, now)
-}
-
-// Resends the oldest queued message over a link, where the engine allows it.
-fn resend(
-    s: State,
-    sent: &SentStore,
-    tally: &mut Tally,
-    air: &mut Air,
-    slot: u8,
-    to: u8,
-    now: u64,
-) -> State {
-    let tx = s.tx;
-    if tx.resend_count == 0 {
-        return s;
-    }
-    let queue = tx.resend_queue;
-    let seq = queue[0];
-    let result = engine::resend(s, slot, now, seq);
-    let answer = result.answer;
-    let Ok((msg, len)) = answer else {
-        return s;
-    };
-    count(tally, RESENT);
-    let at = seq.0 as usize % PACKETS * DATA_BYTES;
-    post(
-        tally,
-        air,
-        slot,
-        to,
-        msg.to_link_msg(seq),
-        part(sent, at, len as usize),
-    );
-    result.state
-}
-
-// One link's doings.
-fn serve(
-    s: State,
-    sent: &SentStore,
-    tally: &mut Tally,
-    air: &mut Air,
-    slot: u8,
-    to: u8,
-    now: u64,
-) -> State {
-    let acked = send_acks(s, tally, air, slot, to);
-    resend(acked, sent, tally, air, slot, to, now)
-}
-
-fn serve_all(
-    s: State,
-    sent: &SentStore,
-    tally: &mut Tally,
-    air: &mut Air,
-    to: u8,
-    now: u64,
-) -> State {
-    let mut out = s;
-    for slot in 0..LINKS {
-        out = serve(out, sent, tally, air, slot, to, now);
-    }
-    out
-}
-
-// A tick at an end; the link whose turn it is is flushed.
-pub fn turn(
-    s: State,
-    sent: &SentStore,
-    received: &mut [u8],
-    records: &mut [u64],
-    tally: &mut Tally,
-    air: &mut Air,
-    end: u8,
-    to: u8,
-    slot: u8,
-    now: u64,
-) -> State {
-    let arrived = arrivals(s, received, records, tally, air, end, now);
-    let watched = watch(arrived, tally, now);
-    let served = serve_all(watched, sent, tally, air, to, now);
-    let flushed = engine::flush(served, slot, now);
-    flushed.state
 }

@@ -3,91 +3,69 @@
 // disk stalls, with few receive cells and with many.
 #![tactic(auto)]
 
+ghost use Rattle.std.specs.Prelude.{◌<◌, ◌^◌};
+
 mod air;
 mod chance;
 mod end;
 mod journey;
 mod map;
+mod output;
 mod picture;
 mod plan;
+mod report;
 mod scanner;
 mod server;
-mod stall;
 mod tally;
+mod world;
 
-use crate::plan::{
-    JOURNEYS, LARGE, LARGE_BYTES, LargeRecords, LargeStore, Plan, SMALL, SMALL_BYTES, SentStore,
-    SmallRecords, SmallStore,
-};
-use crate::tally::{KINDS, Tally};
+use crate::air::Side;
+use crate::end::End;
+use crate::journey::Journey;
+use crate::output::Output;
+use crate::plan::{JOURNEYS, LARGE, LARGE_BYTES, PLAIN, Plan, SMALL, SMALL_BYTES};
+use crate::world::World;
 use engine::SENT_BYTES;
 
-fn heading(plan: Plan, tally: &mut Tally) {
-    if plan.is_stalling {
-        stall::heading(plan, tally);
-    } else {
-        map::heading(tally);
-    }
+// The stores that an end may be lent, and its records: room for so many cells.
+#[derive(Drop)]
+struct Stores<'a, const CELLS: usize, const BYTES: usize> {
+    sent: &'a mut [u8; SENT_BYTES],
+    received: &'a mut [u8; BYTES],
+    records: &'a mut [u64; CELLS],
 }
 
-fn report(plan: Plan, tally: &mut Tally, empty: bool) {
-    if plan.is_stalling {
-        stall::report(tally, empty);
-    } else {
-        map::report(tally, empty);
+impl<'a, const CELLS: usize, const BYTES: usize> Stores<'a, CELLS, BYTES> {
+    fn end(self, side: Side, plan: Plan) -> End<'a>
+        requires cells { CELLS < 2 ^ 32 }
+        requires bytes { BYTES < 2 ^ 32 }
+    {
+        let Stores {
+            sent,
+            received,
+            records,
+        } = self;
+        End::new(side, plan, sent, received, records)
     }
 }
 
 fn tell(
     plan: Plan,
-    scanner_sent: &mut SentStore,
-    scanner_received: &mut SmallStore,
-    scanner_records: &mut SmallRecords,
-    server_sent: &mut SentStore,
-    server_received: &mut LargeStore,
-    server_records: &mut LargeRecords,
-    tally: &mut Tally,
+    scanner: Stores<SMALL, SMALL_BYTES>,
+    server: Stores<LARGE, LARGE_BYTES>,
+    out: &mut Output,
 ) {
-    tally::clear(tally);
-    heading(plan, tally);
-    let empty = journey::make(
-        plan,
-        scanner_sent,
-        scanner_received,
-        scanner_records,
-        server_sent,
-        server_received,
-        server_records,
-        tally,
-    );
-    report(plan, tally, empty);
+    let mut world = World::new(plan);
+    let mut journey = Journey {
+        scanner: scanner.end(Side::Scanner, PLAIN),
+        server: server.end(Side::Server, plan),
+    };
+    report::heading(plan, out);
+    let is_empty = journey.run(&mut world, out);
+    report::report(plan, &world.tally, is_empty, out);
 }
 
-// The journeys in turn, all with the same stores: what an earlier one left in them doesn't matter.
-fn tell_all(
-    scanner_sent: &mut SentStore,
-    scanner_received: &mut SmallStore,
-    scanner_records: &mut SmallRecords,
-    server_sent: &mut SentStore,
-    server_received: &mut LargeStore,
-    server_records: &mut LargeRecords,
-    tally: &mut Tally,
-) {
-    for k in 0..JOURNEYS {
-        tell(
-            plan::journey(k),
-            scanner_sent,
-            scanner_received,
-            scanner_records,
-            server_sent,
-            server_received,
-            server_records,
-            tally,
-        );
-    }
-}
-
-// The stores are made here, once, and lent to everything below.
+// The stores are made here, once, and lent to the journeys in turn: what an earlier one left in them doesn't matter.
 fn main() {
     let mut scanner_sent = [0u8; SENT_BYTES];
     let mut scanner_received = [0u8; SMALL_BYTES];
@@ -95,15 +73,19 @@ fn main() {
     let mut server_sent = [0u8; SENT_BYTES];
     let mut server_received = [0u8; LARGE_BYTES];
     let mut server_records = [0u64; LARGE];
-    let mut tally = [0u64; KINDS];
-    tell_all(
-        &mut scanner_sent,
-        &mut scanner_received,
-        &mut scanner_records,
-        &mut server_sent,
-        &mut server_received,
-        &mut server_records,
-        &mut tally,
-    );
-    map::close(&tally);
+    let mut out = Output::NEW;
+    for plan in JOURNEYS {
+        let scanner = Stores {
+            sent: &mut scanner_sent,
+            received: &mut scanner_received,
+            records: &mut scanner_records,
+        };
+        let server = Stores {
+            sent: &mut server_sent,
+            received: &mut server_received,
+            records: &mut server_records,
+        };
+        tell(plan, scanner, server, &mut out);
+    }
+    out.close();
 }

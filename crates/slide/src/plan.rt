@@ -1,5 +1,5 @@
 // The journeys: how many cells the server's receive table has, how large its receive buffer is, and whether its viewer's disk stalls.
-use engine::{DATA_BYTES, LEAST_CELLS, SENT_BYTES};
+use engine::{DATA_BYTES, LEAST_CELLS};
 
 const FEW: u32 = LEAST_CELLS;
 
@@ -13,23 +13,6 @@ pub const SMALL_BYTES: usize = SMALL * DATA_BYTES;
 
 pub const LARGE_BYTES: usize = LARGE * DATA_BYTES;
 
-// The buffer is as large as the cells allow, so that they alone decide what there is room for.
-const SMALL_BUFFER: u32 = SMALL_BYTES as u32;
-
-const LARGE_BUFFER: u32 = LARGE_BYTES as u32;
-
-pub type SentStore = [u8; SENT_BYTES];
-
-// The scanner's receive table is small in every journey: the server sends it no data.
-pub type SmallStore = [u8; SMALL_BYTES];
-
-pub type SmallRecords = [u64; SMALL];
-
-// What the server has for its receive table. A journey is lent as much of it as its cells take.
-pub type LargeStore = [u8; LARGE_BYTES];
-
-pub type LargeRecords = [u64; LARGE];
-
 // When the disk stalls and when it goes on. Meanwhile cable 2 dies and the numbers wrap.
 pub const STALL: u64 = 400;
 
@@ -42,31 +25,31 @@ pub struct Plan {
     pub is_stalling: bool,
 }
 
-pub const JOURNEYS: u8 = 3;
+// The buffer is as large as the cells allow, so that they alone decide what there is room for. The scanner's end is this one in every
+// journey: the server sends it no data.
+pub const PLAIN: Plan = Plan {
+    cells: FEW,
+    buffer: SMALL_BYTES as u32,
+    is_stalling: false,
+};
 
 // The journeys in turn. The map is shown of the first, whose viewer doesn't stall.
-pub fn journey(k: u8) -> Plan {
-    if k < 2 {
-        Plan {
-            cells: FEW,
-            buffer: SMALL_BUFFER,
-            is_stalling: k == 1,
-        }
-    } else {
-        Plan {
-            cells: MANY,
-            buffer: LARGE_BUFFER,
-            is_stalling: true,
-        }
+pub const JOURNEYS: [Plan; 3] = [
+    PLAIN,
+    Plan {
+        is_stalling: true,
+        ..PLAIN
+    },
+    Plan {
+        cells: MANY,
+        buffer: LARGE_BYTES as u32,
+        is_stalling: true,
+    },
+];
+
+impl Plan {
+    // Whether the viewer takes nothing at this tick.
+    pub fn is_stalled(self, tick: u64) -> bool {
+        self.is_stalling && (STALL..STALL_END).contains(&tick)
     }
-}
-
-// The scanner's end is in every journey that of the first.
-pub fn scanner() -> Plan {
-    journey(0)
-}
-
-// Whether the viewer takes nothing at this tick.
-pub fn is_stalled(plan: Plan, tick: u64) -> bool {
-    plan.is_stalling && STALL <= tick && tick < STALL_END
 }

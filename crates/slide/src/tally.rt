@@ -1,95 +1,80 @@
-// What happened, counted by kind.
-pub type Tally = [u64; KINDS];
+// What happened on a journey, counted by kind.
 
-pub const KINDS: usize = 23;
+// How often something happened, or the greatest number so far.
+#[derive(Clone, Copy, PartialEq, Eq)]
+pub struct Count(pub u64);
 
-// Frames put on a link, and the misfortunes that struck them.
-pub const FRAMES: usize = 0;
+impl Count {
+    pub const NONE: Self = Self(0);
 
-pub const LOST: usize = 1;
+    // Nothing here happens so often that the number would stay as it is.
+    pub fn add_one(&mut self) {
+        self.0 = self.0.saturating_add(1);
+    }
 
-pub const REPEATED: usize = 2;
-
-pub const DELAYED: usize = 3;
-
-pub const CUT_OFF: usize = 4;
-
-// Reliable messages that arrived before one with a smaller number, or again after they had been passed.
-pub const AHEAD: usize = 5;
-
-pub const AGAIN: usize = 6;
-
-// Silent links that were doubted, and messages that were resent.
-pub const DOUBTED: usize = 7;
-
-pub const RESENT: usize = 8;
-
-// Calls and frames that were refused, and those of them that were refused with 12: the server had no cell for the number.
-pub const REFUSED: usize = 9;
-
-pub const WINDOW: usize = 18;
-
-// Ticks; those at which the scanner had a tile and no room for it while the server had no cell for the oldest message that the scanner
-// kept; and those at which it had no room otherwise, since an ack or a Consumed was still under way.
-pub const TICKS: usize = 19;
-
-pub const BARRED: usize = 20;
-
-pub const LATE: usize = 21;
-
-// The most messages that were ready at the server and not taken.
-pub const WAITED: usize = 22;
-
-// Tiles given by the scanner, and its SendFinish.
-pub const GIVEN: usize = 10;
-
-pub const ENDED: usize = 11;
-
-// Tiles handed out by the server at their place with their bytes; whatever else it handed out; and the SendFinish after the last
-// tile.
-pub const GOOD: usize = 12;
-
-pub const WRONG: usize = 13;
-
-pub const FINISHED: usize = 14;
-
-// Consumed messages given by the server.
-pub const TOLD: usize = 15;
-
-// What the map is to say beside its next row.
-pub const EVENT: usize = 16;
-
-// Parts of the map and the report that could not be written.
-pub const UNWRITTEN: usize = 17;
-
-pub const DIED: u64 = 1;
-
-pub const RETURNED: u64 = 2;
-
-pub const WRAPPED: u64 = 3;
-
-// One more; nothing here happens a million times.
-pub fn count(tally: &mut Tally, what: usize) {
-    if what < KINDS {
-        let n = tally[what];
-        if n < 1_000_000 {
-            tally[what] = n + 1;
-        }
+    pub fn raise(&mut self, n: u64) {
+        self.0 = self.0.max(n);
     }
 }
 
-// A new journey is counted from nothing; only what could not be written stays.
-pub fn clear(tally: &mut Tally) {
-    let unwritten = tally[UNWRITTEN];
-    *tally = [0u64; KINDS];
-    tally[UNWRITTEN] = unwritten;
+#[derive(Clone, Copy)]
+pub struct Tally {
+    // frames put on a link, and the misfortunes that struck them
+    pub frames: Count,
+    pub lost: Count,
+    pub repeated: Count,
+    pub delayed: Count,
+    pub cut_off: Count,
+    // reliable messages that arrived before one with a smaller number, or again after they had been passed
+    pub ahead: Count,
+    pub again: Count,
+    // silent links that were doubted, and messages that were resent
+    pub doubted: Count,
+    pub resent: Count,
+    // calls and frames that were refused, and those of them that were refused with 12: the server had no cell for the number
+    pub refused: Count,
+    pub window: Count,
+    // tiles given by the scanner, and its SendFinish
+    pub given: Count,
+    pub ended: Count,
+    // tiles handed out by the server at their place with their bytes; whatever else it handed out; and the SendFinish after the last
+    // tile
+    pub good: Count,
+    pub wrong: Count,
+    pub finished: Count,
+    // Consumed messages given by the server
+    pub told: Count,
+    // ticks; those at which the scanner had a tile and no room for it while the server had no cell for the oldest message that the scanner
+    // kept; and those at which it had no room otherwise, since an ack or a Consumed was still under way
+    pub ticks: Count,
+    pub barred: Count,
+    pub late: Count,
+    // the most messages that were ready at the server and not taken
+    pub waited: Count,
 }
 
-// The greatest number so far.
-pub fn raise(tally: &mut Tally, what: usize, n: u64) {
-    if what < KINDS {
-        if tally[what] < n {
-            tally[what] = n;
-        }
-    }
+impl Tally {
+    pub const NONE: Self = Self {
+        frames: Count::NONE,
+        lost: Count::NONE,
+        repeated: Count::NONE,
+        delayed: Count::NONE,
+        cut_off: Count::NONE,
+        ahead: Count::NONE,
+        again: Count::NONE,
+        doubted: Count::NONE,
+        resent: Count::NONE,
+        refused: Count::NONE,
+        window: Count::NONE,
+        given: Count::NONE,
+        ended: Count::NONE,
+        good: Count::NONE,
+        wrong: Count::NONE,
+        finished: Count::NONE,
+        told: Count::NONE,
+        ticks: Count::NONE,
+        barred: Count::NONE,
+        late: Count::NONE,
+        waited: Count::NONE,
+    };
 }

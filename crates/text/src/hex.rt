@@ -1,9 +1,12 @@
 // Hexadecimal digits, in lower case alone.
-ghost use Rattle.std.specs.Prelude.{◌≡◌, ◌+◌, ◌*◌, ◌<◌, length, get_or};
+#![tactic(auto, unfolding(crate::specs::Hex::hex_value, crate::specs::Hex::hex_digit, crate::specs::Hex::hex_byte))]
+
+ghost use Rattle.std.specs.Prelude.{◌≡◌, length};
 ghost use Rattle.text.specs.Hex.{hex_value, hex_digit, hex_byte};
 ghost use Rattle.text.specs.HexRun.{read_hex_of, read_hex_in};
 
 // What a digit is worth, 0 to 15, and 16 for every byte that is no digit.
+// 16 stands for none, and not None: the public contract's definition says so.
 pub fn hex_value(b: u8) -> u8
     ensures { result ≡ hex_value b }
 {
@@ -28,21 +31,10 @@ pub fn hex_byte(high: u8, low: u8) -> Option<u8>
 {
     let h = hex_value(high);
     let l = hex_value(low);
-    if 16 <= h {
-        return None;
-    }
-    if 16 <= l {
+    if 16 <= h || 16 <= l {
         return None;
     }
     Some(h * 16 + l)
-}
-
-// The byte that the pair of digits number i spells.
-fn pair_at(run: &[u8], i: usize) -> Option<u8>
-    requires { i * 2 + 1 < length run.now }
-    ensures { result ≡ hex_byte (get_or run.now (i * 2) 0) (get_or run.now (i * 2 + 1) 0) }
-{
-    hex_byte(run[i * 2], run[i * 2 + 1])
 }
 
 // Reads all of a run, two digits a byte. Bad where a byte is no digit, one digit is left over, or the buffer is too short; the
@@ -55,14 +47,8 @@ pub fn read_hex(run: &[u8], into: &mut [u8]) -> Option<usize>
     if into.len() < n {
         return None;
     }
-    let mut i: usize = 0;
-    while i < n {
-        let pair = pair_at(run, i);
-        let Some(b) = pair else {
-            return None;
-        };
-        into[i] = b;
-        i += 1;
+    for i in 0..n {
+        into[i] = hex_byte(run[i * 2], run[i * 2 + 1])?;
     }
     if run.len() % 2 != 0 {
         return None;

@@ -1,36 +1,32 @@
 // Decimal numbers, without leading zeros.
-ghost use Rattle.std.specs.Prelude.{◌≡◌};
+#![tactic(auto, unfolding(crate::specs::Decimal::digit_value, crate::specs::Decimal::unpadded, crate::specs::Decimal::decimal_of))]
+
+ghost use Rattle.std.specs.Prelude.{◌≡◌, ◌<◌, MatchOption};
 ghost use Rattle.text.specs.Decimal.{digit_value, read_from, decimal_of};
 
-// What a digit is worth, 0 to 9, and 10 for every byte that is no digit.
-fn digit_value(b: u8) -> u64
-    ensures { result ≡ digit_value b }
+// What a digit is worth, 0 to 9.
+fn digit(b: u8) -> Option<u64>
+    ensures { MatchOption result (digit_value b ≡ 10) (λ d. (d ≡ digit_value b) × (d < 10)) }
 {
     match b {
-        b'0'..=b'9' => (b - b'0') as u64,
-        _ => 10,
+        b'0'..=b'9' => Some(u64::from(b - b'0')),
+        _ => None,
     }
 }
 
-// The number that digits spell, up to the limit. The tests come before the product and the sum, so that neither wraps.
+// The number that digits spell, up to the limit. A sum that doesn't fit 64 bits is past every limit.
 fn spelt(word: &[u8], limit: u64) -> Option<u64>
     ensures { result ≡ read_from 0 word.now limit }
 {
     let mut n: u64 = 0;
-    let mut i: usize = 0;
-    while i < word.len() {
-        let d = digit_value(word[i]);
-        if 10 <= d {
+    for byte in word {
+        let d = digit(*byte)?;
+        let tens = n.checked_mul(10)?;
+        let sum = tens.checked_add(d)?;
+        if limit < sum {
             return None;
         }
-        if limit / 10 < n {
-            return None;
-        }
-        if limit - n * 10 < d {
-            return None;
-        }
-        n = n * 10 + d;
-        i += 1;
+        n = sum;
     }
     Some(n)
 }
@@ -39,14 +35,9 @@ fn spelt(word: &[u8], limit: u64) -> Option<u64>
 pub fn read_decimal(word: &[u8], limit: u64) -> Option<u64>
     ensures { result ≡ decimal_of word.now limit }
 {
-    if word.len() == 0 {
-        return None;
+    match word {
+        [] => None,
+        [b'0', _, ..] => None,
+        _ => spelt(word, limit),
     }
-    if word.len() == 1 {
-        return spelt(word, limit);
-    }
-    if word[0] == b'0' {
-        return None;
-    }
-    spelt(word, limit)
 }

@@ -1,8 +1,8 @@
 // The tiles of a slide as bytes, and whether bytes are those of a tile.
-#![tactic(auto)]
+#![tactic(auto, unfolding(crate::specs::Tiles::tile_length, crate::specs::Tiles::tile_byte, crate::specs::Tiles::tile_start, crate::specs::Tiles::tile))]
 
-ghost use Rattle.std.specs.Prelude.{◌≡◌, ◌<◌};
-ghost use Rattle.tiles.specs.Tiles.{tile_length, tile_byte, tile_padded, is_tile};
+ghost use Rattle.std.specs.Prelude.{◌≡◌, ◌<◌, ◌≤◌, length};
+ghost use Rattle.tiles.specs.Tiles.{tile_length, tile_byte, tile_start, tile_padded, is_tile};
 
 // A slide is 41 tiles wide and 29 high, numbered row by row.
 pub const COLUMNS: u16 = 41;
@@ -18,7 +18,7 @@ pub const MAX_TILE: usize = 1024;
 pub fn length(n: u16) -> usize
     ensures { result ≡ tile_length n }
 {
-    3 + n as usize * 89 % 1022
+    3 + usize::from(n) * 89 % 1022
 }
 
 // Byte j of tile n: its shade, its number, then bytes that differ from tile to tile.
@@ -26,17 +26,23 @@ fn byte(shade: u8, n: u16, j: usize) -> u8
     requires { j < 1024 }
     ensures { result ≡ tile_byte shade n j }
 {
-    let number = n as usize;
-    if j == 0 {
-        return shade;
+    let number = usize::from(n);
+    match j {
+        0 => shade,
+        1 => (number / 256 % 256) as u8,
+        2 => (number % 256) as u8,
+        _ => ((number * 31 + j * 7 + j / 16) % 256) as u8,
     }
-    if j == 1 {
-        return (number / 256 % 256) as u8;
+}
+
+// Fills a part with the bytes that tile n starts with.
+fn fill(shade: u8, n: u16, part: &mut [u8])
+    requires { length part.old ≤ 1024 }
+    ensures { part.new ≡ tile_start shade n (length part.old) }
+{
+    for (j, place) in part.iter_mut().enumerate() {
+        *place = byte(shade, n, j);
     }
-    if j == 2 {
-        return (number % 256) as u8;
-    }
-    ((number * 31 + j * 7 + j / 16) % 256) as u8
 }
 
 // Tile n's bytes, and zeros behind them.
@@ -45,11 +51,7 @@ pub fn bytes_of(shade: u8, n: u16) -> [u8; MAX_TILE]
 {
     let len = length(n);
     let mut out = [0u8; MAX_TILE];
-    let mut j = 0;
-    while j < len {
-        out[j] = byte(shade, n, j);
-        j += 1;
-    }
+    fill(shade, n, &mut out[..len]);
     out
 }
 
@@ -57,16 +59,13 @@ pub fn bytes_of(shade: u8, n: u16) -> [u8; MAX_TILE]
 pub fn is_tile(shade: u8, n: u16, bytes: &[u8]) -> bool
     ensures { result ≡ is_tile shade n bytes.now }
 {
-    let len = length(n);
-    if bytes.len() != len {
+    if bytes.len() != length(n) {
         return false;
     }
-    let mut i = 0;
-    while i < len {
-        if bytes[i] != byte(shade, n, i) {
+    for (i, found) in bytes.iter().enumerate() {
+        if *found != byte(shade, n, i) {
             return false;
         }
-        i += 1;
     }
     true
 }

@@ -6,9 +6,7 @@
 //              1: 4 bytes, Sent over slot 0    2: 7 bytes, ResendQueued; the next number is 3
 //     cell     64 of them; ffffffff: 4 bytes, ready; 0 is expected; 1: 5 bytes, held; 2 is the end; 3 bytes were taken
 //     time     5
-ghost use Rattle.std.specs.Prelude.{◌≤◌};
-
-use engine::{Changed, LEAST_CELLS, SENT_BYTES, State};
+use engine::{Changed, LEAST_CELLS, SENT_BYTES, State, TakeResult};
 use msg::ReliableMsg;
 use seq::Seq;
 
@@ -23,7 +21,19 @@ pub type ReceivedStore = [u8; ROOM_BYTES];
 
 pub type Records = [u64; ROOM];
 
+// How many bytes of the received store are lent, and how many records.
+#[derive(Clone, Copy)]
+pub struct Lent {
+    pub bytes: usize,
+    pub words: usize,
+}
+
 // What the good state's cells take, all of which its receive buffer may fill.
+pub const LENT: Lent = Lent {
+    bytes: BYTES,
+    words: WORDS,
+};
+
 pub const WORDS: usize = 64;
 
 pub const BYTES: usize = 65_536;
@@ -35,114 +45,87 @@ pub const FIRST: u32 = 0xFFFF_FFFE;
 
 pub const SECOND: u32 = 0xFFFF_FFFF;
 
-fn add(s: State, id: u64) -> State {
-    let added = engine::add(s, id, 50, Some(40), false, false);
-    added.state
+// The first n, or all where there are fewer.
+pub fn first<T>(run: &[T], n: usize) -> &[T] {
+    &run[..n.min(run.len())]
 }
 
-fn send(s: State, sent: &mut SentStore, slot: u8, time: u64, payload: &[u8]) -> State {
-    let result = engine::send(s, sent, slot, time, ReliableMsg::Data, payload);
-    result.state
+pub fn first_mut<T>(run: &mut [T], n: usize) -> &mut [T] {
+    let end = n.min(run.len());
+    &mut run[..end]
 }
 
-// As much as is asked for, of what there is.
-pub fn fit(asked: usize, most: usize) -> usize
-    ensures { result ≤ most }
-{
-    if asked <= most { asked } else { most }
-}
-
-// Over slot 0, with as much of the store and of the records as the good state's cells take.
+// Over slot 0.
 pub fn receive(
-    s: State,
+    s: &State,
     received: &mut [u8],
     records: &mut [u64],
+    lent: Lent,
     n: u32,
     payload: &[u8],
 ) -> Changed {
-    let bytes = fit(BYTES, received.len());
-    let words = fit(WORDS, records.len());
-    let data = ReliableMsg::Data;
     engine::receive(
-        s,
-        &mut received[0..bytes],
-        &mut records[0..words],
+        *s,
+        first_mut(received, lent.bytes),
+        first_mut(records, lent.words),
         0,
-        data,
+        ReliableMsg::Data,
         Seq(n),
         payload,
     )
 }
 
-// With so many of the records.
-fn is_sound_with(s: State, records: &[u64], words: usize) -> bool {
-    let n = fit(words, records.len());
-    engine::is_sound_with(s, &records[0..n])
+pub fn take(s: &State, records: &mut [u64], words: usize) -> TakeResult {
+    engine::take(*s, first_mut(records, words))
 }
 
-pub fn is_sound(s: State, records: &Records, words: usize) -> bool {
-    is_sound_with(s, records, words)
-}
-
-fn take(s: State, records: &mut [u64]) -> State {
-    let words = fit(WORDS, records.len());
-    let taken = engine::take(s, &mut records[0..words]);
-    taken.state
+pub fn is_sound(s: &State, records: &[u64], words: usize) -> bool {
+    engine::is_sound_with(*s, first(records, words))
 }
 
 pub fn fresh(start: u32, records: &mut [u64]) -> State {
-    let words = fit(WORDS, records.len());
-    let fresh = engine::fresh(Seq(start), BUFFER, LEAST_CELLS, &mut records[0..words]);
-    fresh.state
+    let words = first_mut(records, WORDS);
+    engine::fresh(Seq(start), BUFFER, LEAST_CELLS, words).state
 }
 
 fn linked(records: &mut Records) -> State {
-    let state = fresh(FIRST, records);
-    let one = add(state, 11);
-    let two = add(one, 12);
-    add(two, 13)
+    let mut s = fresh(FIRST, records);
+    for id in [11, 12, 13] {
+        s = engine::add(s, id, 50, Some(40), false, false).state;
+    }
+    s
 }
 
-fn sent_to(s: State, sent: &mut SentStore) -> State {
-    let a = send(s, sent, 0, 1, b"abc");
-    let b = send(a, sent, 1, 1, b"defgh");
-    let c = send(b, sent, 2, 2, b"ij");
-    let d = send(c, sent, 0, 2, b"klmn");
-    send(d, sent, 2, 3, b"opqrstu")
+fn sent_to(mut s: State, sent: &mut SentStore) -> State {
+    for (slot, time, payload) in [
+        (0, 1, "abc"),
+        (1, 1, "defgh"),
+        (2, 2, "ij"),
+        (0, 2, "klmn"),
+        (2, 3, "opqrstu"),
+    ] {
+        let data = payload.as_bytes();
+        s = engine::send(s, sent, slot, time, ReliableMsg::Data, data).state;
+    }
+    s
 }
 
 fn settled(s: State) -> State {
-    let acked = engine::ack(s, 1, 3, Seq(SECOND));
-    let a = acked.state;
-    let unconfirmed = engine::unconfirm(a, 2);
-    let b = unconfirmed.state;
-    let flushed = engine::flush(b, 0, 4);
-    let c = flushed.state;
-    let pinged = engine::ping(c, 1, 5);
-    pinged.state
+    let acked = engine::ack(s, 1, 3, Seq(SECOND)).state;
+    let unconfirmed = engine::unconfirm(acked, 2).state;
+    let flushed = engine::flush(unconfirmed, 0, 4).state;
+    engine::ping(flushed, 1, 5).state
 }
 
-fn hear(
-    s: State,
-    received: &mut ReceivedStore,
-    records: &mut Records,
-    n: u32,
-    payload: &[u8],
-) -> State {
-    let changed = receive(s, received, records, n, payload);
-    changed.state
-}
-
-fn heard(s: State, received: &mut ReceivedStore, records: &mut Records) -> State {
-    let a = hear(s, received, records, FIRST, b"ABC");
-    let b = hear(a, received, records, SECOND, b"DEFG");
-    let c = hear(b, received, records, 1, b"HIJKL");
-    take(c, records)
+fn heard(mut s: State, received: &mut ReceivedStore, records: &mut Records) -> State {
+    for (n, payload) in [(FIRST, "ABC"), (SECOND, "DEFG"), (1, "HIJKL")] {
+        s = receive(&s, received, records, LENT, n, payload.as_bytes()).state;
+    }
+    take(&s, records, WORDS).state
 }
 
 pub fn state(sent: &mut SentStore, received: &mut ReceivedStore, records: &mut Records) -> State {
-    let a = linked(records);
-    let b = sent_to(a, sent);
-    let c = settled(b);
-    heard(c, received, records)
+    let linked = linked(records);
+    let sent_to = sent_to(linked, sent);
+    heard(settled(sent_to), received, records)
 }

@@ -1,182 +1,119 @@
 // What is written.
-use crate::good::{ROOM, ReceivedStore, Records, SentStore};
-use crate::same;
-use engine::{Receiving, State};
+use crate::good::Records;
+use crate::tally::{Answered, Count, Tally};
+use engine::Receiving;
+use std::fmt;
 
 const STDOUT_FILENO: i32 = 1;
 
 const STDERR_FILENO: i32 = 2;
 
-// How many calls answered 0, 1 and 2 to this state, as they must; how many states were handed over, and how many of them differ from
-// the good one; how many calls answered otherwise.
-pub type Tally = [u64; 6];
+// Standard output. Where a part could not be written, that is told, and the rest goes on.
+#[derive(Clone, Copy)]
+struct Output;
 
-const STATES: usize = 3;
-
-const OTHERS: usize = 4;
-
-const OTHERWISE: usize = 5;
-
-fn written(is: bool) {
-    if !is {
-        io::write_all(
-            STDERR_FILENO,
-            b"unsound: standard output cannot be written\n",
-        );
-    }
-}
-
-fn write(text: &[u8]) {
-    written(io::write_all(STDOUT_FILENO, text));
-}
-
-fn number(n: u64) {
-    written(io::print_decimal(STDOUT_FILENO, n));
-}
-
-// One more; nothing here happens a million times.
-fn count(tally: &mut Tally, what: usize) {
-    if what < 6 {
-        let n = tally[what];
-        if n < 1_000_000 {
-            tally[what] = n + 1;
+impl fmt::Write for Output {
+    fn write_str(&mut self, text: &str) -> fmt::Result {
+        if !io::write_all(STDOUT_FILENO, text.as_bytes()) {
+            io::write_all(
+                STDERR_FILENO,
+                b"unsound: standard output cannot be written\n",
+            );
         }
+        Ok(())
     }
 }
 
-// A call answered.
-pub fn answered(tally: &mut Tally, due: u8, answer: u8) {
-    if answer == due {
-        count(tally, due as usize);
-    } else {
-        count(tally, OTHERWISE);
-    }
+// Writes a text, or what `format_args!` makes.
+pub fn say(text: impl fmt::Display + Drop) {
+    let mut output = Output;
+    let _ = fmt::Write::write(&mut output, text);
 }
 
-// A state is no longer the good one.
-pub fn differs(tally: &mut Tally, does: bool) {
-    if does {
-        count(tally, OTHERS);
-    }
-}
-
-// A state, with its name written.
-pub fn named(name: &[u8], s: State) -> State {
-    write(name);
-    s
-}
-
-// How many calls gave an answer, if any did. Nothing of the line's answers is written before the leading one, and whether that is still to
-// come is handed back.
-fn part(tally: &mut Tally, answer: usize, lead: bool) -> bool {
-    if 3 <= answer {
-        return lead;
-    }
-    let n = tally[answer];
+// How many calls gave an answer, if any did, with what stands before it on the line; and what stands before the next then.
+fn part(lead: &'static str, count: Count, number: u8) -> &'static str {
+    let n = count.0;
     if n == 0 {
         return lead;
     }
-    tally[answer] = 0;
-    text(lead, b": ", b", ");
-    number(n);
-    text(n == 1, b" call answers ", b" calls answer ");
-    number(answer as u64);
-    false
-}
-
-fn text(first: bool, one: &[u8], other: &[u8]) {
-    if first {
-        write(one);
+    let calls = if n == 1 {
+        " call answers "
     } else {
-        write(other);
-    }
+        " calls answer "
+    };
+    say(format_args!("{lead}{n}{calls}{number}"));
+    ", "
 }
 
 // The rest of a line, once every call has answered.
-pub fn line(tally: &mut Tally) {
-    let two = part(tally, 2, true);
-    let one = part(tally, 1, two);
-    part(tally, 0, one);
-    write(b"\n");
+pub fn line(answered: Answered) {
+    let one = part(": ", answered.store_length, 2);
+    let next = part(one, answered.unsound, 1);
+    part(next, answered.accepted, 0);
+    say("\n");
 }
 
-pub fn state(tally: &mut Tally) {
-    count(tally, STATES);
-}
-
-fn store(name: &[u8], as_it_came: bool) {
-    write(name);
+pub fn store(name: &str, as_it_came: bool) {
+    say(name);
     if as_it_came {
-        write(b" is as it came\n");
+        say(" is as it came\n");
     } else {
-        write(b" is CHANGED\n");
+        say(" is CHANGED\n");
     }
 }
 
-pub fn sent(now: &SentStore, before: &SentStore) {
-    store(b"the sent store", check::same(now, before));
-}
-
-pub fn received(now: &ReceivedStore, before: &ReceivedStore) {
-    store(b"the received store", check::same(now, before));
-}
-
 pub fn end(tally: &Tally) {
-    number(tally[STATES]);
-    write(b" states, ");
-    number(tally[OTHERS]);
-    write(b" of them with a field or a record set otherwise; ");
-    number(tally[OTHERWISE]);
-    write(b" calls answered otherwise\n");
+    let states = tally.states.0;
+    let others = tally.others.0;
+    let otherwise = tally.otherwise.0;
+    say(format_args!(
+        "{states} states, {others} of them with a field or a record set otherwise; {otherwise} calls answered otherwise\n"
+    ));
 }
 
-// A number, after what it is.
-fn counted(name: &[u8], n: u64) {
-    write(name);
-    number(n);
+// A record space before and after a call, and whether the state is sound with it then.
+#[derive(Clone, Copy)]
+pub struct Words<'a> {
+    pub before: &'a Records,
+    pub now: &'a Records,
+    pub is_sound: bool,
 }
 
-// How the words are after a call: how many are 0, and how many are as they were.
-fn words(now: &Records, before: &Records, sound: bool) {
-    let none = [0u64; ROOM];
-    counted(
-        b"; words that are 0: ",
-        same::alike_words(now, &none) as u64,
-    );
-    counted(b", as they were: ", same::alike_words(now, before) as u64);
-    text(sound, b"; sound\n", b"; not sound\n");
+impl Words<'_> {
+    // How many are 0, and how many are as they were.
+    fn tell(&self) {
+        let now = self.now;
+        let before = self.before;
+        let none = now.iter().filter(|word| **word == 0).count();
+        let same = now
+            .iter()
+            .zip(before)
+            .filter(|(now, before)| *now == *before)
+            .count();
+        let sound = if self.is_sound {
+            "; sound\n"
+        } else {
+            "; not sound\n"
+        };
+        say(format_args!("; words that are 0: {none}, as they were: {same}{sound}"));
+    }
 }
 
 // A fresh state's line.
-pub fn fresh(name: &[u8], answer: u8, rx: Receiving, now: &Records, before: &Records, sound: bool) {
-    write(name);
-    counted(b": answers ", answer as u64);
-    counted(b"; cells ", rx.cells as u64);
-    counted(b", recv_buffer ", rx.recv_buffer as u64);
-    words(now, before, sound);
+pub fn fresh(name: &str, answer: u8, rx: Receiving, words: Words) {
+    let cells = rx.cells;
+    let buffer = rx.recv_buffer;
+    say(format_args!("{name}: answers {answer}; cells {cells}, recv_buffer {buffer}"));
+    words.tell();
 }
 
 // The line of a number that was received: the acks that wait, and the receiving half.
-pub fn number_received(
-    n: u32,
-    answer: u8,
-    acks: usize,
-    rx: Receiving,
-    now: &Records,
-    before: &Records,
-    sound: bool,
-) {
-    counted(b"number ", n as u64);
-    counted(b" received: answers ", answer as u64);
-    counted(b"; acks ", acks as u64);
-    counted(b", rx_seq ", rx.rx_seq.0 as u64);
-    counted(b", rx_end ", rx.rx_end.0 as u64);
-    counted(b", rxed_reliable_size ", rx.rxed_reliable_size as u64);
-    words(now, before, sound);
-}
-
-// What the lines after it are about.
-pub fn heading(name: &[u8]) {
-    write(name);
-    write(b"\n");
+pub fn number_received(n: u32, answer: u8, acks: usize, rx: Receiving, words: Words) {
+    let next = rx.rx_seq.0;
+    let end = rx.rx_end.0;
+    let size = rx.rxed_reliable_size;
+    say(format_args!(
+        "number {n} received: answers {answer}; acks {acks}, rx_seq {next}, rx_end {end}, rxed_reliable_size {size}"
+    ));
+    words.tell();
 }

@@ -1,88 +1,87 @@
 // The packet table.
 use crate::good::{FIRST, SECOND};
-use crate::report::named;
-use crate::set;
-use crate::set::flight;
-use engine::{InFlight, SentReliable, SentReliableStatus, State};
+use crate::set::{FLIGHT, first, flight, sums};
+use crate::trial::{ACCEPTED, Trial, UNSOUND};
+use engine::{InFlight, SentReliableStatus};
 use msg::ReliableMsg;
 use seq::Seq;
 
-fn next(s: State, n: u32) -> State {
-    let mut half = s.tx;
-    let seq = Seq(n);
-    half.tx_seq = seq;
-    set::tx(s, half)
-}
-
-// The first packet under another number, in the cell of its own.
-fn renumbered(s: State, n: u32) -> State {
-    let at = FIRST as usize % engine::PACKETS;
-    let mut half = s.tx;
-    half.txed_packets[at] = SentReliable {
-        seq: Seq(n),
-        msg: ReliableMsg::Data,
-        len: 3,
-        status: flight(0, 11),
-    };
-    set::tx(s, half)
-}
-
 // Not consecutive, or not up to the next number, which is 3.
-pub fn numbers(k: usize, s: State) -> State {
-    match k {
-        0 => named(b"the next number one more", next(s, 4)),
-        1 => named(b"the next number one less", next(s, 2)),
-        2 => named(b"the next number 64 more", next(s, 67)),
-        3 => named(b"the next number 2^31 more", next(s, 0x8000_0003)),
-        4 => named(b"a packet more than there are", set::count(s, 6)),
-        5 => named(b"a packet less than there are", set::count(s, 4)),
-        6 => named(b"no packet where there are some", set::count(s, 0)),
-        7 => named(b"the first number one more", renumbered(s, SECOND)),
-        8 => named(b"the first number 64 more", renumbered(s, 62)),
-        _ => s,
+pub fn numbers(t: &mut Trial) {
+    for (name, n) in [
+        ("the next number one more", 4),
+        ("the next number one less", 2),
+        ("the next number 64 more", 67),
+        ("the next number 2^31 more", 0x8000_0003),
+    ] {
+        t.kind(name, UNSOUND, |s, _| s.tx.tx_seq = Seq(n));
+    }
+    for (name, n) in [
+        ("a packet more than there are", 6),
+        ("a packet less than there are", 4),
+        ("no packet where there are some", 0),
+    ] {
+        t.kind(name, UNSOUND, |s, _| s.tx.txed_count = n);
+    }
+    let status = SentReliableStatus::Sent(FLIGHT);
+    for (name, n) in [
+        ("the first number one more", SECOND),
+        ("the first number 64 more", 62),
+    ] {
+        t.kind(name, UNSOUND, |s, _| {
+            first(s, n, ReliableMsg::Data, 3, status)
+        });
     }
 }
 
 // The first packet as it is, but that it was resent: Sound asks nothing of that.
-pub fn resent(s: State) -> State {
+pub fn resent(t: &mut Trial) {
     let again = InFlight {
-        sent: 1,
         flushed: Some(4),
-        slot: 0,
-        link: 11,
         resent: true,
+        ..FLIGHT
     };
-    let status = SentReliableStatus::Sent(again);
-    named(
-        b"the first packet resent",
-        set::first(s, ReliableMsg::Data, 3, status),
-    )
+    t.kind("the first packet resent", ACCEPTED, |s, _| flight(s, again));
 }
 
 // The sums are made to fit, so that it is the packet alone that is wrong.
-pub fn packets(k: usize, s: State) -> State {
+pub fn packets(t: &mut Trial) {
     let data = ReliableMsg::Data;
-    let acked = set::first(s, data, 3, SentReliableStatus::Received);
-    let nowhere = set::first(s, data, 3, flight(3, 11));
-    let long = set::first(s, data, 1025, flight(0, 11));
-    let longest = set::first(s, data, 0xFFFF_FFFF, flight(0, 11));
-    let close = set::first(s, ReliableMsg::ReceiveClose, 3, flight(0, 11));
-    let empty = set::bytes(set::sums(nowhere, 16, 5, 4), 3, 3);
-    match k {
-        0 => named(b"the first packet Received", set::sums(acked, 13, 8, 4)),
-        1 => named(b"Sent over an empty slot", empty),
-        2 => named(b"Sent over slot 8", set::first(s, data, 3, flight(8, 11))),
-        3 => named(
-            b"Sent over slot 255",
-            set::first(s, data, 3, flight(255, 11)),
+    let sent = SentReliableStatus::Sent(FLIGHT);
+    t.kind("the first packet Received", UNSOUND, |s, _| {
+        first(s, FIRST, data, 3, SentReliableStatus::Received);
+        sums(s, 13, 8, 4);
+    });
+    t.kind("Sent over an empty slot", UNSOUND, |s, _| {
+        flight(s, InFlight { slot: 3, ..FLIGHT });
+        sums(s, 16, 5, 4);
+        s.links[3].txed_unacked_data = 3;
+    });
+    for (name, other) in [
+        ("Sent over slot 8", InFlight { slot: 8, ..FLIGHT }),
+        (
+            "Sent over slot 255",
+            InFlight {
+                slot: 255,
+                ..FLIGHT
+            },
         ),
-        4 => named(
-            b"Sent over another identity",
-            set::first(s, data, 3, flight(0, 12)),
+        (
+            "Sent over another identity",
+            InFlight { link: 12, ..FLIGHT },
         ),
-        5 => named(b"Sent data of 1,025 bytes", set::sums(long, 1038, 5, 1029)),
-        6 => named(b"Sent data of 2^32 - 1 bytes", set::sums(longest, 12, 5, 3)),
-        7 => named(b"Sent data with a ReceiveClose", close),
-        _ => s,
+    ] {
+        t.kind(name, UNSOUND, |s, _| flight(s, other));
     }
+    t.kind("Sent data of 1,025 bytes", UNSOUND, |s, _| {
+        first(s, FIRST, data, 1025, sent);
+        sums(s, 1038, 5, 1029);
+    });
+    t.kind("Sent data of 2^32 - 1 bytes", UNSOUND, |s, _| {
+        first(s, FIRST, data, u32::MAX, sent);
+        sums(s, 12, 5, 3);
+    });
+    t.kind("Sent data with a ReceiveClose", UNSOUND, |s, _| {
+        first(s, FIRST, ReliableMsg::ReceiveClose, 3, sent)
+    });
 }

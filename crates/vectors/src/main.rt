@@ -8,9 +8,10 @@
 // shows it.
 #![tactic(auto)]
 
-ghost use Rattle.std.specs.Prelude.{◌+◌, ◌^◌, ◌≤◌, ◌<◌, length};
+ghost use Rattle.std.specs.Prelude.{◌<◌};
 
 use seq::Seq;
+use std::cmp::Ordering;
 
 const STDIN_FILENO: i32 = 0;
 
@@ -25,9 +26,6 @@ const PAIR: usize = 17;
 // The column of the order.
 const ORDER: usize = 45;
 
-// Stands for an order where the crate seq has none.
-const NO_ORDER: u8 = b'?';
-
 // What a line shows.
 #[derive(Clone, Copy)]
 enum Found {
@@ -41,7 +39,7 @@ enum Found {
 }
 
 // How many lines showed what.
-#[derive(Clone, Copy)]
+#[derive(Clone, Copy, Default)]
 struct Tally {
     compared: u64,
     differing: u64,
@@ -50,51 +48,50 @@ struct Tally {
 }
 
 impl Tally {
-    fn with(self, found: Found) -> Self
-        requires { (self.compared < 2 ^ 63) × (self.differing < 2 ^ 63) × (self.parting < 2 ^ 63) × (self.far < 2 ^ 63) }
-        ensures compared_bound { result.compared ≤ self.compared + 1 }
-        ensures differing_bound { result.differing ≤ self.differing + 1 }
-        ensures parting_bound { result.parting ≤ self.parting + 1 }
-        ensures far_bound { result.far ≤ self.far + 1 }
-    {
-        let mut out = self;
-        out.compared = self.compared + 1;
+    fn with(self, found: Found) -> Self {
+        let compared = self.compared.saturating_add(1);
         match found {
-            Found::Alike => {}
-            Found::Far => out.far = self.far + 1,
-            Found::Parts => out.parting = self.parting + 1,
-            Found::Differs => out.differing = self.differing + 1,
+            Found::Alike => Tally { compared, ..self },
+            Found::Far => Tally {
+                compared,
+                far: self.far.saturating_add(1),
+                ..self
+            },
+            Found::Parts => Tally {
+                compared,
+                parting: self.parting.saturating_add(1),
+                ..self
+            },
+            Found::Differs => Tally {
+                compared,
+                differing: self.differing.saturating_add(1),
+                ..self
+            },
             // It compares nothing, and counts as differing so that it is not passed over.
-            Found::Bad => {
-                out.compared = self.compared;
-                out.differing = self.differing + 1;
-            }
+            Found::Bad => Tally {
+                differing: self.differing.saturating_add(1),
+                ..self
+            },
         }
-        out
     }
 }
 
-// The byte at i, and past the end 0, which stands in no line.
-fn byte_at(text: &[u8], i: usize) -> u8 {
-    if i < text.len() { text[i] } else { 0 }
-}
-
-// What a hexadecimal digit in lower case is worth, and 16 for any other byte.
-fn digit(b: u8) -> u32 {
+// What a hexadecimal digit in lower case is worth.
+fn digit(b: u8) -> Option<u32> {
     match b {
-        b'0'..=b'9' => (b - b'0') as u32,
-        b'a'..=b'f' => (b - b'a') as u32 + 10,
-        _ => 16,
+        b'0'..=b'9' => Some(u32::from(b - b'0')),
+        b'a'..=b'f' => Some(u32::from(b - b'a') + 10),
+        _ => None,
     }
 }
 
-// Number k of a line, counted from 0: each is 8 digits and a space.
+// Number k of a whole line, counted from 0: each is 8 digits and a space.
 fn number(line: &[u8], k: usize) -> u32
     requires { k < 5 }
 {
     let mut n: u32 = 0;
-    for i in 0..8 {
-        n = n << 4 | digit(byte_at(line, k * 9 + i));
+    for byte in line.iter().skip(k * 9).take(8) {
+        n = n << 4 | digit(*byte).unwrap_or(0);
     }
     n
 }
@@ -108,32 +105,18 @@ fn suits(b: u8, i: usize) -> bool {
     } else if i % 9 == 8 {
         b == b' '
     } else {
-        digit(b) < 16
+        digit(b).is_some()
     }
 }
 
 // Whether a line is as described: one that the end of the input cuts short is not.
 fn is_whole(line: &[u8]) -> bool {
-    for i in 0..LINE {
-        if !suits(byte_at(line, i), i) {
-            return false;
-        }
-    }
-    true
-}
-
-// A word of a line read as signed: `!m` is −1 − m. Rattle's `as` refuses a cast that changes the value.
-fn signed(word: u32) -> i32 {
-    if word < 0x8000_0000 {
-        word as i32
-    } else {
-        !((0xFFFF_FFFF - word) as i32)
-    }
+    line.len() == LINE && line.iter().enumerate().all(|(i, b)| suits(*b, i))
 }
 
 // Whether the crate seq says the line's distance, and "far" where that is 2^30 or more either way.
 fn says(apart: Option<i32>, distance: i32) -> bool {
-    let is_far = distance <= -0x4000_0000 || 0x4000_0000 <= distance;
+    let is_far = 0x4000_0000 <= distance.unsigned_abs();
     match apart {
         Some(d) => !is_far && d == distance,
         None => is_far,
@@ -144,25 +127,33 @@ fn says(apart: Option<i32>, distance: i32) -> bool {
 fn computes_alike(line: &[u8]) -> bool {
     let a = Seq(number(line, 0));
     let b = number(line, 1);
-    let sum = a.add(b);
-    let difference = a.sub(b);
-    sum.eq(Seq(number(line, 2)))
-        && difference.eq(Seq(number(line, 3)))
-        && says(a.distance(Seq(b)), signed(number(line, 4)))
+    a.add(b) == Seq(number(line, 2))
+        && a.sub(b) == Seq(number(line, 3))
+        && says(a.distance(Seq(b)), number(line, 4).cast_signed())
 }
 
-// How the line's first number stands to its second by the crate seq, as a line has it.
-fn order_here(line: &[u8]) -> u8 {
+// How the line's first number stands to its second by the crate seq, which has no order where they are far.
+fn order_here(line: &[u8]) -> Option<Ordering> {
     let a = Seq(number(line, 0));
     let b = Seq(number(line, 1));
     if a.is_before(b) {
-        b'<'
+        Some(Ordering::Less)
     } else if b.is_before(a) {
-        b'>'
-    } else if a.eq(b) {
-        b'='
+        Some(Ordering::Greater)
+    } else if a == b {
+        Some(Ordering::Equal)
     } else {
-        NO_ORDER
+        None
+    }
+}
+
+// .. and by the original, as a whole line has it.
+fn order_there(line: &[u8]) -> Option<Ordering> {
+    match line.get(ORDER) {
+        Some(b'<') => Some(Ordering::Less),
+        Some(b'=') => Some(Ordering::Equal),
+        Some(b'>') => Some(Ordering::Greater),
+        _ => None,
     }
 }
 
@@ -174,9 +165,9 @@ fn examine(line: &[u8]) -> Found {
         return Found::Differs;
     }
     let order = order_here(line);
-    if order == byte_at(line, ORDER) {
+    if order == order_there(line) {
         Found::Alike
-    } else if order == NO_ORDER {
+    } else if order.is_none() {
         Found::Far
     } else {
         Found::Parts
@@ -188,17 +179,17 @@ fn write(text: &[u8]) {
 }
 
 fn write_pair(line: &[u8]) {
-    if PAIR <= line.len() {
-        write(&line[0..PAIR]);
+    if let Some(pair) = line.get(..PAIR) {
+        write(pair);
     }
 }
 
-fn write_order(order: u8) {
+fn write_order(order: Option<Ordering>) {
     match order {
-        b'<' => write(b" before"),
-        b'=' => write(b" equal"),
-        b'>' => write(b" after"),
-        _ => write(b" far"),
+        Some(Ordering::Less) => write(b" before"),
+        Some(Ordering::Equal) => write(b" equal"),
+        Some(Ordering::Greater) => write(b" after"),
+        None => write(b" far"),
     }
 }
 
@@ -206,7 +197,7 @@ fn write_orders(line: &[u8]) {
     write_pair(line);
     write_order(order_here(line));
     write(b" here,");
-    write_order(byte_at(line, ORDER));
+    write_order(order_there(line));
     write(b" there\n");
 }
 
@@ -214,8 +205,7 @@ fn write_orders(line: &[u8]) {
 fn report(line: &[u8], found: Found) {
     match found {
         Found::Alike => {}
-        Found::Far => write_orders(line),
-        Found::Parts => write_orders(line),
+        Found::Far | Found::Parts => write_orders(line),
         Found::Differs => {
             write_pair(line);
             write(b" differs\n");
@@ -224,38 +214,13 @@ fn report(line: &[u8], found: Found) {
     }
 }
 
-// A line's bytes from `at` on, or as many of them as are left.
-fn line_at(text: &[u8], at: usize) -> &[u8]
-    requires { at ≤ length text.now }
-{
-    if LINE <= text.len() - at {
-        let end = at + LINE;
-        &text[at..end]
-    } else {
-        &text[at..]
-    }
-}
-
-fn compare_at(text: &[u8], at: usize) -> Found
-    requires { at ≤ length text.now }
-{
-    let line = line_at(text, at);
-    let found = examine(line);
-    report(line, found);
-    found
-}
-
+// The last line may be cut short.
 fn compare_all(text: &[u8]) -> Tally {
-    let mut tally = Tally {
-        compared: 0,
-        differing: 0,
-        parting: 0,
-        far: 0,
-    };
-    let mut at: usize = 0;
-    while at < text.len() {
-        tally = tally.with(compare_at(text, at));
-        at += LINE;
+    let mut tally = Tally::default();
+    for line in text.chunks(LINE) {
+        let found = examine(line);
+        report(line, found);
+        tally = tally.with(found);
     }
     tally
 }

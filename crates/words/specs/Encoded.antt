@@ -1,5 +1,5 @@
 -- The words that a part of the state is written as, and that they say it again. Assumes nothing.
-use Rattle.std.specs.Prelude.{◌≡◌, refl, Bool, true, false, cond, List, [], ◌∷◌, ℕ, ◌^◌, ◌<◌, replicate, set, Some, None, Option}
+use Rattle.std.specs.Prelude.{◌≡◌, refl, is_some, Bool, true, false, cond, List, [], ◌∷◌, ℕ, ◌^◌, ◌<◌, replicate, set, Some, None, Option}
 use Rattle.std.proofs.Common.{sym, ap, ◌∙◌, mod-eq_of_lt}
 use Rattle.refusal.specs.Answers.{flag}
 use Rattle.seq.specs.declared.Seq.{Seq}
@@ -186,6 +186,11 @@ SmallLimit (Some m) = m.0 < 2 ^ 32
 pub small-limit : (l : Option Seq) → limit_word l < 2 ^ 32 → SmallLimit l
 small-limit None h = tt
 small-limit (Some m) h = h
+
+-- whether there is a mark, as a flag
+pub limit-flag : (l : Option Seq) → flag (is_some l) ≡ limit_some l
+limit-flag None = refl
+limit-flag (Some m) = refl
 
 pub limit-back : (l : Option Seq) → SmallLimit l → limit_of (limit_some l) (limit_word l) ≡ l
 limit-back None h = refl

@@ -1,7 +1,8 @@
 -- What the words of a state say. Every list of words says some state: a number of 32 bits is its word's lower half, a slot its word's lowest byte, a flag
 -- is set by any word but 0. A tag that is none makes a packet that no sound state has, and so does a message word that is none; words of any other length say a
 -- state without cells, which is not sound. Assumes nothing.
-use Rattle.std.specs.Prelude.{◌≡◌, Bool, true, false, cond, not, List, [], map, ℕ, ◌%◌, eqb, length, get_or, Some, None, Option}
+use Rattle.std.specs.Bool.{then_some}
+use Rattle.std.specs.Prelude.{◌≡◌, refl, unwrap_or, Bool, true, false, cond, not, List, [], map, ℕ, ◌%◌, eqb, length, get_or, Some, None, Option}
 use Rattle.engine.specs.Held.{Held}
 use Rattle.std.proofs.Common.{eq-eqb}
 use Rattle.seq.specs.declared.Seq.{Seq}
@@ -150,3 +151,13 @@ state_of w = cond (eqb (length w) WORDS) (decoded w) (decoded [])
 pub stated : (w : List ℕ) → length w ≡ WORDS → state_of w ≡ decoded w
 unfolding state_of
 stated w e = simp (eq-eqb (length w) WORDS e)
+
+-- a value that is given where a flag is set
+pub given-where : {A : Type 0} (set : Bool) (v : A) → then_some set v ≡ cond set (Some v) None
+given-where true v = refl
+given-where false v = refl
+
+-- a message word that is none: what is read in its place
+pub held-or : (h : Held) (seq : Seq) (st : SentReliableStatus) → new_packet seq (unwrap_or h (Data, NO_LENGTH)).0 (unwrap_or h (Data, NO_LENGTH)).1 st ≡ packet_held h seq st
+held-or (Some (msg, len)) seq st = refl
+held-or None seq st = refl

@@ -1,10 +1,9 @@
 -- Words by their places: a part of a list of words, what writing over a part leaves of the others, and lists with an entry for each number.
 -- Assumes nothing.
 use Rattle.std.specs.Prelude.{◌≡◌, refl, ◌⊎◌, List, [], ◌∷◌, ◌++◌, map, ℕ, zero, suc, ◌+◌, ◌-◌, ◌≤◌, ◌<◌, length, get_or, set, take, drop}
-use Rattle.std.proofs.Common.{sym, ap, ◌∙◌, inl, inr, append_assoc, append-nil, add-one, arith, length-drop, length-append, take-append-drop, length-take-le, take_all, drop_at, drop-drop, get_or-take, get_or-drop}
+use Rattle.std.proofs.Common.{sym, ap, ◌∙◌, inl, inr, append_assoc, arith, length-drop, length-append, take-append-drop, length-take-le, drop_at, drop-drop, get_or-take, get_or-drop}
 use Rattle.std.proofs.lemmas.List.{take-append-le, drop-append-le, set_split}
 use Rattle.std.proofs.Math.Seq.{drop-append-add, take-append_seam}
-use Rattle.std.proofs.lemmas.List.Edits.{sets, sets-eq}
 use Rattle.engine.specs.Stores.{copied}
 
 -- n words from the place a on
@@ -64,37 +63,6 @@ lent-part w vs a n e =
 -- one word is written
 pub one_word : (w : List ℕ) (i v : ℕ) → i < length w → set w i v ≡ copied w i (v ∷ [])
 one_word w i v h = let e : suc i ≡ i + 1 = omega arith in set_split w i v h ∙ ap (λ n. take i w ++ v ∷ drop n w) e
-
--- all words of a list are written, one after another
-pub all-written : (xs vs : List ℕ) → length xs ≡ length vs → sets xs 0 vs ≡ vs
-all-written xs vs e =
-    let rest : drop (0 + length vs) xs ≡ [] = drop-none xs (0 + length vs) (omega arith) in
-    sets-eq vs xs 0 (omega arith) ∙ ap (λ (l : List ℕ). vs ++ l) rest ∙ append-nil vs
-  where
-    drop-none : (l : List ℕ) (n : ℕ) → length l ≤ n → drop n l ≡ []
-    drop-none [] zero h = refl
-    drop-none [] (suc n) h = refl
-    drop-none (x ∷ l) zero h = absurd (omega arith)
-    drop-none (x ∷ l) (suc n) h = drop-none l n (omega arith)
-
--- the first i words are those that stood one place further on: what a loop that moves them has done after i turns
-abbrev pub moved : List ℕ → ℕ → List ℕ
-moved xs i = take i (drop 1 xs) ++ drop i xs
-
-move-on : (xs : List ℕ) (i : ℕ) → suc i < length xs → set (moved xs i) i (get_or (moved xs i) (suc i) 0) ≡ moved xs (suc i)
-move-on [] i h = absurd (omega arith)
-move-on (x ∷ []) i h = absurd (omega arith)
-move-on (x ∷ y ∷ xs) zero h = refl
-move-on (x ∷ y ∷ xs) (suc i) h = ap (λ (l : List ℕ). y ∷ l) (move-on (y ∷ xs) i (omega arith))
-
-pub move-turn : (xs : List ℕ) (i : ℕ) → i + 1 < length xs → set (moved xs i) i (get_or (moved xs i) (i + 1) 0) ≡ moved xs (i + 1)
-move-turn xs i h = rw add-one (move-on xs i (omega arith))
-
-pub moved_length : (xs : List ℕ) (i : ℕ) → i < length xs → length (moved xs i) ≡ length xs
-moved_length xs i h = simp (length-append, length-drop, length-take-le i (drop 1 xs) (rw length-drop (omega arith))) (omega arith)
-
-pub moved_all : (xs : List ℕ) (i : ℕ) → suc i ≡ length xs → moved xs i ≡ drop 1 xs ++ drop i xs
-moved_all xs i e = ap (λ (l : List ℕ). l ++ drop i xs) (take_all i (drop 1 xs) (rw length-drop (omega arith)))
 
 -- ---- a list with an entry for each number
 

@@ -18,15 +18,15 @@ pub(crate) fn seq_word(word: u64) -> Seq
     Seq(half(word))
 }
 
-// A flag: set by any word but 0.
-pub(crate) fn is_set(word: u64) -> bool
+// A flag: set by any word but 0, and written as 1.
+pub fn is_set(word: u64) -> bool
     ensures { result ≡ is_set word }
 {
     word != 0
 }
 
-pub(crate) fn flag(set: bool) -> u64
+pub fn flag(set: bool) -> u64
     ensures { result ≡ flag set }
 {
-    if set { 1 } else { 0 }
+    u64::from(set)
 }

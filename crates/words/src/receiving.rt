@@ -6,12 +6,11 @@ ghost use Rattle.words.specs.Meaning.{state_of};
 ghost use Rattle.words.specs.Encoded.{rx_words};
 
 use crate::bits::{half, seq_word};
-use crate::layout::{RX, RX_END};
+use crate::layout::{RX, RX_END, WORDS};
 use engine::Receiving;
 use seq::Seq;
 
-pub fn rx_of(words: &[u64]) -> Receiving
-    requires { length words.now ≡ WORDS }
+pub fn rx_of(words: &[u64; WORDS]) -> Receiving
     ensures { result ≡ (state_of words.now).rx }
 {
     Receiving {
@@ -29,56 +28,52 @@ fn write_rx(part: &mut [u64], rx: Receiving)
     requires { length part.old ≡ 7 }
     ensures { part.new ≡ rx_words rx }
 {
-    part[0] = rx.rx_seq.0 as u64;
-    part[1] = rx.rx_oldest.0 as u64;
-    part[2] = rx.rxed_reliable_size as u64;
-    part[3] = rx.rxed_reliable_consumed as u64;
-    part[4] = rx.recv_buffer as u64;
-    part[5] = rx.cells as u64;
-    part[6] = rx.rx_end.0 as u64;
+    part.copy_from_slice(&[
+        u64::from(rx.rx_seq.0),
+        u64::from(rx.rx_oldest.0),
+        u64::from(rx.rxed_reliable_size),
+        u64::from(rx.rxed_reliable_consumed),
+        u64::from(rx.recv_buffer),
+        u64::from(rx.cells),
+        u64::from(rx.rx_end.0),
+    ]);
 }
 
-pub fn put_rx(words: &mut [u64], rx: Receiving)
-    requires { length words.old ≡ WORDS }
+pub fn put_rx(words: &mut [u64; WORDS], rx: Receiving)
     ensures { state_of words.new ≡ with_rx (state_of words.old) rx }
 {
     write_rx(&mut words[RX..RX_END], rx);
 }
 
 // The next expected and the oldest number.
-pub fn put_rx_seq(words: &mut [u64], seq: Seq)
-    requires { length words.old ≡ WORDS }
+pub fn put_rx_seq(words: &mut [u64; WORDS], seq: Seq)
     ensures { state_of words.new ≡ with_rx (state_of words.old) (with_numbers (state_of words.old).rx seq (state_of words.old).rx.rx_oldest) }
 {
-    words[RX] = seq.0 as u64;
+    words[RX] = u64::from(seq.0);
 }
 
-pub fn put_rx_oldest(words: &mut [u64], seq: Seq)
-    requires { length words.old ≡ WORDS }
+pub fn put_rx_oldest(words: &mut [u64; WORDS], seq: Seq)
     ensures { state_of words.new ≡ with_rx (state_of words.old) (with_numbers (state_of words.old).rx (state_of words.old).rx.rx_seq seq) }
 {
-    words[RX + 1] = seq.0 as u64;
+    words[RX + 1] = u64::from(seq.0);
 }
 
 // The untaken bytes, and those taken and untold.
-pub fn put_rxed_reliable_size(words: &mut [u64], bytes: u32)
-    requires { length words.old ≡ WORDS }
+pub fn put_rxed_reliable_size(words: &mut [u64; WORDS], bytes: u32)
     ensures { state_of words.new ≡ with_rx (state_of words.old) (with_bytes (state_of words.old).rx bytes (state_of words.old).rx.rxed_reliable_consumed) }
 {
-    words[RX + 2] = bytes as u64;
+    words[RX + 2] = u64::from(bytes);
 }
 
-pub fn put_rxed_reliable_consumed(words: &mut [u64], bytes: u32)
-    requires { length words.old ≡ WORDS }
+pub fn put_rxed_reliable_consumed(words: &mut [u64; WORDS], bytes: u32)
     ensures { state_of words.new ≡ with_rx (state_of words.old) (with_bytes (state_of words.old).rx (state_of words.old).rx.rxed_reliable_size bytes) }
 {
-    words[RX + 3] = bytes as u64;
+    words[RX + 3] = u64::from(bytes);
 }
 
 // The end of the cells in use.
-pub fn put_rx_end(words: &mut [u64], seq: Seq)
-    requires { length words.old ≡ WORDS }
+pub fn put_rx_end(words: &mut [u64; WORDS], seq: Seq)
     ensures { state_of words.new ≡ with_rx (state_of words.old) (with_end (state_of words.old).rx seq) }
 {
-    words[RX + 6] = seq.0 as u64;
+    words[RX + 6] = u64::from(seq.0);
 }

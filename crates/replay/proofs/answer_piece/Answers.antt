@@ -1,6 +1,6 @@
 -- What is left of the piece goes in again: the session stands where the bytes before lead.
-use mathlib.Core.Path.{◌≡◌, refl, sym, ◌∙◌, ap}
-use Prim.Native.Nat.{ℕ, ◌-◌, ◌≤◌}
+use mathlib.Core.Path.{refl, sym, ◌∙◌, ap}
+use Prim.Native.Nat.{◌-◌, ◌≤◌}
 use native.Mathlib.Omega.{arith}
 use lib.ListN.{length, drop, length-drop}
 use lib.Seq.{length-take-le, take_all}
@@ -52,14 +52,11 @@ slice_bounds-show-end-in-loop-at g c =
     in
     sym (length-take-le _ _ within)
 
-pub shape_of-store-then-not-show : goal.shape_of-store-then-not-show
-shape_of-store-then-not-show g c = c.feed-fed.auto.store ∙ c.loop-at.invariant.2
+pub shape_of-store-in_err-show : goal.shape_of-store-in_err-show
+shape_of-store-in_err-show g c = c.feed-fed.auto.store ∙ c.loop-at.invariant.2
 
-pub shape_of-records-then-not-show : goal.shape_of-records-then-not-show
-shape_of-records-then-not-show g c = c.feed-fed.auto.records ∙ c.loop-at.invariant.3
-
-pub returns-then-not-show : goal.returns-then-not-show
-returns-then-not-show g c e = let z : ◌≡◌ {A = ℕ} 0 1 = cc in absurd (omega arith)
+pub shape_of-records-in_err-show : goal.shape_of-records-in_err-show
+shape_of-records-in_err-show g c = c.feed-fed.auto.records ∙ c.loop-at.invariant.3
 
 pub loop-at-smaller : goal.loop-at-smaller
 loop-at-smaller g c = let a = c.args in
@@ -89,6 +86,6 @@ pub shape_of-records : goal.shape_of-records
 shape_of-records g c = c.loop-at.invariant.3
 
 pub returns : goal.returns
-returns g c e = let a = c.args in
+returns g c = let a = c.args in
     let l = c.loop-at in
     l.invariant.0 ∙ ap (λ p. lent (fed_by (carrying a.session a.store.now a.records.now a.line.now) p)) (take_all l.at a.piece.now (omega arith))

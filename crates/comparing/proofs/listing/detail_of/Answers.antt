@@ -16,7 +16,7 @@ pub overflow_mul-result-in-Begins : goal.overflow_mul-result-in-Begins
 overflow_mul-result-in-Begins c = let fit = (kind-and-detail-fit c.args.d c.requires).1 in omega (arith, rw c.in-Begins.is at fit)
 
 pub returns-in-Differ : goal.returns-in-Differ
-returns-in-Differ c = simp c.in-Differ.is
+returns-in-Differ c = simp c.in-Differ.is (omega arith)
 
 pub returns-in-Begins : goal.returns-in-Begins
 returns-in-Begins c = simp c.in-Begins.is

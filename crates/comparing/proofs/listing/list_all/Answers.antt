@@ -1,77 +1,64 @@
 -- Each turn lists the differences on the next number of either table.
-use mathlib.Core.Path.{refl, ap}
-use native.Mathlib.Omega.{arith}
-use borrow.Author.Rules.{rules}
-use Rattle.comparing.specs.Rows.{rows_of}
-use Rattle.comparing.specs.Listing.{has_one, listing_start, turn-rows, turn-rank, turn-room, turn-less, turn_step, turn_end}
+use Rattle.std.specs.Prelude.{◌≡◌, List, ℕ, ◌-◌, ◌≤◌, length, take, drop}
+use Rattle.std.proofs.Common.{refl, sym, ◌∙◌, ap, arith, rules, length-take, length-drop}
+use Rattle.std.proofs.Math.Seq.{take-length}
+use Rattle.comparing.specs.declared.table.Row.{Row}
+use Rattle.comparing.specs.Listing.{has_of, has-first, merging_start, turn-rank, turn-room, turn-less, turn_step, turn_end}
 use Rattle.comparing.proofs.listing.list_all.Goals as goal
 
-pub loop-i-init : goal.loop-i-init
-loop-i-init c =
-    (listing_start c.args.first.now c.args.second.now c.args.start.0 (rows_of c.args.acount c.args.a.now) (rows_of c.args.bcount c.args.b.now) c.args.list.now c.requires.rising.0 c.requires.rising.1, refl)
+-- what is left behind some rows
+rest : (k : ℕ) (rows : List Row) → k ≤ length rows → take (length rows - k) (drop k rows) ≡ drop k rows
+rest k rows h = ap (λ n. take n (drop k rows)) (sym (length-drop k rows)) ∙ take-length (drop k rows)
 
-pub overflow_add-i : goal.overflow_add-i
-overflow_add-i c =
-    let l = c.loop-i in
-    let rows = turn-rows c.args.acount c.args.a.now c.args.bcount c.args.b.now (omega (arith, c.requires.a_len.0, c.requires.acount_bound.0), omega (arith, c.requires.a_len.1, c.requires.acount_bound.1)) c.requires.says l.invariant.0 in
-    omega (arith, rows.0, rows.1, c.requires.acount_bound.0, c.requires.acount_bound.1)
-
-pub overflow_add-acount : goal.overflow_add-acount
-overflow_add-acount c = omega (arith, c.requires.acount_bound.0, c.requires.acount_bound.1)
-
-pub next_rank-rank-requires : goal.next_rank-rank-requires
-next_rank-rank-requires c =
-    let l = c.loop-i in
-    let rows = turn-rows c.args.acount c.args.a.now c.args.bcount c.args.b.now (omega (arith, c.requires.a_len.0, c.requires.acount_bound.0), omega (arith, c.requires.a_len.1, c.requires.acount_bound.1)) c.requires.says l.invariant.0 in
-    record { a_len = (c.requires.a_len.0, c.requires.a_len.1); acount_bound = c.requires.acount_bound; i_le_acount = (rows.0, rows.1, c.loop-i-test.true) }
-
-pub held_at-x-requires : goal.held_at-x-requires
-held_at-x-requires c = record { cells_len = c.requires.a_len.0; count_bound = c.requires.acount_bound.0 }
-
-pub held_at-y-requires : goal.held_at-y-requires
-held_at-y-requires c = record { cells_len = c.requires.a_len.1; count_bound = c.requires.acount_bound.1 }
+pub loop-rank-init : goal.loop-rank-init
+loop-rank-init c = (merging_start c.requires.rising.0 c.requires.rising.1, refl)
 
 pub number_of-number-requires : goal.number_of-number-requires
-number_of-number-requires c =
-    let l = c.loop-i in
-    turn-rank c.args.acount c.args.a.now c.args.bcount c.args.b.now (omega (arith, c.requires.a_len.0, c.requires.acount_bound.0), omega (arith, c.requires.a_len.1, c.requires.acount_bound.1)) c.requires.says l.invariant.0 c.loop-i-test.true c.next_rank-rank.result c.next_rank-rank.ensures
+number_of-number-requires c = turn-rank c.requires.says c.loop-rank.invariant.0 c.in-Some.rank (sym c.next_rank.ensures ∙ c.in-Some.is)
 
 pub list_number-n-requires : goal.list_number-n-requires
 list_number-n-requires c =
-    let l = c.loop-i in
-    let room = turn-room c.args.acount c.args.a.now c.args.bcount c.args.b.now (omega (arith, c.requires.a_len.0, c.requires.acount_bound.0), omega (arith, c.requires.a_len.1, c.requires.acount_bound.1)) c.requires.says l.invariant.0 c.loop-i-test.true c.next_rank-rank.result c.next_rank-rank.ensures c.held_at-x.result c.held_at-y.result c.held_at-x.ensures c.held_at-y.ensures c.requires.acount_bound.0 c.requires.acount_bound.1 in
-    omega (arith, room, l.invariant.1, c.requires.a_len.2)
+    let room = turn-room c.requires.says c.loop-rank.invariant.0 c.in-Some.rank (sym c.next_rank.ensures ∙ c.in-Some.is) c.requires.a_len.0 c.requires.a_len.1 in
+    omega (arith, room, ap has_of c.held_first-held_x.ensures, ap has_of c.held_first-held_y.ensures, c.loop-rank.invariant.1, c.requires.a_len.2)
 
-pub overflow_add-i-in-loop-i : goal.overflow_add-i-in-loop-i
-overflow_add-i-in-loop-i c =
-    let l = c.loop-i in
-    let rows = turn-rows c.args.acount c.args.a.now c.args.bcount c.args.b.now (omega (arith, c.requires.a_len.0, c.requires.acount_bound.0), omega (arith, c.requires.a_len.1, c.requires.acount_bound.1)) c.requires.says l.invariant.0 in
-    omega (arith, rows.0, c.requires.acount_bound.0, c.has-i.ensures, has_one c.held_at-x.result)
+pub slice_bounds-x-count : goal.slice_bounds-x-count
+slice_bounds-x-count c = omega (arith, c.has.ensures, ap has_of c.held_first-held_x.ensures, has-first c.in-Some.rank c.loop-rank.x.now)
 
-pub overflow_add-j : goal.overflow_add-j
-overflow_add-j c =
-    let l = c.loop-i in
-    let rows = turn-rows c.args.acount c.args.a.now c.args.bcount c.args.b.now (omega (arith, c.requires.a_len.0, c.requires.acount_bound.0), omega (arith, c.requires.a_len.1, c.requires.acount_bound.1)) c.requires.says l.invariant.0 in
-    omega (arith, rows.1, c.requires.acount_bound.1, c.has-j.ensures, has_one c.held_at-y.result)
+pub slice_bounds-x-start : goal.slice_bounds-x-start
+slice_bounds-x-start c = omega (arith, c.has.ensures, ap has_of c.held_first-held_x.ensures, has-first c.in-Some.rank c.loop-rank.x.now)
 
-pub loop-i-smaller : goal.loop-i-smaller
-loop-i-smaller c =
-    let l = c.loop-i in
-    let less = turn-less c.args.acount c.args.a.now c.args.bcount c.args.b.now (omega (arith, c.requires.a_len.0, c.requires.acount_bound.0), omega (arith, c.requires.a_len.1, c.requires.acount_bound.1)) c.requires.says l.invariant.0 c.loop-i-test.true c.next_rank-rank.result c.next_rank-rank.ensures c.held_at-x.result c.held_at-y.result c.held_at-x.ensures c.held_at-y.ensures in
-    omega (arith, less, c.has-i.ensures, c.has-j.ensures, c.loop-i-test.true)
+pub slice_bounds-y-count : goal.slice_bounds-y-count
+slice_bounds-y-count c = omega (arith, c.has-in-Some.ensures, ap has_of c.held_first-held_y.ensures, has-first c.in-Some.rank c.loop-rank.y.now)
 
-pub loop-i-preserved : goal.loop-i-preserved
-loop-i-preserved c =
-    let l = c.loop-i in
+pub slice_bounds-y-start : goal.slice_bounds-y-start
+slice_bounds-y-start c = omega (arith, c.has-in-Some.ensures, ap has_of c.held_first-held_y.ensures, has-first c.in-Some.rank c.loop-rank.y.now)
+
+pub loop-rank-smaller : goal.loop-rank-smaller
+loop-rank-smaller c =
+    let less = turn-less c.requires.says c.loop-rank.invariant.0 c.in-Some.rank (sym c.next_rank.ensures ∙ c.in-Some.is) in
+    simp (length-take, length-drop)
+    (omega (
+      arith,
+      less,
+      c.has.ensures,
+      c.has-in-Some.ensures,
+      ap has_of c.held_first-held_x.ensures,
+      ap has_of c.held_first-held_y.ensures,
+      has-first c.in-Some.rank c.loop-rank.x.now,
+      has-first c.in-Some.rank c.loop-rank.y.now,
+    ))
+
+pub loop-rank-preserved : goal.loop-rank-preserved
+loop-rank-preserved c =
+    let l = c.loop-rank in
     let number = ap (λ n. n.0) c.number_of-number.ensures in
-    let step = turn_step c.args.acount c.args.a.now c.args.bcount c.args.b.now (omega (arith, c.requires.a_len.0, c.requires.acount_bound.0), omega (arith, c.requires.a_len.1, c.requires.acount_bound.1)) c.requires.says l.invariant.0 c.loop-i-test.true c.next_rank-rank.result c.next_rank-rank.ensures c.held_at-x.result c.held_at-y.result c.held_at-x.ensures c.held_at-y.ensures _ _ _ number c.list_number-n.ensures in
-    (rw (c.has-i.ensures, c.has-j.ensures) step, search rules)
+    let first = c.has.ensures ∙ ap has_of c.held_first-held_x.ensures in
+    let second = c.has-in-Some.ensures ∙ ap has_of c.held_first-held_y.ensures in
+    let xs = rest c.has.result l.x.now (omega (arith, first, has-first c.in-Some.rank l.x.now)) ∙ ap (λ n. drop n l.x.now) first in
+    let ys = rest c.has-in-Some.result l.y.now (omega (arith, second, has-first c.in-Some.rank l.y.now)) ∙ ap (λ n. drop n l.y.now) second in
+    let pushed = rw (c.held_first-held_x.ensures, c.held_first-held_y.ensures) at c.list_number-n.ensures in
+    let step = turn_step c.requires.says l.invariant.0 c.in-Some.rank (sym c.next_rank.ensures ∙ c.in-Some.is) _ _ _ number pushed in
+    (rw (xs, ys) step, search rules)
 
-pub shape_of-list : goal.shape_of-list
-shape_of-list c = c.loop-i.invariant.1
-
-pub returns : goal.returns
-returns c =
-    let l = c.loop-i in
-    let rows = turn-rows c.args.acount c.args.a.now c.args.bcount c.args.b.now (omega (arith, c.requires.a_len.0, c.requires.acount_bound.0), omega (arith, c.requires.a_len.1, c.requires.acount_bound.1)) c.requires.says l.invariant.0 in
-    record { pushed = turn_end c.args.acount c.args.a.now c.args.bcount c.args.b.now (omega (arith, c.requires.a_len.0, c.requires.acount_bound.0), omega (arith, c.requires.a_len.1, c.requires.acount_bound.1)) c.requires.says l.invariant.0 c.loop-i-test.false; upper_bound = omega (arith, l.invariant.0.few, rows.0, rows.1, c.requires.acount_bound.0, c.requires.acount_bound.1) }
+pub returns-clause-pushed : goal.returns-clause-pushed
+returns-clause-pushed c = turn_end c.requires.says c.loop-rank.invariant.0 (sym c.next_rank.ensures ∙ c.in_default.is)

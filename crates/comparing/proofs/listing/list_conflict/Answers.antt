@@ -1,17 +1,16 @@
 -- No conflict, or one difference more.
 use mathlib.Core.Path.{◌≡◌, ap}
 use native.Mathlib.Omega.{arith}
-use borrow.Author.Tests.{eq-eqb, ne_eqb}
 use Rattle.comparing.specs.Differences.{conflict_as}
 use Rattle.comparing.specs.Says.{flag_held}
 use Rattle.comparing.specs.Listing.{words_for, has_of, pushed_none}
 use Rattle.comparing.proofs.listing.list_conflict.Goals as goal
 
-pub returns-then-flag-eq0 : goal.returns-then-flag-eq0
+pub returns-else-is_conflict : goal.returns-else-is_conflict
 unfolding words_for
-returns-then-flag-eq0 c = let a = c.args in
+returns-else-is_conflict c = let a = c.args in
     let e : conflict_as (flag_held a.held) a.d ≡ _ = ap (λ h. conflict_as (flag_held h) a.d) c.in-Some.is in
-    rw e (simp (eq-eqb _ _ c.if-flag-eq0.true) (pushed_none a.list.now a.n))
+    rw e (simp (c.if-is_conflict.false) (pushed_none a.list.now a.n))
 
 pub push-requires : goal.push-requires
 push-requires c =
@@ -22,7 +21,7 @@ unfolding words_for
 returns-in-None c = let a = c.args in
     rw c.in-None.is (pushed_none a.list.now a.n)
 
-pub returns-else-flag-eq0 : goal.returns-else-flag-eq0
-returns-else-flag-eq0 c = let a = c.args in
+pub returns-then-is_conflict : goal.returns-then-is_conflict
+returns-then-is_conflict c = let a = c.args in
     let e : conflict_as (flag_held a.held) a.d ≡ _ = ap (λ h. conflict_as (flag_held h) a.d) c.in-Some.is in
-    rw e (simp (ne_eqb _ _ c.if-flag-eq0.false) c.push.ensures)
+    rw e (simp (c.if-is_conflict.true) c.push.ensures)

@@ -1,27 +1,19 @@
--- The loop's invariant: what is counted and what is ahead of the index make up the count of all; the measure is what is left of the list.
-use mathlib.Core.Path.{sym, ◌∙◌}
-use native.Mathlib.Omega.{arith}
-use borrow.Author.Tests.{eq-eqb, ne_eqb}
-use Rattle.comparing.specs.Writing.{kinds-past, kinds-next}
+-- The words of a kind, counted.
+use Rattle.std.specs.Prelude.{◌≡◌, refl, List, ℕ, suc, ◌+◌, eqb, cond, count_by, take}
+use Rattle.std.proofs.Common.{sym, ◌∙◌, ap, arith}
+use Rattle.std.proofs.lemmas.List.{take_min}
+use Rattle.std.proofs.lemmas.List.Recursion.{is_count_by}
+use Rattle.comparing.specs.Words.{kind_in}
+use Rattle.comparing.specs.Writing.{kinds_in}
 use Rattle.comparing.proofs.writing.count_kind.Goals as goal
-use Rattle.comparing.proofs.writing.count_kind.Goals.{then-kind_in-kind, else-kind_in-kind}
 
-pub returns-then-n-i : goal.returns-then-n-i
-returns-then-n-i c =
-    let a = c.args in
-    omega (arith, kinds-past a.kind a.n a.list.now c.loop-i.i (omega arith))
-
-pub loop-i-preserved : goal.loop-i-preserved
-loop-i-preserved c =
-    let a = c.args in
-    let kind = sym c.kind_in.ensures in
-    let next = kinds-next a.kind a.n a.list.now c.loop-i.i (omega arith) (omega arith) in
-    elim c.if-kind_in-kind.branch [
-      | then-kind_in-kind w ↦ let e = simp (eq-eqb _ _ (kind ∙ w.if-kind_in-kind.true)) at next in (omega arith, omega arith, omega arith)
-      | else-kind_in-kind w ↦ let e = simp (ne_eqb _ _ (λ same. w.if-kind_in-kind.false (sym kind ∙ same))) at next in (omega arith, omega arith, omega arith)
-    ]
+counted : (kind : ℕ) (words : List ℕ) → kinds_in kind words ≡ count_by (λ word. eqb (kind_in word) kind) words
+unfolding kinds_in
+counted kind words =
+    is_count_by (kinds_in kind) (λ word. eqb (kind_in word) kind) refl
+    (λ word rest. let next : suc (kinds_in kind rest) ≡ 1 + kinds_in kind rest = omega arith in ap (λ n. cond (eqb (kind_in word) kind) n (kinds_in kind rest)) next) words
 
 pub returns : goal.returns
 returns c =
-    let a = c.args in
-    omega (arith, kinds-past a.kind a.n a.list.now c.loop-i.i (omega arith))
+    let first : take c.min.result c.args.list.now ≡ take c.args.n c.args.list.now = ap (λ m. take m c.args.list.now) c.min.ensures ∙ take_min c.args.n c.args.list.now in
+    c.count_in.ensures ∙ sym (counted c.args.kind _) ∙ ap (kinds_in c.args.kind) first

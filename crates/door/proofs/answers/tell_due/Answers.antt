@@ -1,9 +1,13 @@
 -- By the answer.
-use mathlib.Core.Path.{refl}
+use Rattle.std.proofs.Common.{◌≡◌, rules, refl, ◌∙◌, ap, set}
+use Rattle.refusal.specs.Answers.{flag}
+use Rattle.engine.specs.HandingOut.{due_told}
+use Rattle.door.specs.One.{one_said}
 use Rattle.door.proofs.answers.tell_due.Goals as goal
 
-pub returns-in-Err : goal.returns-in-Err
-returns-in-Err c = simp c.in-Err.is record { value = c.refused.ensures; values_after = refl }
-
-pub returns-in-Ok : goal.returns-in-Ok
-returns-in-Ok c = simp (c.in-Ok.is, c.flag.ensures) record { value = refl; values_after = refl }
+pub returns : goal.returns
+returns c = let said = one_said due_told (flag) (λ x. refl) (λ e. refl) c.args.answer c.tell_one.result c.args.values.now c.tell_one.new.values c.tell_one.ensures.refused
+    (λ x q. let k = c.tell_one.ensures.said x q in
+    let same : k.0 ≡ (flag) x = let p = k.1 in search rules in
+    (k.2, k.3 ∙ ap (set c.args.values.now 0) same)) in
+    record { value = said.value; values_after = said.values_after }

@@ -1,24 +1,25 @@
 -- By the kind.
-use borrow.Author.Tests.{eq-eqb, ne_eqb}
+use Rattle.std.proofs.Common.{arith}
+use borrow.Author.Tests.{ne_eqb}
 use Rattle.door.specs.Given.{plain_given}
 use Rattle.door.proofs.given.plain_given.Goals as goal
 
-pub returns-then-kind-eq-MSG_DATA : goal.returns-then-kind-eq-MSG_DATA
+pub returns-in-7 : goal.returns-in-7
 unfolding plain_given
-returns-then-kind-eq-MSG_DATA c = simp (eq-eqb _ _ c.if-kind-eq-MSG_DATA.true)
+returns-in-7 c = simp c.in-7.is
 
-pub returns-then-kind-eq-MSG_SEND_FINISH : goal.returns-then-kind-eq-MSG_SEND_FINISH
+pub returns-in-10 : goal.returns-in-10
 unfolding plain_given
-returns-then-kind-eq-MSG_SEND_FINISH c = simp (ne_eqb _ _ c.if-kind-eq-MSG_DATA.false, eq-eqb _ _ c.if-kind-eq-MSG_SEND_FINISH.true)
+returns-in-10 c = simp c.in-10.is
 
-pub returns-then-kind-eq-MSG_RECEIVE_CLOSE : goal.returns-then-kind-eq-MSG_RECEIVE_CLOSE
+pub returns-in-11 : goal.returns-in-11
 unfolding plain_given
-returns-then-kind-eq-MSG_RECEIVE_CLOSE c = simp (ne_eqb _ _ c.if-kind-eq-MSG_DATA.false, ne_eqb _ _ c.if-kind-eq-MSG_SEND_FINISH.false, eq-eqb _ _ c.if-kind-eq-MSG_RECEIVE_CLOSE.true)
+returns-in-11 c = simp c.in-11.is
 
-pub returns-then-kind-eq-MSG_RECEIVE_FINISH : goal.returns-then-kind-eq-MSG_RECEIVE_FINISH
+pub returns-in-12 : goal.returns-in-12
 unfolding plain_given
-returns-then-kind-eq-MSG_RECEIVE_FINISH c = simp (ne_eqb _ _ c.if-kind-eq-MSG_DATA.false, ne_eqb _ _ c.if-kind-eq-MSG_SEND_FINISH.false, ne_eqb _ _ c.if-kind-eq-MSG_RECEIVE_CLOSE.false, eq-eqb _ _ c.if-kind-eq-MSG_RECEIVE_FINISH.true)
+returns-in-12 c = simp c.in-12.is
 
-pub returns : goal.returns
+pub returns-in_default : goal.returns-in_default
 unfolding plain_given
-returns c = simp (ne_eqb _ _ c.if-kind-eq-MSG_DATA.false, ne_eqb _ _ c.if-kind-eq-MSG_SEND_FINISH.false, ne_eqb _ _ c.if-kind-eq-MSG_RECEIVE_CLOSE.false, ne_eqb _ _ c.if-kind-eq-MSG_RECEIVE_FINISH.false)
+returns-in_default c = let k = c.args.kind in simp (ne_eqb k 7 (omega arith), ne_eqb k 10 (omega arith), ne_eqb k 11 (omega arith), ne_eqb k 12 (omega arith))

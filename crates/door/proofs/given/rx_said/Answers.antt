@@ -3,9 +3,9 @@ use borrow.Author.Tests.{ne_eqb}
 use Rattle.words.specs.Meaning.{state_of, decoded, rx_of}
 use Rattle.door.proofs.given.rx_said.Goals as goal
 
-pub returns-then-words-ne-WORDS : goal.returns-then-words-ne-WORDS
+pub returns-in_default : goal.returns-in_default
 unfolding state_of decoded rx_of
-returns-then-words-ne-WORDS c = simp (ne_eqb _ _ c.if-words-ne-WORDS.true)
+returns-in_default c = simp (ne_eqb _ _ c.in_default.ensures.cases)
 
 pub returns : goal.returns
-returns c = c.rx_of.ensures
+returns c = rw c.in-Some.ensures.cases.same at c.rx_of.ensures

@@ -9,14 +9,14 @@ pub returns-then-not-lengths_ok : goal.returns-then-not-lengths_ok
 unfolding receive_of receive_store receive_records receive_verdict
 returns-then-not-lengths_ok c = let bad = rw c.rx_said-rx.ensures at (sym c.lengths_ok.ensures ∙ c.if-not-lengths_ok.true) in simp bad record { value = refl; words_after = refl; store_after = refl; records_after = refl; left = λ ne. refl }
 
-pub returns-then-not-is_sound_with : goal.returns-then-not-is_sound_with
+pub returns-in_default : goal.returns-in_default
 unfolding receive_of receive_store receive_records receive_verdict
-returns-then-not-is_sound_with c = let long = rw c.rx_said-rx.ensures at (sym c.lengths_ok.ensures ∙ c.if-not-lengths_ok.false) in simp (long, (sym c.is_sound_with.ensures ∙ c.if-not-is_sound_with.true)) record { value = refl; words_after = refl; store_after = refl; records_after = refl; left = λ ne. refl }
+returns-in_default c = let long = rw c.rx_said-rx.ensures at (sym c.lengths_ok.ensures ∙ c.if-not-lengths_ok.false) in simp (long, c.in_default.ensures.value) record { value = refl; words_after = refl; store_after = refl; records_after = refl; left = λ ne. refl }
 
 pub receive-requires : goal.receive-requires
-receive-requires c = ready_with c.args.words.now c.args.records.now (sym c.is_sound_with.ensures ∙ c.if-not-is_sound_with.false)
+receive-requires c = rw c.in-Some.ensures.value.same (ready_with c.args.words.now c.args.records.now c.in-Some.ensures.value.judged)
 
 pub returns : goal.returns
-returns c = let e = c.receive.ensures in
+returns c = let e = rw c.in-Some.ensures.value.same at c.receive.ensures in
     let t = c.tell.ensures in
     record { value = t ∙ ap (λ x. (outcome_told x).number) e.value; words_after = e.words_after; store_after = e.store_after; records_after = e.records_after; left = λ ne. e.left (λ z. ne (t ∙ z)) }

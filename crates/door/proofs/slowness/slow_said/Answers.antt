@@ -5,9 +5,9 @@ use Rattle.words.specs.Meaning.{state_of}
 use Rattle.door.specs.Slowness.{none-listed}
 use Rattle.door.proofs.slowness.slow_said.Goals as goal
 
-pub returns-then-words-ne-WORDS : goal.returns-then-words-ne-WORDS
+pub returns-in_default : goal.returns-in_default
 unfolding state_of
-returns-then-words-ne-WORDS c = simp (ne_eqb _ _ c.if-words-ne-WORDS.true) (sym none-listed)
+returns-in_default c = simp (ne_eqb _ _ c.in_default.ensures.cases) (sym none-listed)
 
 pub returns : goal.returns
-returns c = c.slow.ensures
+returns c = rw c.in-Some.ensures.cases.same at c.slow.ensures

@@ -14,5 +14,5 @@ unfolding acked_row
 returns c =
     let a = c.args in
     let here = sym c.in_table.ensures ∙ c.if-not-in_table.false in
-    let cell = c.packet_of-p.ensures ∙ looked-cell a.s (shaped a.s c.well_formed.0) c.requires a.seq.0 c.well_formed.1.1.1.0.1.1.0.1 here in
+    let cell = c.packet_of.ensures ∙ looked-cell a.s (shaped a.s c.well_formed.0) c.requires a.seq.0 c.well_formed.1.1.1.0.1.1.0.1 here in
     simp (here, c.settle_row.ensures, cell, c.mark_acked-row.ensures, c.row_of.ensures)

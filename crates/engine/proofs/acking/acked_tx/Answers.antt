@@ -15,7 +15,7 @@ settle_tx-requires c =
     let typed = shaped a.s c.well_formed.0 in
     let u32 = c.well_formed.1.1.0.1.1.0.1 in
     let here = sym c.in_table.ensures ∙ c.if-not-in_table.false in
-    let cell = c.packet_of-p.ensures ∙ looked-cell a.s typed c.requires a.seq.0 u32 here in
+    let cell = c.packet_of.ensures ∙ looked-cell a.s typed c.requires a.seq.0 u32 here in
     (rw cell (ack-fits a.s a.seq.0 typed c.requires u32 here), c.requires.packet-count)
 
 pub returns : goal.returns
@@ -23,5 +23,5 @@ unfolding acked_tx
 returns c =
     let a = c.args in
     let here = sym c.in_table.ensures ∙ c.if-not-in_table.false in
-    let cell = c.packet_of-p.ensures ∙ looked-cell a.s (shaped a.s c.well_formed.0) c.requires a.seq.0 c.well_formed.1.1.0.1.1.0.1 here in
+    let cell = c.packet_of.ensures ∙ looked-cell a.s (shaped a.s c.well_formed.0) c.requires a.seq.0 c.well_formed.1.1.0.1.1.0.1 here in
     simp (here, c.settle_tx.ensures, cell)

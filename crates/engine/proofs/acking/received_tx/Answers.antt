@@ -5,4 +5,4 @@ use Rattle.engine.proofs.acking.received_tx.Goals as goal
 
 pub returns : goal.returns
 unfolding received_tx with_packet
-returns c = simp (c.less.ensures, c.with_packet-out.ensures, c.with_status.ensures)
+returns c = simp (c.saturating_sub.ensures, c.with_packet.ensures, c.with_status.ensures)

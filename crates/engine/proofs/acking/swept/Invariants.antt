@@ -1,13 +1,8 @@
 -- What is left of the table gives the same answer at each turn.
-use Rattle.std.proofs.Common.{◌≡◌, ◌<◌}
-use Rattle.engine.specs.Ring.{window}
-use Rattle.engine.specs.Packets.{no_packet}
+use Rattle.std.proofs.Common.{◌≡◌, length}
+use Rattle.engine.specs.InOrder.{packets_left}
 use Rattle.engine.specs.Acking.{sweep_from, sweep_of}
-use Rattle.engine.specs.Sizes.{PACKETS}
 use Rattle.engine.proofs.acking.swept.Given as goal
 
-abbrev pub invariant-loop-left : goal.invariant-loop-left
-invariant-loop-left l = (l.at < PACKETS) × (sweep_from (window PACKETS no_packet l.tx.txed_packets l.at l.left) l.last l.held ≡ sweep_of l.tx)
-
-abbrev pub decreases-loop-left : goal.decreases-loop-left
-decreases-loop-left l = l.left
+abbrev pub invariant-loop-p : goal.invariant-loop-p
+invariant-loop-p l = (length (packets_left l.p-iterator) ≡ l.front.left) × (sweep_from (packets_left l.p-iterator) l.front.last l.front.held ≡ sweep_of l.fn.tx)

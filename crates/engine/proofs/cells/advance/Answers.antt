@@ -1,5 +1,5 @@
 -- As many turns as are left advance what is there to the same table.
-use Rattle.std.proofs.Common.{◌≡◌, ℕ, true, false, List, length, sym, refl, ap, ◌∙◌, ap₂, arith, length-set}
+use Rattle.std.proofs.Common.{◌≡◌, ℕ, ◌+◌, ◌-◌, true, false, List, length, sym, refl, ap, ◌∙◌, ap₂, arith, length-set}
 use Rattle.engine.specs.declared.state.Receiving.{Receiving}
 use Rattle.engine.specs.Received.{RxTable, table_of}
 use Rattle.engine.specs.CellTally.{Lent}
@@ -16,49 +16,44 @@ stepped : (t : RxTable) {N M : ℕ} {rx : Receiving} {records : List ℕ} → N 
     → table_of rx records ≡ passed_over M t
 stepped t e p q = ap₂ table_of p q ∙ ap (λ n. passed_over n t) e
 
-pub loop-left-init : goal.loop-left-init
-loop-left-init c = (refl, refl, refl)
+pub loop-init : goal.loop-init
+loop-init c = let all : c.args.rx.cells - 0 ≡ c.args.rx.cells = omega arith in (refl, refl, simp all)
 
 pub can_advance-requires : goal.can_advance-requires
-can_advance-requires c = let l = c.loop-left.invariant in lent c.requires l.0 l.1
+can_advance-requires c = let l = c.loop.invariant in lent c.requires l.0 l.1
 
 pub shape_of-records-then-not-can_advance : goal.shape_of-records-then-not-can_advance
-shape_of-records-then-not-can_advance c = c.loop-left.invariant.1
+shape_of-records-then-not-can_advance c = c.loop.invariant.1
 
 pub returns-then-not-can_advance : goal.returns-then-not-can_advance
-returns-then-not-can_advance c = let l = c.loop-left in
+returns-then-not-can_advance c = let l = c.loop in
     let N = c.args.rx.cells in
     let t = table_of l.out l.records in
     let off : can_advance N t ≡ false = ap (λ n. can_advance n t) (sym l.invariant.0) ∙ sym c.can_advance.ensures ∙ c.if-not-can_advance.true in
-    let same = turn-off (can_advance N) (passed_over N) l.left t _ l.invariant.2 off in
+    let same = turn-off (can_advance N) (passed_over N) (N - l.counter) t _ l.invariant.2 off in
     record { value = ap (λ (x : RxTable). x.rx) same; records_after = ap (λ (x : RxTable). x.records) same }
 
 pub pass-out-requires : goal.pass-out-requires
-pass-out-requires c = let l = c.loop-left.invariant in lent c.requires l.0 l.1
+pass-out-requires c = let l = c.loop.invariant in lent c.requires l.0 l.1
 
-pub overflow_sub-left : goal.overflow_sub-left
-overflow_sub-left c = omega arith
-
-pub loop-left-smaller : goal.loop-left-smaller
-loop-left-smaller c = omega arith
-
-pub loop-left-preserved : goal.loop-left-preserved
+pub loop-preserved : goal.loop-preserved
 unfolding passed_over
-loop-left-preserved c = let l = c.loop-left in
+loop-preserved c = let l = c.loop in
     let N = c.args.rx.cells in
     let t = table_of l.out l.records in
     let on : can_advance N t ≡ true = ap (λ n. can_advance n t) (sym l.invariant.0) ∙ sym c.can_advance.ensures ∙ c.if-not-can_advance.false in
+    let left : N - (l.counter + 1) ≡ N - l.counter - 1 = omega arith in
     let p = c.pass-out.ensures in (
       ap (λ (x : Receiving). x.cells) p.value ∙ l.invariant.0,
       ap length p.records_after ∙ simp length-set l.invariant.1,
-      ap (advanced N _) (stepped t l.invariant.0 p.value p.records_after) ∙ turn_on (can_advance N) (passed_over N) l.left t _ l.invariant.2 c.loop-left-test.true on,
+      (λ i. advanced N (left i) (stepped t l.invariant.0 p.value p.records_after i)) ∙ turn_on (can_advance N) (passed_over N) (N - l.counter) t _ l.invariant.2 (omega arith) on,
     )
 
 pub shape_of-records : goal.shape_of-records
-shape_of-records c = c.loop-left.invariant.1
+shape_of-records c = c.loop.invariant.1
 
 pub returns : goal.returns
-returns c = let l = c.loop-left in
+returns c = let l = c.loop in
     let N = c.args.rx.cells in
-    let same = turn-out (can_advance N) (passed_over N) l.left (table_of l.out l.records) _ l.invariant.2 c.loop-left-test.false in
+    let same = turn-out (can_advance N) (passed_over N) (N - l.counter) (table_of l.out l.records) _ l.invariant.2 (omega arith) in
     record { value = ap (λ (x : RxTable). x.rx) same; records_after = ap (λ (x : RxTable). x.records) same }

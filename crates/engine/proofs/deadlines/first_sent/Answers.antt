@@ -1,49 +1,46 @@
--- What is left of the table has the same first Sent packet at each turn.
-use Rattle.std.proofs.Common.{sym, ◌∙◌, arith}
-use Rattle.engine.specs.Ring.{next-cell-lt}
-use Rattle.engine.specs.Deadlines.{first-here, first_on, first-end}
-use Rattle.engine.specs.Sizes.{PACKETS}
+-- Going round, `find` comes to the first Sent packet of those that are left.
+use Rattle.std.proofs.Common.{◌≡◌, Bool, true, false, List, [], ◌∷◌, Option, Some, None, IfSome, sym, ap, ◌∙◌, rules}
+use Rattle.std.specs.Fn.{CalledAt}
+use Rattle.std.specs.Iterator.{Yields, YieldsFirst}
+use Rattle.std.specs.List.{FoldsTo}
+use denote.Param.Members.{Mut}
+use denote.Ref.{Bor}
+use Rattle.engine.specs.declared.state.InFlight.{InFlight}
+use Rattle.engine.specs.declared.state.SentReliable.{SentReliable}
+use Rattle.engine.specs.Packets.{is_sent}
+use Rattle.engine.specs.InOrder.{packets_left}
+use Rattle.engine.specs.Deadlines.{in_flight, first_sent}
 use Rattle.engine.proofs.deadlines.first_sent.Goals as goal
 
-pub first_cell-at-requires : goal.first_cell-at-requires
-first_cell-at-requires c = c.requires
+-- what is kept of a packet that was found
+abbrev kept : Option SentReliable → Option InFlight
+kept None = None
+kept (Some p) = in_flight p.status
 
-pub loop-left-init : goal.loop-left-init
-loop-left-init c = (c.first_cell-at.ensures.upper_bound, simp c.first_cell-at.ensures.value)
+found : {S F : Type 0} (rest : S → List SentReliable) (g : Mut F (Bor SentReliable × Unit {0}) Bool)
+    → ((p : SentReliable) (b : Bool) (f f' : F) → CalledAt g f p b f' → b ≡ is_sent p.status)
+    → (ps : List SentReliable) (s t u : S) (f f' : F) (r : Option SentReliable)
+    → Yields (YieldsFirst rest) s ps t → YieldsFirst rest t r u → FoldsTo (λ k p q. CalledAt g k p false q) f ps f'
+    → IfSome r (λ p. (h : F) × CalledAt g f' p true h) → kept r ≡ first_sent (rest s)
+unfolding first_sent
+found rest g says [] s t u f f' None y n z e = sym (ap first_sent (ap rest y ∙ n.0))
+found rest g says [] s t u f f' (Some p) y n z e =
+    let left = ap rest y ∙ n in
+    let sent = sym (says p true f' e.0 e.1) in
+    simp (left, sent)
+found rest g says (p ∷ ps) s t u f f' r y n z e =
+    let later = found rest g says ps y.0 t u z.0 f' r y.2 n z.2 e in
+    let passed = sym (says p false f z.0 z.1) in
+    later ∙ simp (y.1, passed)
 
-pub offset_bounds-tx-at : goal.offset_bounds-tx-at
-offset_bounds-tx-at c = omega arith
-
-pub bounds-tx-at : goal.bounds-tx-at
-bounds-tx-at c = omega arith
-
-pub is_sent-requires : goal.is_sent-requires
-is_sent-requires c = tt
-
-pub in_flight-requires : goal.in_flight-requires
-in_flight-requires c = tt
-
-pub returns-then-is_sent : goal.returns-then-is_sent
-returns-then-is_sent c = let l = c.loop-left in
-    let r = sym c.is_sent.ensures ∙ c.if-is_sent.true in
-    c.in_flight.ensures ∙ sym (first-here c.args.tx.txed_packets l.at l.left c.loop-left-test.true r) ∙ l.invariant.1
-
-pub next_cell-at-requires : goal.next_cell-at-requires
-next_cell-at-requires c = tt
-
-pub overflow_sub-left : goal.overflow_sub-left
-overflow_sub-left c = omega arith
-
-pub loop-left-smaller : goal.loop-left-smaller
-loop-left-smaller c = omega arith
-
-pub loop-left-preserved : goal.loop-left-preserved
-loop-left-preserved c = let l = c.loop-left in
-    let r = sym c.is_sent.ensures ∙ c.if-is_sent.false in (
-      rw c.next_cell-at.ensures (next-cell-lt PACKETS l.at (omega arith)),
-      simp c.next_cell-at.ensures (sym (first_on c.args.tx.txed_packets l.at l.left c.loop-left-test.true r) ∙ l.invariant.1),
-    )
+pub returns-in_err-first : goal.returns-in_err-first
+returns-in_err-first c = let r = c.in_err-first.ensures.ran in
+    c.from_residual.ensures
+    ∙ found packets_left _ (λ p b f h k. search rules) r.0 _ _ _ _ _ None r.2.1 r.2.2 r.3 r.4
+    ∙ ap first_sent c.of.ensures
 
 pub returns : goal.returns
-returns c = let l = c.loop-left in
-    sym (first-end c.args.tx.txed_packets l.at l.left c.loop-left-test.false) ∙ l.invariant.1
+returns c = let r = c.in_ok-first.ensures.ran in
+    c.in_flight.ensures
+    ∙ found packets_left _ (λ p b f h k. search rules) r.0 _ _ _ _ _ (Some c.in_ok-first.first) r.2.1 r.2.2 r.3 r.4
+    ∙ ap first_sent c.of.ensures

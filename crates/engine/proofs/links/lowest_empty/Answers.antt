@@ -1,42 +1,26 @@
--- The rows that are left to look at give the same slot at each turn.
-use Rattle.std.proofs.Common.{◌≡◌, length, get_or, sym, refl, ◌∙◌, arith, rules}
-use Rattle.link.specs.Row.{no_row}
-use borrow.Author.Tests.{not-true, not-false}
-use Rattle.engine.specs.Links.{lowest_step, lowest-none}
+-- The definition counts the rows with a link from the first on.
+use Rattle.std.proofs.Common.{◌≡◌, ℕ, suc, ◌+◌, cond, not, List, [], ◌∷◌, length, nat_lt, Some, None, ◌∙◌, arith, rules, tests}
+use Rattle.std.specs.List.{position_or_len}
+use Rattle.std.proofs.lemmas.Iterator.{YieldsList-from_slice}
+use Rattle.std.proofs.lemmas.Iterator.Search.{position_from_yields_List}
+use borrow.Table.Steps.{cases}
+use Rattle.link.specs.declared.row.LinkRow.{LinkRow}
+use Rattle.engine.specs.Links.{lowest_empty}
 use Rattle.engine.proofs.links.lowest_empty.Goals as goal
 
-pub loop-j-init : goal.loop-j-init
-loop-j-init c = (omega arith, refl)
-
-pub overflow_cast-row : goal.overflow_cast-row
-overflow_cast-row c = omega arith
-
-pub offset_bounds-links-j : goal.offset_bounds-links-j
-offset_bounds-links-j c = omega arith
-
-pub bounds-links-j : goal.bounds-links-j
-bounds-links-j c = omega arith
-
-pub returns-then-not-row : goal.returns-then-not-row
-returns-then-not-row c = let l = c.loop-j in
-    let a = c.args in
-    let long : length a.links ≡ 8 = search rules in
-    record { value = sym (lowest_step a.links l.j l.j (omega arith) ∙ simp (not-true (get_or a.links l.j no_row).live c.if-not-row.true)) ∙ l.invariant.1; upper_bound = l.invariant.0 }
-
-pub overflow_add-j : goal.overflow_add-j
-overflow_add-j c = omega arith
-
-pub loop-j-smaller : goal.loop-j-smaller
-loop-j-smaller c = omega arith
-
-pub loop-j-preserved : goal.loop-j-preserved
-loop-j-preserved c = let l = c.loop-j in
-    let a = c.args in
-    let long : length a.links ≡ 8 = search rules in
-    (omega arith, sym (lowest_step a.links l.j l.j (omega arith) ∙ simp (not-false (get_or a.links l.j no_row).live c.if-not-row.false)) ∙ l.invariant.1)
+counted : (rows : List LinkRow) (slot : ℕ) → slot + position_or_len (λ row. not row.live) rows ≡ lowest_empty rows slot
+unfolding lowest_empty
+counted [] slot = omega arith
+counted (row ∷ rows) slot =
+    let rest = counted rows (suc slot) in
+    cases row.live
+    (λ t. simp t (omega (arith, rest)))
+    (λ t. simp t (omega arith))
 
 pub returns : goal.returns
-returns c = let l = c.loop-j in
-    let a = c.args in
-    let long : length a.links ≡ 8 = search rules in
-    record { value = sym (lowest-none a.links l.j l.j (omega arith)) ∙ l.invariant.1; upper_bound = l.invariant.0 }
+returns c = let links = c.args.links in
+    let first = position_or_len (λ (row : LinkRow). not row.live) links in
+    let same : first ≡ lowest_empty links 0 = omega (arith, counted links 0) in
+    let long : length links ≡ 8 = search rules in
+    position_from_yields_List (λ (row : LinkRow). not row.live) _ _ c.position.result c.position.ensures.ran (YieldsList-from_slice links (cc)) (λ x b q k. search (rules, tests))
+    ∙ (λ i. cond (nat_lt (same i) (long i)) (Some (same i)) None)

@@ -1,7 +1,13 @@
 -- The three tests, joined.
+use Rattle.std.proofs.Common.{arith}
+use Rattle.std.proofs.lemmas.Grind.{common_steps}
 use Rattle.engine.specs.Tally.{packet_ok}
 use Rattle.engine.proofs.packets.packet_ok.Goals as goal
 
-pub returns : goal.returns
+pub returns-then-length_ok : goal.returns-then-length_ok
 unfolding packet_ok
-returns c = simp (c.both-2.ensures, c.both.ensures, c.eq.ensures, c.status_ok-well.ensures, c.length_ok-length.ensures)
+returns-then-length_ok c = grind (arith, common_steps)
+
+pub returns-else-length_ok : goal.returns-else-length_ok
+unfolding packet_ok
+returns-else-length_ok c = grind (arith, common_steps)

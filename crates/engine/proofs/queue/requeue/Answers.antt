@@ -2,9 +2,6 @@
 use Rattle.engine.specs.Queue.{requeued}
 use Rattle.engine.proofs.queue.requeue.Goals as goal
 
-pub gather-g-requires : goal.gather-g-requires
-gather-g-requires c = c.requires
-
 pub returns : goal.returns
 unfolding requeued
 returns c = simp (c.gather-g.ensures.numbers_value, c.gather-g.ensures.count_value)

@@ -1,4 +1,4 @@
--- A Data by its word, where nothing else is asked of it; any other as it says.
+-- A Data by its word, where nothing else is asked of it.
 use Rattle.std.proofs.Common.{sym}
 use Rattle.engine.specs.CellTally.{data-well}
 use Rattle.engine.proofs.received.record_ok.Goals as goal

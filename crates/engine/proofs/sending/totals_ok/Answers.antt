@@ -1,7 +1,13 @@
 -- The four tests, joined.
+use Rattle.std.proofs.Common.{arith}
+use Rattle.std.proofs.lemmas.Grind.{common_steps}
 use Rattle.engine.specs.Sending.{totals_ok}
 use Rattle.engine.proofs.sending.totals_ok.Goals as goal
 
-pub returns : goal.returns
+pub returns-then-sum_fits-3 : goal.returns-then-sum_fits-3
 unfolding totals_ok
-returns c = simp (c.both-3.ensures, c.both-2.ensures, c.both.ensures, c.told_ok-told.ensures, c.sum_fits-on.ensures, c.row_of.ensures, c.sum_fits-unconsumed.ensures, c.sum_fits-unacked.ensures)
+returns-then-sum_fits-3 c = grind (arith, common_steps)
+
+pub returns-else-sum_fits-3 : goal.returns-else-sum_fits-3
+unfolding totals_ok
+returns-else-sum_fits-3 c = grind (arith, common_steps)

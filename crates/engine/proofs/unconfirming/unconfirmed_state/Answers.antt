@@ -1,17 +1,17 @@
--- Each part by its own promise.
-use Rattle.engine.specs.Unconfirming.{unconfirmed_state}
+-- The table's promise at each packet; the rest is each callee's.
+use Rattle.std.proofs.Common.{rules}
+use Rattle.engine.proofs.Steps.{zip-map}
+use Rattle.engine.specs.Unconfirming.{unconfirmed_packet, unconfirmed_state}
 use Rattle.engine.specs.Table.{with_table}
 use Rattle.engine.proofs.unconfirming.unconfirmed_state.Goals as goal
 
-pub first_cell-first-requires : goal.first_cell-first-requires
-first_cell-first-requires c = c.requires
-
-pub unconfirm_packets-next-requires : goal.unconfirm_packets-next-requires
-unconfirm_packets-next-requires c = (c.first_cell-first.ensures.upper_bound, c.requires)
-
-pub requeue-out-requires : goal.requeue-out-requires
-requeue-out-requires c = c.requires
+pub requeue-requires : goal.requeue-requires
+unfolding with_table
+requeue-requires c = rw c.with_each-tx.ensures.2 c.requires
 
 pub returns : goal.returns
-unfolding unconfirmed_state with_table
-returns c = simp (c.requeue-out.ensures, c.with_row-out.ensures, c.unconfirm_packets-next.ensures, c.first_cell-first.ensures.value, c.unconfirm-row.ensures, c.row_of.ensures)
+unfolding unconfirmed_state
+returns c = let a = c.args in
+    let e = c.with_each-tx.ensures in
+    let same = zip-map _ (unconfirmed_packet a.slot) (λ p q k. search rules) _ e.0 e.1 in
+    simp (c.requeue.ensures, c.with_row.ensures, e.2, same, c.unconfirm-row.ensures, c.row_of.ensures)

@@ -12,4 +12,4 @@ pub returns : goal.returns
 returns c = let a = c.args in
     let s = state_of a.words.now in
     c.weight_in.ensures
-    ∙ ap (λ (p : SentReliable). weight_of p a.n (get_or s.tx.resend_queue (a.queued % 64) (seq_of 0)) (roster_of s.links) a.time) (packet-got a.words.now c.requires.0 a.at c.requires.1)
+    ∙ ap (λ (p : SentReliable). weight_of p a.n (get_or s.tx.resend_queue (a.queued % 64) (seq_of 0)) (roster_of s.links) a.time) (packet-got a.words.now c.told-words a.at c.requires)

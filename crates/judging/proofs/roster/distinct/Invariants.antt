@@ -5,8 +5,5 @@ use Rattle.engine.specs.Roster.{roster_of}
 use Rattle.words.specs.Meaning.{state_of}
 use Rattle.judging.proofs.roster.distinct.Given as goal
 
-abbrev pub invariant-loop-left : goal.invariant-loop-left
-invariant-loop-left l = (l.left ≤ 8) × (distinct_below (roster_of (state_of l.words).links) l.left ≡ distinct_below (roster_of (state_of l.words).links) 8)
-
-abbrev pub decreases-loop-left : goal.decreases-loop-left
-decreases-loop-left l = l.left
+abbrev pub invariant-loop-slot : goal.invariant-loop-slot
+invariant-loop-slot l = (l.slot ≤ 8) × (distinct_below (roster_of (state_of l.words).links) l.slot ≡ distinct_below (roster_of (state_of l.words).links) 8)

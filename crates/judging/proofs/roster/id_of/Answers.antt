@@ -4,4 +4,4 @@ use Rattle.judging.specs.Words.{id-read}
 use Rattle.judging.proofs.roster.id_of.Goals as goal
 
 pub returns : goal.returns
-returns c = sym (id-read c.args.words.now c.requires.0 c.args.slot c.requires.1)
+returns c = sym (id-read c.args.words.now c.told-words c.args.slot c.requires)

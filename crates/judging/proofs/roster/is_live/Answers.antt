@@ -4,4 +4,4 @@ use Rattle.words.specs.Read.{live-read}
 use Rattle.judging.proofs.roster.is_live.Goals as goal
 
 pub returns : goal.returns
-returns c = sym (live-read c.args.words.now c.requires.0 c.args.slot c.requires.1)
+returns c = sym (live-read c.args.words.now c.told-words c.args.slot c.requires)

@@ -6,9 +6,10 @@ use Rattle.words.specs.Ready.{shaped-words}
 use Rattle.judging.specs.Words.{unlike-words}
 use Rattle.judging.proofs.sound.is_sound.Goals as goal
 
-pub returns-then-words-ne-WORDS : goal.returns-then-words-ne-WORDS
-returns-then-words-ne-WORDS c = sym (unlike-words c.args.words.now c.if-words-ne-WORDS.true)
+pub returns-in_default : goal.returns-in_default
+returns-in_default c = sym (unlike-words c.args.words.now c.in_default.ensures.cases)
 
 pub returns : goal.returns
 returns c = let w = c.args.words.now in
-    c.found_sound.ensures ∙ found-same (state_of w) (shaped-words w c.if-words-ne-WORDS.false (λ i. (c.type_inv.words i).fits))
+    let all = c.in-Some.ensures.cases in
+    rw all.same at (c.found_sound.ensures ∙ found-same (state_of c.in-Some.words.now) (rw all.same (shaped-words w all.long (λ i. (c.type_inv.words i).fits))))

@@ -17,4 +17,4 @@ returns c = let w = c.args.words.now in
     let q = with_acks (row_at s j) (shifted (row_at s j).tx_ack_queue) (row_at s j).ack_count in
     c.put_row.ensures
     ∙ (λ i. let t = c.shift_acks.ensures i in with_row t j (over (row_at t j) (c.fewer.ensures i)))
-    ∙ acks-dropped s j row (rw (links-long w c.requires.0) c.requires.1) c.requires.2 c.requires.3
+    ∙ acks-dropped s j row (rw (links-long w c.told-words) c.requires.0) c.requires.1 c.requires.2

@@ -4,4 +4,4 @@ use Rattle.links_in_place.proofs.adding.clear_acks.Goals as goal
 
 pub returns : goal.returns
 returns c = let a = c.args in
-    acks-cleared a.words.now c.requires.0 a.slot c.requires.1 c.empty_records.new.records c.empty_records.ensures
+    acks-cleared a.words.now c.told-words a.slot c.requires c.empty_records.new.records c.empty_records.ensures

@@ -14,4 +14,4 @@ returns c = let a = c.args in
     let j = a.slot in
     c.put_row.ensures
     ∙ ap (λ s. with_row s j (over (row_at s j) a.row)) c.clear_acks.ensures
-    ∙ new_row (state_of w) j a.row (rw (links-long w c.requires.0) c.requires.1)
+    ∙ new_row (state_of w) j a.row (rw (links-long w c.told-words) c.requires)

@@ -1,35 +1,28 @@
--- Its row is changed where the slot holds a link.
-use mathlib.Core.Path.{refl, sym, ap, ◌∙◌}
-use Rattle.engine.specs.Links.{confirm_of}
-use Rattle.engine.specs.Sound.{row_at}
+-- The row is changed as the call says.
+use Rattle.std.proofs.Common.{◌≡◌, rules, sym, ◌∙◌}
 use Rattle.link.specs.declared.row.LinkRow.{LinkRow}
-use Rattle.words.specs.Meaning.{state_of}
-use Rattle.links_in_place.specs.RowsBare.{row-changed, bare-confirmed}
-use Rattle.links_in_place.specs.Gated.{slot_small, slot-here, slot-not}
 use Rattle.link.specs.Row.{confirmed}
+use Rattle.engine.specs.Fields.{with_row}
+use Rattle.engine.specs.Gates.{slot_verdict}
+use Rattle.engine.specs.Links.{confirm_of}
+use Rattle.engine.specs.Rows.{row_of}
+use Rattle.engine.specs.Sound.{row_at}
+use Rattle.words.specs.Encoded.{bare}
+use Rattle.words.specs.Meaning.{state_of}
+use Rattle.links_in_place.specs.Changed.{done}
+use Rattle.links_in_place.specs.Gated.{passed-small}
+use Rattle.links_in_place.specs.RowsBare.{row-changed, bare-confirmed}
 use Rattle.links_in_place.proofs.links.confirm.Goals as goal
-
-pub returns-then-not-slot_ok : goal.returns-then-not-slot_ok
-unfolding confirm_of
-returns-then-not-slot_ok c = let e = slot-not (state_of c.args.words.now) c.requires.judged c.args.slot (sym c.slot_ok.ensures ∙ c.if-not-slot_ok.true) in simp e record { value = refl; words_after = refl; left = λ ne. refl }
-
-pub row_at-row-requires : goal.row_at-row-requires
-row_at-row-requires c = (c.requires.long, slot_small (state_of c.args.words.now) c.requires.judged c.args.slot (sym c.slot_ok.ensures ∙ c.if-not-slot_ok.false))
-
-pub put_row-requires : goal.put_row-requires
-put_row-requires c = (c.requires.long, slot_small (state_of c.args.words.now) c.requires.judged c.args.slot (sym c.slot_ok.ensures ∙ c.if-not-slot_ok.false))
 
 pub returns : goal.returns
 unfolding confirm_of
-returns c = let s = (state_of c.args.words.now) in
+returns c = let s = state_of c.args.words.now in
     let j = c.args.slot in
-    let ok = (sym c.slot_ok.ensures ∙ c.if-not-slot_ok.false) in
-    let e = slot-here s c.requires.judged j ok in
     let F : LinkRow → LinkRow = λ r. confirmed r in
-    simp e record {
-      value = refl;
-      words_after = c.put_row.ensures
-          ∙ row-changed s j F c.confirm.result (slot_small s c.requires.judged j ok) (bare-confirmed (row_at s j))
-          (c.confirm.ensures ∙ ap F c.row_at-row.ensures);
-      left = λ ne. absurd (ne refl);
-    }
+    let e = c.change.ensures in
+    let d = done (slot_verdict s j) c.change.result (with_row s j (F (row_of s j))) c.args.words.now c.change.new.words e.value
+    (λ v. let k = e.words_after (e.value ∙ v) in
+    let q : k.0 ≡ F (bare (row_at s j)) = let p = k.1 in search rules in
+    k.2 ∙ row-changed s j F k.0 (passed-small s j v) (bare-confirmed (row_at s j)) q)
+    (λ ne. e.left (λ v. ne (sym e.value ∙ v))) in
+    record { value = d.value; words_after = d.words_after; left = d.left }

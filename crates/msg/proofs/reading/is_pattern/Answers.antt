@@ -1,46 +1,27 @@
--- What is left of the pattern and of the bytes gives the same answer at each turn, and the counter is the remainder of i.
-use mathlib.Core.Path.{refl, ◌∙◌, sym}
+-- What is left of the pattern and of the bytes gives the same answer at each turn, and the counter is the remainder of the index.
+use mathlib.Core.Path.{◌∙◌, sym}
 use lib.ListN.{length}
 use native.Mathlib.Omega.{arith}
 use Rattle.msg.specs.Messages.{pattern}
 use Rattle.msg.specs.RoundTrip.{length-pattern, pattern-at}
 use Rattle.msg.proofs.Opening.{opens-end, opens-same, opens-other}
 use Rattle.msg.proofs.reading.is_pattern.Goals as goal
-use Rattle.msg.proofs.reading.is_pattern.Goals.{else-next, then-next}
 
-pub loop-i-init : goal.loop-i-init
-loop-i-init c = (omega arith, refl, refl)
-
-pub bounds-bytes-i : goal.bounds-bytes-i
-bounds-bytes-i c = omega arith
-
-pub returns-then-bytes-i : goal.returns-then-bytes-i
-returns-then-bytes-i c = let l = c.loop-i in
+pub returns-then-byte-next : goal.returns-then-byte-next
+returns-then-byte-next c = let l = c.loop-byte in
     let bytes = c.args.bytes.now in
-    let size = length-pattern (length bytes) in
-    let here = pattern-at (length bytes) l.i (omega arith) in
-    sym (opens-other (pattern (length bytes)) bytes l.i (omega (arith, size)) (omega arith) (λ e. c.if-bytes-i.true (e ∙ here ∙ sym l.invariant.1))) ∙ l.invariant.2
+    let here = pattern-at (length bytes) l.byte-index (omega arith) in
+    sym (opens-other (pattern (length bytes)) bytes l.byte-index (omega (arith, length-pattern (length bytes))) (omega arith) (λ e. c.if-byte-next.true (e ∙ here ∙ sym l.invariant.0))) ∙ l.invariant.1
 
-pub overflow_add-next : goal.overflow_add-next
-overflow_add-next c = omega arith
-
-pub overflow_add-i : goal.overflow_add-i
-overflow_add-i c = omega arith
-
-pub loop-i-smaller : goal.loop-i-smaller
-loop-i-smaller c = omega arith
-
-pub loop-i-preserved : goal.loop-i-preserved
-loop-i-preserved c = let l = c.loop-i in
+pub loop-byte-preserved : goal.loop-byte-preserved
+loop-byte-preserved c = let l = c.loop-byte in
     let bytes = c.args.bytes.now in
-    let size = length-pattern (length bytes) in
-    let here = pattern-at (length bytes) l.i (omega arith) in (
+    let here = pattern-at (length bytes) l.byte-index (omega arith) in (
       omega arith,
-      (elim c.if-next.branch [ then-next w ↦ omega arith | else-next w ↦ omega arith ]),
-      opens-same (pattern (length bytes)) bytes l.i (omega (arith, size)) (omega arith) (c.if-bytes-i.false ∙ l.invariant.1 ∙ sym here) ∙ l.invariant.2,
+      opens-same (pattern (length bytes)) bytes l.byte-index (omega (arith, length-pattern (length bytes))) (omega arith) (c.if-byte-next.false ∙ l.invariant.0 ∙ sym here) ∙ l.invariant.1,
     )
 
 pub returns : goal.returns
-returns c = let l = c.loop-i in
+returns c = let l = c.loop-byte in
     let bytes = c.args.bytes.now in
-    sym (opens-end (pattern (length bytes)) bytes l.i (omega (arith, length-pattern (length bytes), c.loop-i-test.false))) ∙ l.invariant.2
+    sym (opens-end (pattern (length bytes)) bytes l.byte-index (omega (arith, length-pattern (length bytes), c.loop-byte-test.false))) ∙ l.invariant.1

@@ -22,22 +22,22 @@ store_message-next-requires c = let a = c.args in
     let s = state_of a.words.now in
     let p = receive-passed s _ a.records.now a.slot a.msg a.seq.0 _ c.requires.payload_value in
     let number : a.seq.0 < 2 ^ 32 = search rules in
-    let shape = shaped-words a.words.now c.requires.words_len.0 (λ i. omega (arith, c.type_inv.words i)) in
-    rw c.requires.words_len.1 (storing s _ a.records.now a.slot a.msg a.seq.0 _ shape number p c.requires.seq_value)
+    let shape = shaped-words a.words.now c.told-words (λ i. search rules) in
+    rw c.requires.words_len (storing s _ a.records.now a.slot a.msg a.seq.0 _ shape number p c.requires.seq_value)
 
 pub put_received-requires : goal.put_received-requires
 put_received-requires c = let a = c.args in
     let s = state_of a.words.now in
     let p = receive-passed s _ a.records.now a.slot a.msg a.seq.0 _ c.requires.payload_value in
-    (c.requires.words_len.0, p.at.small, rw (c.store_message-next.ensures.value, c.requires.words_len.1) (stored-moves s.rx.cells (table_of s.rx a.records.now) a.msg a.seq.0 _), rw (row-of s a.slot p.at.small) at p.room, (p.new c.requires.seq_value).told)
+    (p.at.small, rw (c.store_message-next.ensures.value, c.requires.words_len) (stored-moves s.rx.cells (table_of s.rx a.records.now) a.msg a.seq.0 _), rw (row-of s a.slot p.at.small) at p.room, (p.new c.requires.seq_value).told)
 
 pub keep_bytes-requires : goal.keep_bytes-requires
 keep_bytes-requires c = let a = c.args in
     let s = state_of a.words.now in
     let p = receive-passed s _ a.records.now a.slot a.msg a.seq.0 _ c.requires.payload_value in
     let count = cell-count s.rx.cells p.at.fine.cell-count in
-    rw c.requires.words_len.1 (count.some, count.few, p.stored, p.short)
+    rw c.requires.words_len (count.some, count.few, p.stored, p.short)
 
 pub returns : goal.returns
 unfolding received_state
-returns c = record { words_after = rw (c.put_received.ensures, c.store_message-next.ensures.value, c.requires.words_len.1); store_after = rw (c.keep_bytes.ensures, c.requires.words_len.1); records_after = rw (c.store_message-next.ensures.records_after, c.requires.words_len.1) }
+returns c = record { words_after = rw (c.put_received.ensures, c.store_message-next.ensures.value, c.requires.words_len); store_after = rw (c.keep_bytes.ensures, c.requires.words_len); records_after = rw (c.store_message-next.ensures.records_after, c.requires.words_len) }

@@ -3,10 +3,10 @@ use mathlib.Core.Path.{sym, ◌∙◌}
 use Rattle.replaying.specs.Feeding.{carrying, close-none, close-last}
 use Rattle.replaying.proofs.feeding.last_line.Goals as goal
 
-pub returns-then-count-eq0 : goal.returns-then-count-eq0
-returns-then-count-eq0 c = let a = c.args in
-    sym (close-none (carrying a.session a.store.now a.records.now a.line.now) c.if-count-eq0.true)
+pub returns-then-session-eq0 : goal.returns-then-session-eq0
+returns-then-session-eq0 c = let a = c.args in
+    sym (close-none (carrying a.session a.store.now a.records.now a.line.now) c.if-session-eq0.true)
 
 pub returns : goal.returns
 returns c = let a = c.args in
-    c.end_line.ensures ∙ sym (close-last (carrying a.session a.store.now a.records.now a.line.now) c.if-count-eq0.false)
+    c.end_line.ensures ∙ sym (close-last (carrying a.session a.store.now a.records.now a.line.now) c.if-session-eq0.false)

@@ -9,7 +9,7 @@ unfolding answer_of
 returns-in-None c = let a = c.args in
     let h = recorded a.r.state a.records.now in
     c.answer_reading.ensures
-    ∙ ap (after_reading h a.store.now) c.read_frame-reading.ensures
+    ∙ ap (after_reading h a.store.now) c.read_frame.ensures
     ∙ sym (ap (λ w. answer_as w h a.store.now a.line.now) c.in-None.is)
 
 pub returns-in-Some : goal.returns-in-Some

@@ -1,6 +1,6 @@
--- Invariant: words and records are those of a sound state, and what is held and written is what the calls so far leave. Measure: the calls that are left.
-use native.Mathlib.Numerals.{add-one-le}
-use mathlib.Core.Path.{◌≡◌, refl, ap, ◌∙◌, subst}
+-- Invariant: words and records are those of a sound state, and what is held and written is what the calls so far leave.
+use borrow.Author.Rules.{rules}
+use mathlib.Core.Path.{◌≡◌, refl, sym, ap, ◌∙◌, subst}
 use Prim.Native.Nat.{ℕ, ◌+◌, ◌-◌, ◌*◌, ◌≤◌}
 use native.Mathlib.Omega.{arith}
 use lib.ListN.{take, drop, length-take, length-drop}
@@ -15,7 +15,7 @@ unfolding ran
 loop-i-init c = record {
   left = omega arith;
   ready = c.requires.0;
-  small = λ k. (c.type_inv.words k).fits;
+  small = λ k. search rules;
   words_long = refl;
   sent-long = refl;
   received-long = refl;
@@ -51,12 +51,6 @@ overflow_mul-i c = omega arith
 pub put_answer-requires : goal.put_answer-requires
 put_answer-requires c = omega (arith, c.loop-i.invariant.answers-long)
 
-pub overflow_add-i : goal.overflow_add-i
-overflow_add-i c = omega arith
-
-pub loop-i-smaller : goal.loop-i-smaller
-loop-i-smaller c = omega arith
-
 pub loop-i-preserved : goal.loop-i-preserved
 loop-i-preserved c = let a = c.args in
     let l = c.loop-i in
@@ -71,12 +65,12 @@ loop-i-preserved c = let a = c.args in
     let eight : l.i * 8 + 8 - l.i * 8 ≡ 8 = omega arith in
     let did : Did (asked_of (call_at calls l.i) bytes) l.words l.sent l.received l.records w s v r o.result =
     subst (λ (k : ℕ). Did (asked_of (take k (drop (l.i * 8) calls)) bytes) l.words l.sent l.received l.records w s v r o.result) eight o.ensures in
-    let next : l.i + 1 ≤ a.count = add-one-le c.loop-i-test.true in
+    let next : l.i + 1 ≤ a.count = omega arith in
     record {
       left = next;
-      ready = did-ready l.words l.sent l.received l.records inv.ready (asked_of (call_at calls l.i) bytes) w s v r o.result (asked-typed (call_at calls l.i) bytes) inv.small (o.auto.words ∙ inv.ready.ready.long) did;
-      small = λ k. (c.type_inv.words k).fits;
-      words_long = o.auto.words ∙ inv.words_long;
+      ready = did-ready l.words l.sent l.received l.records inv.ready (asked_of (call_at calls l.i) bytes) w s v r o.result (asked-typed (call_at calls l.i) bytes) inv.small o.array_long did;
+      small = c.each_fits.ensures;
+      words_long = o.array_long ∙ sym c.told-words;
       sent-long = o.auto.sent ∙ inv.sent-long;
       received-long = o.auto.received ∙ inv.received-long;
       records-long = o.auto.records ∙ inv.records-long;
@@ -85,9 +79,6 @@ loop-i-preserved c = let a = c.args in
           ap (run_of w s v r) c.put_answer.ensures ∙ did-step calls bytes l.i l.words l.sent l.received l.records l.answers w s v r o.result did
           ∙ ran_on l.i calls bytes (run_of a.words.now a.sent.now a.received.now a.records.now a.answers.now) (run_of l.words l.sent l.received l.records l.answers) inv.so_far;
     }
-
-pub shape_of-words : goal.shape_of-words
-shape_of-words c = c.loop-i.invariant.words_long
 
 pub shape_of-sent : goal.shape_of-sent
 shape_of-sent c = c.loop-i.invariant.sent-long

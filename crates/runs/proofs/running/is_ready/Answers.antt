@@ -1,11 +1,7 @@
--- By the length of the words, then by that of the records.
+-- By the length of the records.
 use borrow.Author.Tests.{eq-eqb, ne_eqb}
-use Rattle.runs.specs.Runs.{readyb, unlike-ready}
+use Rattle.runs.specs.Runs.{readyb}
 use Rattle.runs.proofs.running.is_ready.Goals as goal
-
-pub returns-then-words-ne-WORDS : goal.returns-then-words-ne-WORDS
-unfolding readyb
-returns-then-words-ne-WORDS c = unlike-ready c.args.words.now c.args.records.now c.if-words-ne-WORDS.true
 
 pub returns-then-records-rx : goal.returns-then-records-rx
 unfolding readyb

@@ -1,4 +1,5 @@
 -- By whether the table holds the number; in a sound state what waits to be consumed stays small.
+use borrow.Author.Rules.{rules}
 use mathlib.Core.Path.{◌≡◌, sym, ap, ◌∙◌}
 use mathlib.Core.Bool.{true, false}
 use Prim.Native.Nat.{◌^◌, ◌<◌}
@@ -25,21 +26,22 @@ returns-then-not-in_table c = let s = state_of c.args.words.now in
 
 pub settle_tx-requires : goal.settle_tx-requires
 unfolding in_table packet_of
-settle_tx-requires c = let s = state_of c.args.words.now in
+settle_tx-requires c =
+    let s = state_of c.args.words.now in
     let held : in_table s.tx c.args.seq.0 ≡ true = ap (λ n. held_in n c.args.seq.0) (sym c.tx_of-tx.ensures) ∙ sym c.in_table.ensures ∙ c.if-not-in_table.false in
     let u32 : c.args.seq.0 < 2 ^ 32 = omega (arith, c.well_formed) in
-    let shaped = (shaped-words c.args.words.now c.requires.0.long (λ i. (c.slice_known-1.given i).fits)) in
+    let shaped = (shaped-words c.args.words.now c.requires.0.long (λ i. search rules)) in
     let fine = ready-sound c.args.words.now c.requires.0 in
     let cell : c.packet_at-p.result ≡ packet_of s.tx c.args.seq.0 = c.packet_at-p.ensures.value ∙ ap (λ n. get_or s.tx.txed_packets n no_packet) c.cell_of.ensures.value in
     let here : c.packet_at-p.result ≡ looked_at s.tx c.args.seq.0 = cell ∙ cell-looked s shaped fine c.args.seq.0 u32 held in
-    (c.requires.0.long, cell, rw here (ack-fits s c.args.seq.0 shaped fine u32 held), fine.packet-count)
+    (cell, rw here (ack-fits s c.args.seq.0 shaped fine u32 held), fine.packet-count)
 
 pub returns : goal.returns
 unfolding acked_row acked_tx in_table packet_of
 returns c = let s = state_of c.args.words.now in
     let held : in_table s.tx c.args.seq.0 ≡ true = ap (λ n. held_in n c.args.seq.0) (sym c.tx_of-tx.ensures) ∙ sym c.in_table.ensures ∙ c.if-not-in_table.false in
     let u32 : c.args.seq.0 < 2 ^ 32 = omega (arith, c.well_formed) in
-    let shaped = (shaped-words c.args.words.now c.requires.0.long (λ i. (c.slice_known-1.given i).fits)) in
+    let shaped = (shaped-words c.args.words.now c.requires.0.long (λ i. search rules)) in
     let fine = ready-sound c.args.words.now c.requires.0 in
     let cell : c.packet_at-p.result ≡ packet_of s.tx c.args.seq.0 = c.packet_at-p.ensures.value ∙ ap (λ n. get_or s.tx.txed_packets n no_packet) c.cell_of.ensures.value in
     let here : c.packet_at-p.result ≡ looked_at s.tx c.args.seq.0 = cell ∙ cell-looked s shaped fine c.args.seq.0 u32 held in

@@ -8,8 +8,8 @@ use Rattle.sending_in_place.proofs.acking.settle_packet.Goals as goal
 
 pub overflow_add-tx : goal.overflow_add-tx
 overflow_add-tx c = let e : c.tx_of-tx.result.txed_unconsumable ≡ (state_of c.args.words.now).tx.txed_unconsumable = ap (λ n. n.txed_unconsumable) c.tx_of-tx.ensures in
-    omega (arith, e, c.requires.2)
+    omega (arith, e, c.requires.1)
 
 pub returns : goal.returns
 unfolding received_tx packet_of
-returns c = rw (c.put_txed_unconsumable.ensures, c.put_txed_unacked.ensures, c.put_received.ensures) (rw (c.less.ensures, c.cell_of.ensures.value, c.tx_of-tx.ensures, c.requires.1))
+returns c = rw (c.put_txed_unconsumable.ensures, c.put_txed_unacked.ensures, c.put_received.ensures) (rw (c.less.ensures, c.cell_of.ensures.value, c.tx_of-tx.ensures, c.requires.0))

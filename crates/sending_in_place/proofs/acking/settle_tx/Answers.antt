@@ -1,12 +1,12 @@
 -- Each arm knows which status it is in.
-use native.Mathlib.Omega.{arith}
 use borrow.Author.Tests.{eq-eqb, ne_eqb}
 use Rattle.engine.specs.Acking.{received_tx, settled_tx_as}
 use Rattle.sending_in_place.proofs.acking.settle_tx.Goals as goal
 
 pub requeue-requires : goal.requeue-requires
 unfolding received_tx
-requeue-requires c = (omega (arith, c.settle_packet-in-ResendQueued.auto, c.requires.0), rw c.settle_packet-in-ResendQueued.ensures c.requires.3)
+requeue-requires c =
+    rw c.settle_packet-in-ResendQueued.ensures c.requires.2
 
 pub returns-then-flight-slot : goal.returns-then-flight-slot
 unfolding settled_tx_as

@@ -1,65 +1,72 @@
--- What is left of the table gives the same answer at each turn.
-use mathlib.Core.Path.{sym, ap, ◌∙◌}
-use native.Mathlib.Omega.{arith}
+-- What is left of the table gives the same answer at each turn; the other numbers stay as they were.
+use Rattle.std.proofs.Common.{◌≡◌, ◌+◌, ◌-◌, ◌%◌, ◌<◌, refl, sym, ap, ◌∙◌, arith}
 use Rattle.engine.specs.declared.state.SentReliable.{SentReliable}
 use Rattle.engine.specs.Sizes.{PACKETS}
-use Rattle.engine.specs.Ring.{next-cell-lt}
-use Rattle.engine.specs.Packets.{is_received}
-use Rattle.engine.specs.Acking.{sweep_of, sweep-on, sweep-stop, sweep-end}
+use Rattle.engine.specs.Ring.{window, next-cell-lt}
+use Rattle.engine.specs.Packets.{first_of, no_packet, is_received}
+use Rattle.engine.specs.Acking.{sweep_from, sweep_of, sweep-on, sweep-stop, sweep-end}
+use Rattle.words.specs.declared.sending.SendingNumbers.{SendingNumbers}
+use Rattle.words.specs.Encoded.{numbers_of}
 use Rattle.words.specs.Meaning.{state_of}
+use Rattle.sending_in_place.specs.Changing.{none-done, one-done}
 use Rattle.sending_in_place.specs.Swept.{swept_as}
 use Rattle.sending_in_place.proofs.acking.swept.Goals as goal
 
-pub tx_of-tx-requires : goal.tx_of-tx-requires
-tx_of-tx-requires c = c.requires.0
-
 pub first_cell-at-requires : goal.first_cell-at-requires
-first_cell-at-requires c = rw c.tx_of-tx.ensures c.requires.1
+first_cell-at-requires c = rw c.tx_of-tx.ensures c.requires
 
-pub loop-left-init : goal.loop-left-init
+pub loop-init : goal.loop-init
 unfolding sweep_of
-loop-left-init c = (c.first_cell-at.ensures.upper_bound, simp (c.first_cell-at.ensures.value, c.tx_of-tx.ensures))
+loop-init c = let s = state_of c.args.words.now in
+    let e = c.tx_of-tx.ensures in
+    let tx = c.tx_of-tx.result in
+    let z = none-done tx.txed_count in
+    record {
+      cell = c.first_cell-at.ensures.upper_bound;
+      same = λ i. record { tx_seq = (e i).tx_seq; txed_count = z i; resend_count = (e i).resend_count; txed_unacked = (e i).txed_unacked; txed_unconsumed = (e i).txed_unconsumed; txed_unconsumable = tx.txed_unconsumable; txed_last_consumed = tx.txed_last_consumed; send_finish_sent = (e i).send_finish_sent; write_closed = (e i).write_closed };
+      rest = simp (c.first_cell-at.ensures.value, c.tx_of-tx.ensures) (ap (λ n. sweep_from (window PACKETS no_packet s.tx.txed_packets (first_of s.tx % PACKETS) n) s.tx.txed_last_consumed s.tx.txed_unconsumable) (sym (none-done s.tx.txed_count)));
+    }
 
 pub packet_at-p-requires : goal.packet_at-p-requires
-packet_at-p-requires c = (c.requires.0, c.loop-left.invariant.0)
+packet_at-p-requires c =
+    c.loop.invariant.cell
 
-pub is_received-requires : goal.is_received-requires
-is_received-requires c = tt
-
-pub swept_to-requires : goal.swept_to-requires
-swept_to-requires c = tt
+pub overflow_sub-tx : goal.overflow_sub-tx
+overflow_sub-tx c = let count = ap (λ (n : SendingNumbers). n.txed_count) c.loop.invariant.same in omega (arith, count, c.loop-test.true)
 
 pub returns-then-not-is_received : goal.returns-then-not-is_received
 returns-then-not-is_received c =
     let s = state_of c.args.words.now in
-    let l = c.loop-left in
+    let l = c.loop in
     let p = c.packet_at-p.ensures.value in
+    let left = c.tx_of-tx.result.txed_count - l.counter in
+    let some : 0 < left = omega (arith, c.loop-test.true) in
+    let same = l.invariant.same in
     let r = ap (λ (x : SentReliable). is_received x.status) (sym p) ∙ sym c.is_received.ensures ∙ c.if-not-is_received.true in
-    c.swept_to.ensures ∙ swept_as s.tx _ _ _ _ c.tx_of-tx.ensures (sym l.invariant.1 ∙ sweep-stop s.tx.txed_packets l.at l.left l.last l.held c.loop-left-test.true r ∙ rw p)
+    (λ i. record { tx_seq = (same i).tx_seq; txed_count = (same i).txed_count; resend_count = (same i).resend_count; txed_unacked = (same i).txed_unacked; txed_unconsumed = (same i).txed_unconsumed; txed_unconsumable = l.tx.txed_unconsumable; txed_last_consumed = c.packet_at-p.result.seq; send_finish_sent = (same i).send_finish_sent; write_closed = (same i).write_closed })
+    ∙ swept_as s.tx (numbers_of s.tx) left c.packet_at-p.result.seq l.tx.txed_unconsumable refl (sym l.invariant.rest ∙ sweep-stop s.tx.txed_packets l.at left l.tx.txed_last_consumed l.tx.txed_unconsumable some r ∙ rw p)
 
-pub less-held-requires : goal.less-held-requires
-less-held-requires c = tt
-
-pub next_cell-at-requires : goal.next_cell-at-requires
-next_cell-at-requires c = tt
-
-pub overflow_sub-left : goal.overflow_sub-left
-overflow_sub-left c = omega arith
-
-pub loop-left-smaller : goal.loop-left-smaller
-loop-left-smaller c = omega arith
-
-pub loop-left-preserved : goal.loop-left-preserved
-loop-left-preserved c = let l = c.loop-left in
+pub loop-preserved : goal.loop-preserved
+loop-preserved c = let s = state_of c.args.words.now in
+    let l = c.loop in
     let p = c.packet_at-p.ensures.value in
+    let end = c.tx_of-tx.result.txed_count in
+    let left = end - l.counter in
+    let some : 0 < left = omega (arith, c.loop-test.true) in
+    let same = l.invariant.same in
+    let count : l.tx.txed_count ≡ left = ap (λ (n : SendingNumbers). n.txed_count) same in
+    let fewer : l.tx.txed_count - 1 ≡ end - (l.counter + 1) = omega (arith, count) in
     let r = ap (λ (x : SentReliable). is_received x.status) (sym p) ∙ sym c.is_received.ensures ∙ c.if-not-is_received.false in
-    (rw c.next_cell-at.ensures (next-cell-lt PACKETS l.at (omega arith)), rw (c.next_cell-at.ensures, c.less-held.ensures, p) (sym (sweep-on (state_of c.args.words.now).tx.txed_packets l.at l.left l.last l.held c.loop-left-test.true r) ∙ l.invariant.1))
-
-pub swept_to-requires-2 : goal.swept_to-requires-2
-swept_to-requires-2 c = tt
+    record {
+      cell = rw c.next_cell-at.ensures (next-cell-lt PACKETS l.at (omega arith));
+      same = λ i. record { tx_seq = (same i).tx_seq; txed_count = fewer i; resend_count = (same i).resend_count; txed_unacked = (same i).txed_unacked; txed_unconsumed = (same i).txed_unconsumed; txed_unconsumable = c.less.result; txed_last_consumed = c.packet_at-p.result.seq; send_finish_sent = (same i).send_finish_sent; write_closed = (same i).write_closed };
+      rest = rw (c.next_cell-at.ensures, c.less.ensures, p, ← one-done end l.counter) (sym (sweep-on s.tx.txed_packets l.at left l.tx.txed_last_consumed l.tx.txed_unconsumable some r) ∙ l.invariant.rest);
+    }
 
 pub returns : goal.returns
 returns c =
     let s = state_of c.args.words.now in
-    let l = c.loop-left in
-    c.swept_to-2.ensures ∙ swept_as s.tx _ _ _ _ c.tx_of-tx.ensures (sym l.invariant.1 ∙ sweep-end s.tx.txed_packets l.at l.left l.last l.held c.loop-left-test.false)
+    let l = c.loop in
+    let left = c.tx_of-tx.result.txed_count - l.counter in
+    l.invariant.same
+    ∙ swept_as s.tx (numbers_of s.tx) left l.tx.txed_last_consumed l.tx.txed_unconsumable refl (sym l.invariant.rest ∙ sweep-end s.tx.txed_packets l.at left l.tx.txed_last_consumed l.tx.txed_unconsumable (omega (arith, c.loop-test.false)))

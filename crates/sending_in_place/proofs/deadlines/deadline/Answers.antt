@@ -6,9 +6,9 @@ use Rattle.sending_in_place.proofs.deadlines.deadline.Goals as goal
 
 pub overflow_add-result : goal.overflow_add-result
 overflow_add-result c =
-    let bounds = bounded c.args.timeout c.requires.2 in
+    let bounds = bounded c.args.timeout c.requires.1 in
     let wait = duration-between c.args.timeout c.row_of-roundtrip.result.roundtrip c.args.flight.resent c.args.unreliable bounds.ordered in
-    record { fits = omega (arith, c.definitely_sent.ensures, c.duration-wait.ensures, c.requires.1, wait.1, bounds.within) }
+    record { fits = omega (arith, c.definitely_sent.ensures, c.duration-wait.ensures, c.requires.0, wait.1, bounds.within) }
 
 pub returns : goal.returns
 unfolding deadline_of

@@ -7,11 +7,11 @@ use Rattle.sending_in_place.proofs.deadlines.named.Goals as goal
 
 pub first_sent-first-requires : goal.first_sent-first-requires
 first_sent-first-requires c =
-    (c.requires.0.long, (ready-sound c.args.words.now c.requires.0).packet-count)
+    (ready-sound c.args.words.now c.requires.0).packet-count
 
 pub deadline-at-requires : goal.deadline-at-requires
 deadline-at-requires c =
-    (c.requires.0.long, first-within (state_of c.args.words.now) c.in-Some.flight (ready-sound c.args.words.now c.requires.0) (sym c.first_sent-first.ensures ∙ c.in-Some.is), c.requires.1)
+    (first-within (state_of c.args.words.now) c.in-Some.flight (ready-sound c.args.words.now c.requires.0) (sym c.first_sent-first.ensures ∙ c.in-Some.is), c.requires.1)
 
 pub returns-in-None : goal.returns-in-None
 returns-in-None c = let first = sym c.first_sent-first.ensures ∙ c.in-None.is in

@@ -4,4 +4,4 @@ use Rattle.sending_in_place.proofs.gates.slot_verdict.Goals as goal
 
 pub returns : goal.returns
 unfolding slot_verdict
-returns c = simp (c.gate.ensures, c.slot_ok-slotted.ensures, c.requires.judged)
+returns c = simp (c.refuse_unless.ensures, c.slot_ok.ensures, c.requires.judged)

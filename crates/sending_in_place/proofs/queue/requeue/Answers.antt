@@ -4,4 +4,4 @@ use Rattle.sending_in_place.proofs.queue.requeue.Goals as goal
 
 pub returns : goal.returns
 unfolding requeued
-returns c = rw (c.put_tx.ensures, c.gather-count.ensures.words_after) (rw (c.gather-count.ensures.value, c.tx_of-tx.ensures))
+returns c = rw (c.put_tx.ensures, c.gather-resend_count.ensures.words_after) (rw (c.gather-resend_count.ensures.value, c.tx_of-tx.ensures))

@@ -1,4 +1,5 @@
 -- The row, the packet, the queue and the time, each by its own promise.
+use borrow.Author.Rules.{rules}
 use mathlib.Core.Path.{◌≡◌, sym, ap, ◌∙◌}
 use mathlib.Core.Bool.{true}
 use Prim.Native.Nat.{◌+◌, ◌^◌, ◌<◌}
@@ -23,15 +24,15 @@ use Rattle.sending_in_place.proofs.resending.put_resent.Goals as goal
 pub row_at-row-requires : goal.row_at-row-requires
 row_at-row-requires c =
     let u32 : c.args.seq.0 < 2 ^ 32 = omega (arith, c.well_formed) in
-    let shaped = (shaped-words c.args.words.now c.requires.0.long (λ i. (c.slice_known-1.given i).fits)) in
+    let shaped = (shaped-words c.args.words.now c.requires.0.long (λ i. search rules)) in
     let p = resend-passed (state_of c.args.words.now) c.args.slot c.args.time c.args.seq.0 shaped u32 c.requires.1 in
-    (c.requires.0.long, p.timed.at.small)
+    p.timed.at.small
 
 pub overflow_add-row : goal.overflow_add-row
 overflow_add-row c =
     let s = state_of c.args.words.now in
     let u32 : c.args.seq.0 < 2 ^ 32 = omega (arith, c.well_formed) in
-    let shaped = (shaped-words c.args.words.now c.requires.0.long (λ i. (c.slice_known-1.given i).fits)) in
+    let shaped = (shaped-words c.args.words.now c.requires.0.long (λ i. search rules)) in
     let p = resend-passed s c.args.slot c.args.time c.args.seq.0 shaped u32 c.requires.1 in
     let fits = resend-fits s c.args.slot c.args.time c.args.seq.0 shaped u32 c.requires.1 in
     let row : c.row_at-row.result.txed_unacked_data ≡ (row_of s c.args.slot).txed_unacked_data = ap (λ (r : LinkRow). r.txed_unacked_data) (c.row_at-row.ensures ∙ ap bare (sym (row-of s c.args.slot p.timed.at.small))) in
@@ -41,34 +42,31 @@ overflow_add-row c =
 pub put_row-requires : goal.put_row-requires
 put_row-requires c =
     let u32 : c.args.seq.0 < 2 ^ 32 = omega (arith, c.well_formed) in
-    let shaped = (shaped-words c.args.words.now c.requires.0.long (λ i. (c.slice_known-1.given i).fits)) in
+    let shaped = (shaped-words c.args.words.now c.requires.0.long (λ i. search rules)) in
     let p = resend-passed (state_of c.args.words.now) c.args.slot c.args.time c.args.seq.0 shaped u32 c.requires.1 in
-    (c.requires.0.long, p.timed.at.small)
+    p.timed.at.small
 
 pub put_packet-requires : goal.put_packet-requires
 put_packet-requires c =
     let s = state_of c.args.words.now in
     let u32 : c.args.seq.0 < 2 ^ 32 = omega (arith, c.well_formed) in
-    let shaped = (shaped-words c.args.words.now c.requires.0.long (λ i. (c.slice_known-1.given i).fits)) in
+    let shaped = (shaped-words c.args.words.now c.requires.0.long (λ i. search rules)) in
     let p = resend-passed s c.args.slot c.args.time c.args.seq.0 shaped u32 c.requires.1 in
-    (omega (arith, c.put_row.auto, c.requires.0.long), c.cell_of.ensures.upper_bound, rw (c.with_status-next.ensures, c.requires.2) (omega (arith, packet-short s shaped p.timed.at.fine c.args.seq.0 u32 p.held)))
+    (c.cell_of.ensures.upper_bound, rw (c.with_status-next.ensures, c.requires.2) (omega (arith, packet-short s shaped p.timed.at.fine c.args.seq.0 u32 p.held)))
 
 pub requeue-requires : goal.requeue-requires
 requeue-requires c =
     let u32 : c.args.seq.0 < 2 ^ 32 = omega (arith, c.well_formed) in
-    let shaped = (shaped-words c.args.words.now c.requires.0.long (λ i. (c.slice_known-1.given i).fits)) in
+    let shaped = (shaped-words c.args.words.now c.requires.0.long (λ i. search rules)) in
     let p = resend-passed (state_of c.args.words.now) c.args.slot c.args.time c.args.seq.0 shaped u32 c.requires.1 in
-    (omega (arith, c.put_packet.auto, c.put_row.auto, c.requires.0.long), rw (c.put_packet.ensures, c.put_row.ensures) p.timed.at.fine.packet-count)
-
-pub put_time-requires : goal.put_time-requires
-put_time-requires c = omega (arith, c.requeue.auto, c.put_packet.auto, c.put_row.auto, c.requires.0.long)
+    rw (c.put_packet.ensures, c.put_row.ensures) p.timed.at.fine.packet-count
 
 pub returns : goal.returns
 unfolding resent_state with_packet
 returns c =
     let s = state_of c.args.words.now in
     let u32 : c.args.seq.0 < 2 ^ 32 = omega (arith, c.well_formed) in
-    let shaped = (shaped-words c.args.words.now c.requires.0.long (λ i. (c.slice_known-1.given i).fits)) in
+    let shaped = (shaped-words c.args.words.now c.requires.0.long (λ i. search rules)) in
     let p = resend-passed s c.args.slot c.args.time c.args.seq.0 shaped u32 c.requires.1 in
     let row = row-of s c.args.slot p.timed.at.small in
     rw (c.put_time.ensures, c.requeue.ensures, c.put_packet.ensures, c.put_row.ensures)

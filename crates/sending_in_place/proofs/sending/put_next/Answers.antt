@@ -6,37 +6,20 @@ use Rattle.words.specs.Meaning.{state_of}
 use Rattle.sending_in_place.proofs.sending.put_next.Goals as goal
 
 pub put_packet-requires : goal.put_packet-requires
-put_packet-requires c = (c.requires.0, c.cell_of.ensures.upper_bound, rw c.new-p.ensures c.requires.1)
-
-pub put_tx_seq-requires : goal.put_tx_seq-requires
-put_tx_seq-requires c = omega (arith, c.put_packet.auto, c.requires.0)
+put_packet-requires c =
+    (c.cell_of.ensures.upper_bound, rw c.new-p.ensures c.requires.0)
 
 pub overflow_add-tx : goal.overflow_add-tx
 overflow_add-tx c = let e : c.tx_of-tx.result.txed_count ≡ (state_of c.args.words.now).tx.txed_count = ap (λ n. n.txed_count) c.tx_of-tx.ensures in
-    omega (arith, e, c.requires.2)
-
-pub put_txed_count-requires : goal.put_txed_count-requires
-put_txed_count-requires c = omega (arith, c.put_packet.auto, c.put_tx_seq.auto, c.requires.0)
+    omega (arith, e, c.requires.1)
 
 pub overflow_add-tx-2 : goal.overflow_add-tx-2
 overflow_add-tx-2 c = let e : c.tx_of-tx.result.txed_unacked ≡ (state_of c.args.words.now).tx.txed_unacked = ap (λ n. n.txed_unacked) c.tx_of-tx.ensures in
-    omega (arith, e, c.requires.3)
-
-pub put_txed_unacked-requires : goal.put_txed_unacked-requires
-put_txed_unacked-requires c = omega (arith, c.put_packet.auto, c.put_tx_seq.auto, c.put_txed_count.auto, c.requires.0)
+    omega (arith, e, c.requires.2)
 
 pub overflow_add-tx-3 : goal.overflow_add-tx-3
 overflow_add-tx-3 c = let e : c.tx_of-tx.result.txed_unconsumed ≡ (state_of c.args.words.now).tx.txed_unconsumed = ap (λ n. n.txed_unconsumed) c.tx_of-tx.ensures in
-    omega (arith, e, c.requires.4)
-
-pub put_txed_unconsumed-requires : goal.put_txed_unconsumed-requires
-put_txed_unconsumed-requires c = omega (arith, c.put_packet.auto, c.put_tx_seq.auto, c.put_txed_count.auto, c.put_txed_unacked.auto, c.requires.0)
-
-pub put_finish-requires : goal.put_finish-requires
-put_finish-requires c = omega (arith, c.put_packet.auto, c.put_tx_seq.auto, c.put_txed_count.auto, c.put_txed_unacked.auto, c.put_txed_unconsumed.auto, c.requires.0)
-
-pub shape_of-words : goal.shape_of-words
-shape_of-words c = omega (arith, c.put_packet.auto, c.put_tx_seq.auto, c.put_txed_count.auto, c.put_txed_unacked.auto, c.put_txed_unconsumed.auto, c.put_finish.auto)
+    omega (arith, e, c.requires.3)
 
 pub returns : goal.returns
 unfolding sent_tx

@@ -11,7 +11,7 @@ returns-in-Data c = rw (c.in-Data.is, data-untold (state_of c.args.words.now).rx
 
 pub overflow_sub-rx : goal.overflow_sub-rx
 overflow_sub-rx c = let e : c.rx_of-rx.result.rxed_reliable_consumed ≡ (state_of c.args.words.now).rx.rxed_reliable_consumed = ap (λ r. r.rxed_reliable_consumed) c.rx_of-rx.ensures in
-    omega (arith, e, c.count.ensures, c.requires.1)
+    omega (arith, e, c.count.ensures, c.requires)
 
 pub returns : goal.returns
 unfolding told_rx

@@ -1,8 +1,8 @@
--- The supplied sum wraps as `plus` does.
-use Rattle.std.proofs.Common.{ap}
-use Rattle.seq.specs.Numbers.{seq_of, plus}
+-- The sum wraps as `plus` does.
+use Rattle.std.proofs.Common.{refl}
+use Rattle.seq.specs.Numbers.{plus}
 use Rattle.seq.proofs.Seq.add.Goals as goal
 
 pub returns : goal.returns
 unfolding plus
-returns c = ap seq_of c.wrapping_add_u32.ensures.value
+returns c = refl

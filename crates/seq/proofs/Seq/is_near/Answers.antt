@@ -1,12 +1,10 @@
 -- The one place says so.
-use Rattle.std.proofs.Common.{sym, ap, ◌∙◌}
-use Rattle.seq.specs.Distance.{is_by, near}
+use Rattle.std.proofs.Common.{ap, ◌∙◌}
+use Rattle.std.specs.Option.{is_some}
+use Rattle.seq.specs.Distance.{near}
+use Rattle.seq.proofs.Signed.{by-some}
 use Rattle.seq.proofs.Seq.is_near.Goals as goal
 
-pub returns-in-Some : goal.returns-in-Some
+pub returns : goal.returns
 unfolding near
-returns-in-Some c = ap is_by (sym c.in-Some.is ∙ c.distance.ensures)
-
-pub returns-in-None : goal.returns-in-None
-unfolding near
-returns-in-None c = ap is_by (sym c.in-None.is ∙ c.distance.ensures)
+returns c = c.is_some.ensures ∙ ap is_some c.distance.ensures ∙ by-some _

@@ -7,9 +7,6 @@ use Rattle.text.proofs.writing.put.Goals as goal
 pub returns-then-out-at : goal.returns-then-out-at
 returns-then-out-at c = let r = put_refused c.args.run.now c.args.out.now c.args.at (omega arith) in record { value = sym r.0; out_after = sym r.1 }
 
-pub returns-then-out-at-2 : goal.returns-then-out-at-2
-returns-then-out-at-2 c = let r = put_refused c.args.run.now c.args.out.now c.args.at (omega arith) in record { value = sym r.0; out_after = sym r.1 }
-
 pub returns : goal.returns
 returns c =
     let r = put-copied c.args.run.now c.args.out.now c.copy_from_slice.new.self c.args.at (omega arith) c.copy_from_slice.ensures.after in

@@ -4,4 +4,4 @@ use Rattle.words.specs.Read.{reader-read}
 use Rattle.words.proofs.clock.read_open.Goals as goal
 
 pub returns : goal.returns
-returns c = c.is_set.ensures ∙ sym (reader-read c.args.words.now c.requires)
+returns c = c.is_set.ensures ∙ sym (reader-read c.args.words.now c.told-words)

@@ -6,4 +6,4 @@ use Rattle.words.proofs.packet.put_packet.Goals as goal
 
 pub returns : goal.returns
 returns c = let a = c.args in
-    packet-put a.words.now c.requires.0 c.write_packet.new.part a.at a.p c.requires.1 (search rules) c.requires.2 (small_slot a.p.status c.write_packet.ensures.status_bound) c.write_packet.ensures.part_after
+    packet-put a.words.now c.told-words c.write_packet.new.part a.at a.p c.requires.0 (search rules) c.requires.1 (small_slot a.p.status c.write_packet.ensures.status_bound) c.write_packet.ensures.part_after

@@ -1,24 +1,25 @@
 -- By the tag.
 use Rattle.words.specs.Meaning.{status_of}
-use borrow.Author.Tests.{eq-eqb, ne_eqb}
+use Rattle.std.proofs.Common.{get_or, arith}
+use borrow.Author.Tests.{ne_eqb}
 use Rattle.words.proofs.packet.status_in.Goals as goal
 
-pub returns-then-tag-eq1 : goal.returns-then-tag-eq1
+pub returns-in-1 : goal.returns-in-1
 unfolding status_of
-returns-then-tag-eq1 c = simp (eq-eqb _ _ c.if-tag-eq1.true, c.flight_in.ensures)
+returns-in-1 c = simp (c.in-1.is, c.flight_in.ensures)
 
-pub returns-then-tag-eq2 : goal.returns-then-tag-eq2
+pub returns-in-2 : goal.returns-in-2
 unfolding status_of
-returns-then-tag-eq2 c = simp (ne_eqb _ _ c.if-tag-eq1.false, eq-eqb _ _ c.if-tag-eq2.true, c.flight_in-then-tag-eq2.ensures)
+returns-in-2 c = simp (c.in-2.is, c.flight_in-in-2.ensures)
 
-pub returns-then-tag-eq3 : goal.returns-then-tag-eq3
+pub returns-in-3 : goal.returns-in-3
 unfolding status_of
-returns-then-tag-eq3 c = simp (ne_eqb _ _ c.if-tag-eq1.false, ne_eqb _ _ c.if-tag-eq2.false, eq-eqb _ _ c.if-tag-eq3.true)
+returns-in-3 c = simp (c.in-3.is)
 
-pub returns-then-tag-eq4 : goal.returns-then-tag-eq4
+pub returns-in-4 : goal.returns-in-4
 unfolding status_of
-returns-then-tag-eq4 c = simp (ne_eqb _ _ c.if-tag-eq1.false, ne_eqb _ _ c.if-tag-eq2.false, ne_eqb _ _ c.if-tag-eq3.false, eq-eqb _ _ c.if-tag-eq4.true)
+returns-in-4 c = simp (c.in-4.is)
 
-pub returns : goal.returns
+pub returns-in_default : goal.returns-in_default
 unfolding status_of
-returns c = simp (ne_eqb _ _ c.if-tag-eq1.false, ne_eqb _ _ c.if-tag-eq2.false, ne_eqb _ _ c.if-tag-eq3.false, ne_eqb _ _ c.if-tag-eq4.false, c.flight_in-2.ensures)
+returns-in_default c = let t = get_or c.args.part.now 2 0 in simp (ne_eqb t 1 (omega arith), ne_eqb t 2 (omega arith), ne_eqb t 3 (omega arith), ne_eqb t 4 (omega arith), c.flight_in-in_default.ensures)

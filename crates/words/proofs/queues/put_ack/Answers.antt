@@ -5,4 +5,4 @@ use Rattle.words.proofs.queues.put_ack.Goals as goal
 
 pub returns : goal.returns
 returns c = let a = c.args in
-    ack-put a.words.now c.requires.0 c.write_word.new.part a.slot a.i a.seq c.requires.1 (search rules) c.write_word.ensures
+    ack-put a.words.now c.told-words c.write_word.new.part a.slot a.i a.seq c.requires.0 (search rules) c.write_word.ensures

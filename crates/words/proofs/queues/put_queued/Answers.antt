@@ -5,4 +5,4 @@ use Rattle.words.proofs.queues.put_queued.Goals as goal
 
 pub returns : goal.returns
 returns c = let a = c.args in
-    queued-put a.words.now c.requires.0 c.write_word.new.part a.i a.seq (search rules) c.write_word.ensures
+    queued-put a.words.now c.told-words c.write_word.new.part a.i a.seq (search rules) c.write_word.ensures

@@ -4,4 +4,4 @@ use Rattle.words.proofs.queues.shift_acks.Goals as goal
 
 pub returns : goal.returns
 returns c = let a = c.args in
-    acks-shift a.words.now c.requires.0 c.shift.new.part a.slot c.requires.1 c.shift.ensures
+    acks-shift a.words.now c.told-words c.shift.new.part a.slot c.requires c.shift.ensures

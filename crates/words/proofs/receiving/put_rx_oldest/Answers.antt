@@ -4,4 +4,4 @@ use borrow.Author.Rules.{rules}
 use Rattle.words.proofs.receiving.put_rx_oldest.Goals as goal
 
 pub returns : goal.returns
-returns c = rx-oldest-put c.args.words.now c.requires c.args.seq (search rules)
+returns c = rw c.from.ensures (rx-oldest-put c.args.words.now c.told-words c.args.seq (search rules))

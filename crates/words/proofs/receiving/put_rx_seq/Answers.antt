@@ -4,4 +4,4 @@ use borrow.Author.Rules.{rules}
 use Rattle.words.proofs.receiving.put_rx_seq.Goals as goal
 
 pub returns : goal.returns
-returns c = rx-seq-put c.args.words.now c.requires c.args.seq (search rules)
+returns c = rw c.from.ensures (rx-seq-put c.args.words.now c.told-words c.args.seq (search rules))

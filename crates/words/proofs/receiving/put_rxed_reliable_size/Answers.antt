@@ -4,4 +4,4 @@ use borrow.Author.Rules.{rules}
 use Rattle.words.proofs.receiving.put_rxed_reliable_size.Goals as goal
 
 pub returns : goal.returns
-returns c = untaken-put c.args.words.now c.requires c.args.bytes (search rules)
+returns c = rw c.from.ensures (untaken-put c.args.words.now c.told-words c.args.bytes (search rules))

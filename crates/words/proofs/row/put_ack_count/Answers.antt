@@ -3,4 +3,4 @@ use Rattle.words.specs.OneWord.{ack-count-put}
 use Rattle.words.proofs.row.put_ack_count.Goals as goal
 
 pub returns : goal.returns
-returns c = ack-count-put c.args.words.now c.requires.0 c.args.slot c.requires.1 c.args.n
+returns c = ack-count-put c.args.words.now c.told-words c.args.slot c.requires c.args.n

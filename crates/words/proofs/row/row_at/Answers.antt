@@ -5,4 +5,4 @@ use mathlib.Core.Path.{◌∙◌}
 use Rattle.words.proofs.row.row_at.Goals as goal
 
 pub returns : goal.returns
-returns c = c.row_in.ensures ∙ row-got c.args.words.now c.requires.0 c.args.slot c.requires.1
+returns c = c.row_in.ensures ∙ row-got c.args.words.now c.told-words c.args.slot c.requires

@@ -5,6 +5,6 @@ use Rattle.words.proofs.sending.put_tx.Goals as goal
 
 pub returns : goal.returns
 returns c = let a = c.args in
-    tx-put a.words.now c.requires c.write_tx.new.part a.tx
+    tx-put a.words.now c.told-words c.write_tx.new.part a.tx
     (record { next = search rules; unacked = search rules; unconsumed = search rules; unconsumable = search rules; last = search rules })
     c.write_tx.ensures

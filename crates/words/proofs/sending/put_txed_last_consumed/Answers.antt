@@ -4,4 +4,4 @@ use borrow.Author.Rules.{rules}
 use Rattle.words.proofs.sending.put_txed_last_consumed.Goals as goal
 
 pub returns : goal.returns
-returns c = last-consumed-put c.args.words.now c.requires c.args.seq (search rules)
+returns c = rw c.from.ensures (last-consumed-put c.args.words.now c.told-words c.args.seq (search rules))

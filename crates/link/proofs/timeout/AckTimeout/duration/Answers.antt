@@ -1,16 +1,26 @@
--- Factor by factor, within the maximum at each, and then the minimum.
-use mathlib.Core.Path.{sym, ◌∙◌}
-use native.Mathlib.Nat.{max-eq_left, max-eq_right, le_of_lt}
-use native.Mathlib.Omega.{arith}
-use Rattle.link.specs.Timeout.{duration-steps}
+-- A product that stays at the largest number of 64 bits is past every maximum.
+use Rattle.std.specs.Prelude.{◌≡◌, Bool, cond, ℕ, ◌-◌, ◌*◌, ◌^◌, ◌≤◌, ◌<◌, min, max}
+use Rattle.std.proofs.Common.{sym, ap, ◌∙◌, arith}
+use Rattle.link.specs.declared.timeout.AckTimeout.{AckTimeout}
+use Rattle.link.specs.Timeout.{product, duration_of, bound-again, duration-whole}
 use Rattle.link.proofs.timeout.AckTimeout.duration.Goals as goal
 
-pub returns-then-c-self : goal.returns-then-c-self
-returns-then-c-self c = let a = c.args in
-    let steps = duration-steps a.self a.roundtrip a.resent a.unreliable (omega arith) in
-    sym (steps ∙ max-eq_left (le_of_lt (simp (c.times-c.ensures, c.factor_if-2.ensures, c.times-b.ensures, c.factor_if.ensures, c.times-a.ensures) at c.if-c-self.true)))
+within : (p bound least most : ℕ) → most ≤ bound → max (min (min p bound) most) least ≡ max least (min p most)
+within p bound least most h = omega arith
 
-pub returns-else-c-self : goal.returns-else-c-self
-returns-else-c-self c = let a = c.args in
-    let steps = duration-steps a.self a.roundtrip a.resent a.unreliable (omega arith) in
-    simp (c.times-c.ensures, c.factor_if-2.ensures, c.times-b.ensures, c.factor_if.ensures, c.times-a.ensures) (sym (steps ∙ max-eq_right (simp (c.times-c.ensures, c.factor_if-2.ensures, c.times-b.ensures, c.factor_if.ensures, c.times-a.ensures) at c.if-c-self.false)))
+saturated : (t : AckTimeout) (roundtrip : ℕ) (resent unreliable : Bool) → t.max < 2 ^ 64
+    → max (min (min (min (min (roundtrip * t.roundtrip_factor) (2 ^ 64 - 1) * cond resent t.resent_factor 1) (2 ^ 64 - 1) * cond unreliable t.unreliable_factor 1) (2 ^ 64 - 1)) t.max) t.min
+    ≡ duration_of t roundtrip resent unreliable
+saturated t roundtrip resent unreliable fits =
+    let bound = 2 ^ 64 - 1 in
+    let a = roundtrip * t.roundtrip_factor in
+    let r = cond resent t.resent_factor 1 in
+    let u = cond unreliable t.unreliable_factor 1 in
+    ap (λ (n : ℕ). max (min n t.max) t.min) (ap (λ (n : ℕ). min (n * u) bound) (bound-again a r bound) ∙ bound-again (a * r) u bound)
+    ∙ within (product t roundtrip resent unreliable) bound t.min t.max (omega arith)
+    ∙ sym (duration-whole t roundtrip resent unreliable fits)
+
+pub returns : goal.returns
+returns c = let a = c.args in
+    simp (c.max.ensures, c.min.ensures, c.saturating_mul-product.ensures, c.saturating_mul-2.ensures, c.saturating_mul.ensures, c.factor_if.ensures, c.factor_if-2.ensures)
+    (saturated a.self a.roundtrip a.resent a.unreliable (omega arith))

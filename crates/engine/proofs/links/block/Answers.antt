@@ -1,8 +1,0 @@
--- The row's own promise, inside the state.
-use Rattle.engine.specs.Answer.{told-of}
-use Rattle.engine.specs.Links.{block_of}
-use Rattle.engine.proofs.links.block.Goals as goal
-
-pub returns : goal.returns
-unfolding block_of
-returns c = record { value = simp (c.change.ensures, c.with_row.ensures, c.block-row.ensures, c.row_of.ensures, c.slot_verdict-verdict.ensures); outcome_value = told-of c.slot_verdict-verdict.result _ c.args.s c.with_row.result c.change.ensures c.slot_verdict-verdict.ensures }

@@ -1,6 +1,0 @@
--- The first number, by its promise; a number taken by 64 is below 64.
-use Rattle.std.proofs.Common.{arith}
-use Rattle.engine.proofs.table.first_cell.Goals as goal
-
-pub returns : goal.returns
-returns c = record { value = simp c.sub-first.ensures; upper_bound = omega arith }
