@@ -68,7 +68,7 @@ fn fresh_rx(start: Seq, recv_buffer: u32, cells: u32) -> Receiving
 }
 
 // The words of a fresh state; words that are all 0 say its rows, its queue and its time.
-pub fn put_fresh(words: &mut [u64; WORDS], start: Seq, recv_buffer: u32, cells: u32)
+fn put_all(words: &mut [u64; WORDS], start: Seq, recv_buffer: u32, cells: u32)
     ensures { state_of words.new ≡ fresh_state start.0 recv_buffer cells }
 {
     empty_records(words);
@@ -76,4 +76,14 @@ pub fn put_fresh(words: &mut [u64; WORDS], start: Seq, recv_buffer: u32, cells: 
     put_tx(words, fresh_numbers(start));
     put_rx(words, fresh_rx(start, recv_buffer, cells));
     put_read_open(words, true);
+}
+
+// .. to a run of words that is as long.
+pub fn put_fresh(words: &mut [u64], start: Seq, recv_buffer: u32, cells: u32)
+    requires { length words.old ≡ WORDS }
+    ensures { state_of words.new ≡ fresh_state start.0 recv_buffer cells }
+{
+    if let Some(words) = words.as_mut_array::<WORDS>() {
+        put_all(words, start, recv_buffer, cells);
+    }
 }

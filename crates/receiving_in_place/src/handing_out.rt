@@ -35,12 +35,23 @@ pub fn showing(words: &[u64; WORDS], store: usize, records: &[u64]) -> HandOut
 }
 
 // Where a number's bytes start in the received store.
-pub fn shown_start(words: &[u64; WORDS], seq: Seq) -> usize
+fn start_of(words: &[u64; WORDS], seq: Seq) -> usize
     requires { Ready words.now }
     ensures { result ≡ cell_start (state_of words.now).rx.cells seq.0 }
 {
     let rx = rx_of(words);
     cell_at(rx.cells, seq) * DATA_BYTES
+}
+
+// .. of any run of so many words, since it is public, and no crate calls it.
+pub fn shown_start(words: &[u64], seq: Seq) -> usize
+    requires { Ready words.now }
+    ensures { result ≡ cell_start (state_of words.now).rx.cells seq.0 }
+{
+    match words.as_array::<WORDS>() {
+        Some(words) => start_of(words, seq),
+        None => 0,
+    }
 }
 
 // What a taken message moves of the receiving half.

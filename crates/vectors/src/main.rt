@@ -8,7 +8,7 @@
 // shows it.
 #![tactic(auto)]
 
-ghost use Rattle.std.specs.Prelude.{◌<◌};
+ghost use Rattle.std.specs.Prelude.{◌+◌, ◌≤◌, ◌<◌};
 
 use seq::Seq;
 use std::cmp::Ordering;
@@ -48,7 +48,12 @@ struct Tally {
 }
 
 impl Tally {
-    fn with(self, found: Found) -> Self {
+    fn with(self, found: Found) -> Self
+        ensures compared_bound { result.compared ≤ self.compared + 1 }
+        ensures differing_bound { result.differing ≤ self.differing + 1 }
+        ensures parting_bound { result.parting ≤ self.parting + 1 }
+        ensures far_bound { result.far ≤ self.far + 1 }
+    {
         let compared = self.compared.saturating_add(1);
         match found {
             Found::Alike => Tally { compared, ..self },

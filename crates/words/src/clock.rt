@@ -7,7 +7,9 @@ ghost use Rattle.words.specs.Meaning.{state_of};
 use crate::bits::{flag, is_set};
 use crate::layout::{READER, TIME, WORDS};
 
-pub fn time(words: &[u64; WORDS]) -> u64
+// Public, and no crate but this one calls it: it takes any run of so many words, as it did before they had a type.
+pub fn time(words: &[u64]) -> u64
+    requires { length words.now ≡ WORDS }
     ensures { result ≡ (state_of words.now).time }
 {
     words[TIME]

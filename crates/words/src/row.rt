@@ -97,9 +97,9 @@ pub fn put_txed_unacked_data(words: &mut [u64; WORDS], slot: usize, bytes: u32)
     words[ROWS + slot * ROW + 12] = u64::from(bytes);
 }
 
-// How many acks of a slot wait: one word.
-pub fn ack_count_at(words: &[u64; WORDS], slot: usize) -> usize
-    requires { slot < 8 }
+// How many acks of a slot wait: one word. Public, and no crate calls it: it takes any run of so many words.
+pub fn ack_count_at(words: &[u64], slot: usize) -> usize
+    requires { (length words.now ≡ WORDS) × (slot < 8) }
     ensures { result ≡ (row_at (state_of words.now) slot).ack_count }
 {
     words[ROWS + slot * ROW + ACK_COUNT] as usize

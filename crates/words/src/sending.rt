@@ -110,7 +110,9 @@ pub fn put_send_finish_sent(words: &mut [u64; WORDS], set: bool)
     words[TX + 7] = flag(set);
 }
 
-pub fn put_write_closed(words: &mut [u64; WORDS], set: bool)
+// .. in any run of so many words, since it is public, and no crate calls it.
+pub fn put_write_closed(words: &mut [u64], set: bool)
+    requires { length words.old ≡ WORDS }
     ensures { state_of words.new ≡ with_tx (state_of words.old) (with_ends (state_of words.old).tx (state_of words.old).tx.txed_last_consumed (state_of words.old).tx.send_finish_sent set) }
 {
     words[TX + 8] = flag(set);

@@ -1,15 +1,18 @@
 -- Eight rows without their acks.
-use Rattle.std.proofs.Common.{◌≡◌, ◌<◌, get_or, ℕ, rules, ap, ◌∙◌}
-use Rattle.link.specs.Row.{no_row}
+use Rattle.std.proofs.Common.{◌∙◌}
+use Rattle.std.specs.Prelude.{[], ◌∷◌}
 use Rattle.engine.specs.Slowness.{slow_of}
-use Rattle.engine.specs.Sound.{row_at}
-use Rattle.words.specs.Encoded.{bare}
 use Rattle.words.specs.Meaning.{state_of}
 use Rattle.links_in_place.specs.Acks.{links-long}
-use Rattle.links_in_place.specs.SlowBare.{eight-bare, slow-bare}
+use Rattle.links_in_place.specs.SlowBare.{slow-bare}
 use Rattle.links_in_place.proofs.slowness.slow.Goals as goal
 
+-- there are as many words as the array has
+pub returns-in_default : goal.returns-in_default
+returns-in_default c = absurd (c.in_default.ensures.cases c.requires)
+
 pub returns : goal.returns
-returns c = let s = state_of c.args.words.now in
-    let one : (i : ℕ) → i < 8 → get_or c.from_fn.result i no_row ≡ bare (row_at s i) = λ i h. let k = c.from_fn.ensures.items.at i no_row h in search rules in
-    c.slow_rows.ensures ∙ ap slow_of (eight-bare c.from_fn.result s.links c.from_fn.ensures.items.long one) ∙ slow-bare s.links (links-long c.args.words.now c.told-words)
+returns c = let rows = (state_of c.args.words.now).links in
+    rw c.in-Some.ensures.cases.same at (c.slow_rows.ensures
+    ∙ (λ i. slow_of (c.row_at.ensures i ∷ c.row_at-2.ensures i ∷ c.row_at-3.ensures i ∷ c.row_at-4.ensures i ∷ c.row_at-5.ensures i ∷ c.row_at-6.ensures i ∷ c.row_at-7.ensures i ∷ c.row_at-8.ensures i ∷ [])))
+    ∙ slow-bare rows (links-long c.args.words.now c.requires)

@@ -4,4 +4,4 @@ use Rattle.words.specs.Read.{time-read}
 use Rattle.words.proofs.clock.time.Goals as goal
 
 pub returns : goal.returns
-returns c = sym (time-read c.args.words.now c.told-words)
+returns c = sym (time-read c.args.words.now c.requires)

@@ -4,4 +4,4 @@ use Rattle.words.specs.OneWord.{ack-count-read}
 use Rattle.words.proofs.row.ack_count_at.Goals as goal
 
 pub returns : goal.returns
-returns c = sym (ack-count-read c.args.words.now c.told-words c.args.slot c.requires)
+returns c = sym (ack-count-read c.args.words.now c.requires.0 c.args.slot c.requires.1)

@@ -10,7 +10,7 @@ use Rattle.engine.specs.Sizes.{PACKETS}
 use Rattle.words.specs.Encoded.{with_counts}
 use Rattle.words.specs.Meaning.{state_of}
 use Rattle.links_in_place.specs.Zeros.{fresh-put}
-use Rattle.links_in_place.proofs.fresh.put_fresh.Goals as goal
+use Rattle.links_in_place.proofs.fresh.put_all.Goals as goal
 
 pub returns : goal.returns
 returns c = let a = c.args in

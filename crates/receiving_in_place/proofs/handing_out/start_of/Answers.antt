@@ -7,7 +7,7 @@ use Rattle.engine.specs.declared.state.Receiving.{Receiving}
 use Rattle.engine.specs.CellCount.{cell-count}
 use Rattle.words.specs.Meaning.{state_of}
 use Rattle.words.specs.Ready.{ready-sound}
-use Rattle.receiving_in_place.proofs.handing_out.shown_start.Goals as goal
+use Rattle.receiving_in_place.proofs.handing_out.start_of.Goals as goal
 
 pub cell_at-requires : goal.cell_at-requires
 cell_at-requires c = rw c.rx_of-rx.ensures (cell-count (state_of c.args.words.now).rx.cells (ready-sound c.args.words.now c.requires).cell-count).some
