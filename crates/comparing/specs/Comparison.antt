@@ -7,6 +7,7 @@ use Rattle.std.proofs.Common.{◌∙◌, arith}
 use Rattle.std.proofs.Math.ListN.{length}
 use Rattle.std.proofs.lemmas.List.Edits.{sets-eq}
 use Rattle.comparing.specs.declared.scanning.Scanned.{Scanned}
+use Rattle.comparing.specs.declared.table.Table as code
 use Rattle.comparing.specs.Messages.{body_of, start_of}
 use Rattle.comparing.specs.Rows.{Rising}
 use Rattle.comparing.specs.Table.{no_numbers, tabled}
@@ -15,58 +16,58 @@ use Rattle.comparing.specs.Judging.{far_line, many_line, starts_part, starts_in,
 use Rattle.comparing.specs.Compared.{words_of, how_many, compared_as, compared_of, list_in, compared_list}
 use Rattle.comparing.specs.Says.{Says}
 use Rattle.comparing.specs.Sanity.{body-sane, start_small}
-use Rattle.comparing.specs.Tabled.{tabled-rising, tabled-far, tabled-many, tabled-count, tables-say}
+use Rattle.comparing.specs.Tabled.{tabled-rising, tabled-far-line, tabled-many, tabled-count, tables-say}
 use Rattle.comparing.specs.Scanning.{Scans}
 use Rattle.comparing.specs.Listing.{Pushed, words-length}
 
 -- a recording that was scanned whole
-abbrev pub Scanning : List ℕ → Scanned → Type 0
-Scanning input found = Scans input (start_of input) (body_of input) found
+abbrev pub Scanning : List ℕ → Scanned → code.Table → Type 0
+Scanning input found table = Scans input (start_of input) (body_of input) found table
 
 -- the refusals by what was scanned
-abbrev pub judged_of : Scanned → Scanned → Result Unit (Refusal × Side × ℕ)
-judged_of a b = lines_in_order a.bad b.bad (starts_in a.start.0 b.start.0) a.table.far b.table.far a.table.many b.table.many
+abbrev pub judged_of : Scanned → code.Table → Scanned → code.Table → Result Unit (Refusal × Side × ℕ)
+judged_of a x b y = lines_in_order a.bad b.bad (starts_in a.start.0 b.start.0) x.far y.far x.many y.many
 
 -- ---- laws
 
-module _ (input : List ℕ) (found : Scanned) (scans : Scanning input found) where
-  far-found : found.table.far ≡ line_in (far_line (start_of input) (body_of input).messages)
-  far-found = ap (λ t. t.far) scans.tables ∙ tabled-far input (start_of input) (body_of input).messages (body-sane input)
+module _ (input : List ℕ) (found : Scanned) (table : code.Table) (scans : Scanning input found table) where
+  far-found : table.far ≡ line_in (far_line (start_of input) (body_of input).messages)
+  far-found = ap (λ t. t.far) scans.tables ∙ tabled-far-line input (start_of input) (body_of input).messages (body-sane input)
 
-  rows-found : found.table.rows.items ≡ (tabled input (start_of input) no_numbers (body_of input).messages).rows
+  rows-found : table.rows.items ≡ (tabled input (start_of input) no_numbers (body_of input).messages).rows
   rows-found = ap (λ t. t.rows) scans.tables
 
-  rising-found : Rising 0 found.table.rows.items
+  rising-found : Rising 0 table.rows.items
   rising-found = rw rows-found (tabled-rising input (start_of input) (body_of input).messages)
 
   -- where no message is far, the table's count is that of the numbers
   module _ (near : far_line (start_of input) (body_of input).messages ≡ 0) where
-    many-found : found.table.many ≡ line_in (many_line [] (body_of input).messages)
+    many-found : table.many ≡ line_in (many_line [] (body_of input).messages)
     many-found = ap (λ t. t.many) scans.tables ∙ tabled-many input (start_of input) (start_small input) (body_of input).messages (body-sane input) near
 
     none_found : many_line [] (body_of input).messages ≡ 0 → (tabled input (start_of input) no_numbers (body_of input).messages).many ≡ None
     none_found e = tabled-many input (start_of input) (start_small input) (body_of input).messages (body-sane input) near ∙ ap line_in e
 
-    count-found : many_line [] (body_of input).messages ≡ 0 → length found.table.rows.items ≡ how_many input
+    count-found : many_line [] (body_of input).messages ≡ 0 → length table.rows.items ≡ how_many input
     unfolding how_many
     count-found none =
         ap length rows-found
         ∙ tabled-count input (start_of input) (start_small input) (body_of input).messages (body-sane input) near (none_found none)
 
 -- what is known of two recordings that passed
-pub record Passed (first second : List ℕ) (a b : Scanned) : Type 0 where
-  pub says : Says first second a.start.0 a.table.rows.items b.table.rows.items
-  pub rising-first : Rising 0 a.table.rows.items
-  pub rising-second : Rising 0 b.table.rows.items
-  pub count-first : length a.table.rows.items ≡ how_many first
-  pub count-second : length b.table.rows.items ≡ how_many second
+pub record Passed (first second : List ℕ) (a : Scanned) (x : code.Table) (b : Scanned) (y : code.Table) : Type 0 where
+  pub says : Says first second a.start.0 x.rows.items y.rows.items
+  pub rising-first : Rising 0 x.rows.items
+  pub rising-second : Rising 0 y.rows.items
+  pub count-first : length x.rows.items ≡ how_many first
+  pub count-second : length y.rows.items ≡ how_many second
 
-module _ (first second : List ℕ) (a b : Scanned) (scans-a : Scanning first a) (scans-b : Scanning second b) where
-  pub judged-same : judged_of a b ≡ verdict_of first second
+module _ (first second : List ℕ) (a : Scanned) (x : code.Table) (b : Scanned) (y : code.Table) (scans-a : Scanning first a x) (scans-b : Scanning second b y) where
+  pub judged-same : judged_of a x b y ≡ verdict_of first second
   unfolding verdict_of
   judged-same =
-      rw (scans-a.starts, scans-a.bads, scans-b.starts, scans-b.bads, far-found first a scans-a, far-found second b scans-b, starts-in (start_of first) (start_of second))
-      (order_same (body_of first).bad (body_of second).bad (starts_part (start_of first) (start_of second)) _ _ _ _ _ _ (many-found first a scans-a) (many-found second b scans-b))
+      rw (scans-a.starts, scans-a.bads, scans-b.starts, scans-b.bads, far-found first a x scans-a, far-found second b y scans-b, starts-in (start_of first) (start_of second))
+      (order_same (body_of first).bad (body_of second).bad (starts_part (start_of first) (start_of second)) _ _ _ _ _ _ (many-found first a x scans-a) (many-found second b y scans-b))
 
   passed-both : verdict_of first second ≡ Ok tt
       → (starts_part (start_of first) (start_of second) ≡ 0)
@@ -78,16 +79,16 @@ module _ (first second : List ℕ) (a b : Scanned) (scans-a : Scanning first a) 
       (far_line (start_of first) (body_of first).messages) (far_line (start_of second) (body_of second).messages)
       (many_line [] (body_of first).messages) (many_line [] (body_of second).messages) pass
 
-  pub passed : judged_of a b ≡ Ok tt → Passed first second a b
+  pub passed : judged_of a x b y ≡ Ok tt → Passed first second a x b y
   passed pass =
       let said = passed-both (sym judged-same ∙ pass) in
       let same : start_of first ≡ start_of second = starts-same (start_of first) (start_of second) said.0 in
       record {
-        says = rw (scans-a.starts, rows-found first a scans-a, rows-found second b scans-b) (tables-say first second same said.1 said.2 (none_found first a scans-a said.1 said.3) (none_found second b scans-b said.2 said.4));
-        rising-first = rising-found first a scans-a;
-        rising-second = rising-found second b scans-b;
-        count-first = count-found first a scans-a said.1 said.3;
-        count-second = count-found second b scans-b said.2 said.4;
+        says = rw (scans-a.starts, rows-found first a x scans-a, rows-found second b y scans-b) (tables-say first second same said.1 said.2 (none_found first a x scans-a said.1 said.3) (none_found second b y scans-b said.2 said.4));
+        rising-first = rising-found first a x scans-a;
+        rising-second = rising-found second b y scans-b;
+        count-first = count-found first a x scans-a said.1 said.3;
+        count-second = count-found second b y scans-b said.2 said.4;
       }
 
 -- every number is listed; the bound stays shut, since no proof goes through 2^32 steps

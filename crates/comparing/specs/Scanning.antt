@@ -16,6 +16,7 @@ use Rattle.comparing.specs.Messages.{Body, start_line, line_found, waiting_after
 use Rattle.comparing.specs.Judging.{line_in}
 use Rattle.comparing.specs.Rows.{Rising}
 use Rattle.comparing.specs.declared.scanning.Scanned.{Scanned}
+use Rattle.comparing.specs.declared.table.Table as code
 use Rattle.comparing.specs.Tabled.{entered-rising}
 use Rattle.comparing.specs.Table.{Table, no_numbers, table_of, entered, tabled}
 
@@ -41,10 +42,10 @@ abbrev pub body_left : List ℕ → Option Message → ℕ → ℕ → Body
 body_left input w at line = body_from w at line (lines_of (drop at input))
 
 -- what a scan of a recording finds: its start number, its first bad line, and the table of its messages
-pub record Scans (input : List ℕ) (from : ℕ) (body : Body) (found : Scanned) : Type 0 where
+pub record Scans (input : List ℕ) (from : ℕ) (body : Body) (found : Scanned) (table : code.Table) : Type 0 where
   pub starts : found.start.0 ≡ from
   pub bads : found.bad ≡ line_in body.bad
-  pub tables : table_of found.table ≡ tabled input from no_numbers body.messages
+  pub tables : table_of table ≡ tabled input from no_numbers body.messages
 
 -- ---- laws
 

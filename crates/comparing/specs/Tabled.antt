@@ -15,7 +15,7 @@ use Rattle.comparing.specs.Messages.{body_of, start_of}
 use Rattle.comparing.specs.Runs.{content_from, content_of, is_equal, run_at, content-same}
 use Rattle.comparing.specs.Ranks.{rank_by, number_of, far_as, far_at, rank-by-lt, number_lt, rank_of, rank-of-number, number-of-rank, rank-by}
 use Rattle.comparing.specs.Rows.{row, Rising, position_in, insert_at, held_first, held_in, held-position, insert-length, insert-rising, insert-same, insert-other, marked-length, marked-rising, marked-same, marked_other}
-use Rattle.comparing.specs.Table.{earliest, Table, no_numbers, repeated, entered_at, entered, tabled, added-room, added_full}
+use Rattle.comparing.specs.Table.{earliest, Table, no_numbers, repeated, added, entered_as, entered_at, entered_by, entered, tabled, added-room, added_full}
 use Rattle.comparing.specs.Differences.{Standing, Absent, Run, standing, other_than, conflicted_as, conflicted, differences_on}
 use Rattle.comparing.specs.Judging.{far_line, is_among, with_number, numbers_with, many_line, line_in}
 use Rattle.comparing.specs.Says.{Sane, standing_held, flag_held, held_differences, Says}
@@ -180,9 +180,52 @@ far-after input start t (m ∷ rest) sane =
     ∙ ap (λ line. told_then line (far_line start rest)) (entered-far input start t m sane.0.1)
     ∙ then-assoc t.far (far_at start m) (far_line start rest)
 
-pub tabled-far : (input : List ℕ) (start : ℕ) (ms : List Message) → Sane ms → (tabled input start no_numbers ms).far ≡ line_in (far_line start ms)
+pub tabled-far-line : (input : List ℕ) (start : ℕ) (ms : List Message) → Sane ms → (tabled input start no_numbers ms).far ≡ line_in (far_line start ms)
 unfolding told_then
-tabled-far input start ms sane = far-after input start no_numbers ms sane
+tabled-far-line input start ms sane = far-after input start no_numbers ms sane
+
+-- the line of a message that is far, else what the later ones tell
+abbrev far_or : Option ℤ → ℕ → Option ℕ → Option ℕ
+far_or None line rest = Some line
+far_or (Some d) line rest = rest
+
+-- the line of the first message whose number is far from the start number, if there is one
+unfoldable pub far_told : ℕ → List Message → Option ℕ
+unfolding distance_of
+far_told start [] = None
+far_told start (m ∷ rest) = far_or (distance_of m.number.0 start) m.line (far_told start rest)
+
+-- a line that was told before, else another
+abbrev pub first_told : Option ℕ → Option ℕ → Option ℕ
+first_told None line = line
+first_told (Some told) line = Some told
+
+earliest_first : (told : Option ℕ) (line : ℕ) (rest : Option ℕ) → first_told (earliest told line) rest ≡ first_told told (Some line)
+earliest_first None line rest = refl
+earliest_first (Some told) line rest = refl
+
+-- a message that is not far tells of no far one, whatever is held of its number
+as_far : (held : Option (ℕ × Bool)) (input : List ℕ) (i rank : ℕ) (m : Message) (t : Table) → (entered_as held input i rank m t).far ≡ t.far
+unfolding added
+as_far None input i rank m t = cases (ltb (length t.rows) 1024) (λ b. simp b) (λ b. simp b)
+as_far (Some (first, flag)) input i rank m t = refl
+
+by_far : (a : Option ℤ) (input : List ℕ) (t : Table) (m : Message) (rest : Option ℕ) → first_told (entered_by a input t m).far rest ≡ first_told t.far (far_or a m.line rest)
+by_far None input t m rest = earliest_first t.far m.line rest
+by_far (Some d) input t m rest =
+    ap (λ told. first_told told rest) (as_far (held_first (rank_by d) (drop (position_in (rank_by d) t.rows) t.rows)) input (position_in (rank_by d) t.rows) (rank_by d) m t)
+
+-- whatever table the messages are entered into, and whatever their lines
+pub tabled-far : (input : List ℕ) (start : ℕ) (t : Table) (ms : List Message) → (tabled input start t ms).far ≡ first_told t.far (far_told start ms)
+unfolding tabled far_told entered
+tabled-far input start t [] = none_told t.far
+  where
+    none_told : (told : Option ℕ) → told ≡ first_told told None
+    none_told None = refl
+    none_told (Some line) = refl
+tabled-far input start t (m ∷ rest) =
+    tabled-far input start (entered input start t m) rest
+    ∙ by_far (distance_of m.number.0 start) input t m (far_told start rest)
 
 -- where no message is far, the first isn't, nor is any later
 near-all : (start : ℕ) (m : Message) (rest : List Message) → far_line start (m ∷ rest) ≡ 0 → (far_at start m ≡ 0) × (far_line start rest ≡ 0)

@@ -8,6 +8,7 @@ ghost use Rattle.comparing.specs.Comparison.{Scanning, judged_of};
 use crate::listing::list_all;
 use crate::scanning::{Scanned, scan};
 use crate::sizes::DIFFERENCES;
+use crate::table::Table;
 use refusal::Refusal;
 use seq::Seq;
 
@@ -40,36 +41,38 @@ fn start_differs(a: Seq, b: Seq) -> Option<usize>
 }
 
 // The refusals in their order over both recordings.
-fn judge(a: &Scanned, b: &Scanned) -> Judged
-    ensures { result ≡ judged_of a.now b.now }
+fn judge(a: Scanned, x: &Table, b: Scanned, y: &Table) -> Judged
+    ensures { result ≡ judged_of a x.now b y.now }
 {
     told(a.bad, Refusal::Bytes, Side::First)?;
     told(b.bad, Refusal::Bytes, Side::Second)?;
     let starts = start_differs(a.start, b.start);
     told(starts, Refusal::Bytes, Side::Second)?;
-    told(a.table.far, Refusal::Far, Side::First)?;
-    told(b.table.far, Refusal::Far, Side::Second)?;
-    told(a.table.many, Refusal::Many, Side::First)?;
-    told(b.table.many, Refusal::Many, Side::Second)
+    told(x.far, Refusal::Far, Side::First)?;
+    told(y.far, Refusal::Far, Side::Second)?;
+    told(x.many, Refusal::Many, Side::First)?;
+    told(y.many, Refusal::Many, Side::Second)
 }
 
 // Lists where two recordings part that were scanned.
 fn compare_scanned(
     first: &[u8],
     second: &[u8],
-    a: &Scanned,
-    b: &Scanned,
+    a: Scanned,
+    x: &Table,
+    b: Scanned,
+    y: &Table,
     list: &mut [u64],
 ) -> Compared
     requires list_len { length list.old ≡ DIFFERENCES }
-    requires scanning { Scanning first.now a.now }
-    requires scanning_2 { Scanning second.now b.now }
+    requires scanning { Scanning first.now a x.now }
+    requires scanning_2 { Scanning second.now b y.now }
     ensures value { result ≡ compared_of first.now second.now }
     ensures list_after { list.new ≡ compared_list first.now second.now list.old }
 {
-    judge(a, b)?;
-    let n = list_all(first, second, a.start, &a.table.rows, &b.table.rows, list);
-    Ok((n, a.table.rows.len(), b.table.rows.len()))
+    judge(a, x, b, y)?;
+    let n = list_all(first, second, a.start, &x.rows, &y.rows, list);
+    Ok((n, x.rows.len(), y.rows.len()))
 }
 
 // Lists where two recordings part. A refusal leaves the list as it was.
@@ -78,5 +81,9 @@ pub fn compare(first: &[u8], second: &[u8], list: &mut [u64; DIFFERENCES]) -> Co
     ensures result_value { compared_told result ≡ comparison_told first.now second.now }
     ensures list_after { list.new ≡ compared_list first.now second.now list.old }
 {
-    compare_scanned(first, second, &scan(first), &scan(second), list)
+    let mut x = Table::new();
+    let mut y = Table::new();
+    let a = scan(first, &mut x);
+    let b = scan(second, &mut y);
+    compare_scanned(first, second, a, &x, b, &y, list)
 }

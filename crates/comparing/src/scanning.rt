@@ -2,7 +2,7 @@
 ghost use Rattle.std.specs.Prelude.{◌≡◌, ◌≤◌};
 ghost use Rattle.comparing.specs.Messages.{body_of, start_of};
 ghost use Rattle.comparing.specs.Rows.{Rising};
-ghost use Rattle.comparing.specs.Table.{table_of};
+ghost use Rattle.comparing.specs.Table.{no_numbers, table_of};
 ghost use Rattle.comparing.specs.Scanning.{entered_found, next_line, body_left, Scans};
 
 use crate::messages::{Found, read_line, read_start, wait_after};
@@ -10,12 +10,11 @@ use crate::table::Table;
 use recording::line_end;
 use seq::Seq;
 
-// What a recording was found to be: its start number, its first bad line, and the table of its numbers.
-#[derive(Drop)]
+// What a recording was found to be, but for the table of its numbers: its start number, and its first bad line.
+#[derive(Clone, Copy)]
 pub struct Scanned {
     pub start: Seq,
     pub bad: Option<usize>,
-    pub table: Table,
 }
 
 // Only a whole message with a number is entered.
@@ -36,15 +35,15 @@ fn next_line(input: &[u8], end: usize) -> usize
     if end < input.len() { end + 1 } else { end }
 }
 
-// Reads the lines from a place on, the second line's.
-fn scan_body(input: &[u8], start: Seq, from: usize) -> Scanned
-    requires { 2 ≤ from }
-    ensures { Scans input.now start.0 (body_left input.now None from 2) result }
+// Reads the lines from a place on, the second line's, into an empty table.
+fn scan_body(input: &[u8], start: Seq, from: usize, table: &mut Table) -> Scanned
+    requires le_from { 2 ≤ from }
+    requires empty { table_of table.old ≡ no_numbers }
+    ensures { Scans input.now start.0 (body_left input.now None from 2) result table.new }
 {
     let mut at = from;
     let mut line: usize = 2;
     let mut waiting = None;
-    let mut table = Table::new();
     // a message is known by the place of its line, so the lines are found by place and not split off
     while at < input.len() {
         let end = line_end(input, at);
@@ -53,10 +52,9 @@ fn scan_body(input: &[u8], start: Seq, from: usize) -> Scanned
             return Scanned {
                 start,
                 bad: Some(line),
-                table,
             };
         }
-        enter_found(input, start, found, &mut table);
+        enter_found(input, start, found, table);
         waiting = wait_after(found);
         at = next_line(input, end);
         line += 1;
@@ -65,21 +63,20 @@ fn scan_body(input: &[u8], start: Seq, from: usize) -> Scanned
     Scanned {
         start,
         bad: waiting.map(|m| m.line),
-        table,
     }
 }
 
-// Reads a whole recording.
-pub(crate) fn scan(input: &[u8]) -> Scanned
-    ensures { Scans input.now (start_of input.now) (body_of input.now) result }
+// Reads a whole recording into an empty table. The table is the caller's: it takes 24 KB, and one handed out would be copied at each return.
+pub(crate) fn scan(input: &[u8], table: &mut Table) -> Scanned
+    requires { table_of table.old ≡ no_numbers }
+    ensures { Scans input.now (start_of input.now) (body_of input.now) result table.new }
 {
     let end = line_end(input, 0);
     let Some(start) = read_start(&input[..end]) else {
         return Scanned {
             start: Seq(0),
             bad: Some(1),
-            table: Table::new(),
         };
     };
-    scan_body(input, start, next_line(input, end))
+    scan_body(input, start, next_line(input, end), table)
 }

@@ -18,14 +18,14 @@ returns-in_default c = let input = c.args.input.now in
     record {
       starts = sym bad.1;
       bads = sym (ap (λ b. line_in b.bad) bad.0);
-      tables = c.new.ensures ∙ sym (ap (λ b. tabled input (start_of input) no_numbers b.messages) bad.0);
+      tables = c.requires ∙ sym (ap (λ b. tabled input (start_of input) no_numbers b.messages) bad.0);
     }
 
 pub scan_body-requires : goal.scan_body-requires
 scan_body-requires c =
     let read = sym c.read_start.ensures ∙ c.in-Some.is in
     let long = first-long c.args.input.now c.line_end-end.result (omega (arith, c.line_end-end.ensures)) _ read in
-    omega (arith, long, c.next_line.ensures)
+    record { le_from = omega (arith, long, c.next_line.ensures); empty = c.requires }
 
 pub returns : goal.returns
 returns c = let input = c.args.input.now in

@@ -38,11 +38,11 @@ ended (Some m) sane = line_some m.line sane.1
 pub loop-at-init : goal.loop-at-init
 unfolding Rising
 loop-at-init c = record {
-  counted = (omega arith, c.requires);
-  rises = rw (ap (λ t. t.rows) c.new-table.ensures) (omega arith);
+  counted = (omega arith, c.requires.le_from);
+  rises = rw (ap (λ t. t.rows) c.requires.empty) (omega arith);
   waits = tt;
   bads = refl;
-  tables = rw c.new-table.ensures;
+  tables = rw c.requires.empty;
 }
 
 pub slice_bounds-read_line-end : goal.slice_bounds-read_line-end
