@@ -108,10 +108,20 @@ impl End<'_> {
         Ok(())
     }
 
-    fn change(&mut self, out: Changed) -> Result<(), Refusal> {
+    fn changed(&mut self, out: Changed) -> Result<(), Refusal> {
         self.state = Some(out.state);
         out.outcome?;
         self.done()
+    }
+
+    // This and the calls below stand apart from one another: a function clears at its head all that it keeps, states among it, and in
+    // one function with the others each would clear what they all keep.
+    #[inline(never)]
+    fn change<F: FnOnce(State) -> Changed>(&mut self, s: &State, call: F) -> Result<(), Refusal>
+        requires { F.IsAlwaysCallable call }
+    {
+        let out = call(*s);
+        self.changed(out)
     }
 
     // It is lent as many records as it asks for, unless a `lend` said how many. Where it asks for more than there are, it is lent all, and
@@ -147,9 +157,10 @@ impl End<'_> {
         Ok(())
     }
 
+    #[inline(never)]
     fn send(
         &mut self,
-        s: State,
+        s: &State,
         slot: u8,
         time: u64,
         msg: ReliableMsg,
@@ -159,13 +170,14 @@ impl End<'_> {
         let payload = *self.payload;
         let bytes = of_payload(&payload, length);
         let store = first_mut(self.sent, lent);
-        let out = engine::send(s, store, slot, time, msg, bytes);
+        let out = engine::send(*s, store, slot, time, msg, bytes);
         self.state = Some(out.state);
         self.told(u64::from(out.answer?.0))
     }
 
-    fn resend(&mut self, s: State, slot: u8, time: u64, seq: Seq) -> Result<(), Refusal> {
-        let out = engine::resend(s, slot, time, seq);
+    #[inline(never)]
+    fn resend(&mut self, s: &State, slot: u8, time: u64, seq: Seq) -> Result<(), Refusal> {
+        let out = engine::resend(*s, slot, time, seq);
         self.state = Some(out.state);
         let (msg, length) = out.answer?;
         let kind = msg.kind();
@@ -185,9 +197,10 @@ impl End<'_> {
         )
     }
 
+    #[inline(never)]
     fn receive(
         &mut self,
-        s: State,
+        s: &State,
         slot: u8,
         msg: ReliableMsg,
         seq: Seq,
@@ -196,26 +209,28 @@ impl End<'_> {
     ) -> Result<(), Refusal> {
         let payload = *self.payload;
         let bytes = of_payload(&payload, length);
-        let (most, count) = self.lent_to(&s);
+        let (most, count) = self.lent_to(s);
         let store = first_mut(received, most);
         let records = first_mut(self.records, count);
-        let out = engine::receive(s, store, records, slot, msg, seq, bytes);
-        self.change(out)
+        let out = engine::receive(*s, store, records, slot, msg, seq, bytes);
+        self.changed(out)
     }
 
-    fn show(&mut self, s: State, received: &[u8]) -> Result<(), Refusal> {
-        let (bytes, count) = self.lent_to(&s);
+    #[inline(never)]
+    fn show(&mut self, s: &State, received: &[u8]) -> Result<(), Refusal> {
+        let (bytes, count) = self.lent_to(s);
         let store = first(received, bytes);
         let records = first(self.records, count);
-        engine::showing(s, store, records)?;
-        let part = Hex(engine::show(s, store, records));
+        engine::showing(*s, store, records)?;
+        let part = Hex(engine::show(*s, store, records));
         self.out.say(format_args!("0 {part}\n"));
         Ok(())
     }
 
-    fn take(&mut self, s: State) -> Result<(), Refusal> {
-        let (_, count) = self.lent_to(&s);
-        let out = engine::take(s, first_mut(self.records, count));
+    #[inline(never)]
+    fn take(&mut self, s: &State) -> Result<(), Refusal> {
+        let (_, count) = self.lent_to(s);
+        let out = engine::take(*s, first_mut(self.records, count));
         self.state = Some(out.state);
         let (msg, seq, length) = out.answer?;
         let kind = msg.kind();
@@ -224,28 +239,31 @@ impl End<'_> {
         Ok(())
     }
 
-    fn take_ack(&mut self, s: State, slot: u8) -> Result<(), Refusal> {
-        let out = engine::take_ack(s, slot);
+    #[inline(never)]
+    fn take_ack(&mut self, s: &State, slot: u8) -> Result<(), Refusal> {
+        let out = engine::take_ack(*s, slot);
         self.state = Some(out.state);
         self.told(u64::from(out.answer?.0))
     }
 
+    #[inline(never)]
     fn add(
         &mut self,
-        s: State,
+        s: &State,
         identity: u64,
         trip: u64,
         max: Option<u64>,
         is_blocked: bool,
         is_unconfirmed: bool,
     ) -> Result<(), Refusal> {
-        let out = engine::add(s, identity, trip, max, is_blocked, is_unconfirmed);
+        let out = engine::add(*s, identity, trip, max, is_blocked, is_unconfirmed);
         self.state = Some(out.state);
         self.told(u64::from(out.answer?))
     }
 
-    fn deadline(&mut self, s: State, timeout: AckTimeout, is_bad: bool) -> Result<(), Refusal> {
-        match engine::earliest_confirm_timeout(s, timeout, is_bad)? {
+    #[inline(never)]
+    fn deadline(&mut self, s: &State, timeout: AckTimeout, is_bad: bool) -> Result<(), Refusal> {
+        match engine::earliest_confirm_timeout(*s, timeout, is_bad)? {
             Some((slot, is_flushed, deadline)) => {
                 let flushed = u8::from(is_flushed);
                 self.out
@@ -256,7 +274,8 @@ impl End<'_> {
         }
     }
 
-    fn slow(&mut self, s: State, rows: usize) -> Result<(), Refusal> {
+    #[inline(never)]
+    fn slow(&mut self, s: &State, rows: usize) -> Result<(), Refusal> {
         let links = rows::slow(&s.links, rows)?;
         self.out.say("0");
         for slot in first(&links.slots, links.count) {
@@ -266,34 +285,40 @@ impl End<'_> {
         Ok(())
     }
 
+    #[inline(never)]
+    fn due(&mut self, s: &State) -> Result<(), Refusal> {
+        self.told(u64::from(engine::is_consume_ack_required(*s)?))
+    }
+
     fn lend(&mut self, lent: Lent) -> Result<(), Refusal> {
         self.lent = lent;
         self.done()
     }
 
-    fn dump(&mut self, s: State, received: &[u8]) -> Result<(), Refusal> {
-        dump::all(&mut self.out, &s, self.sent, received, self.records);
+    #[inline(never)]
+    fn dump(&mut self, s: &State, received: &[u8]) -> Result<(), Refusal> {
+        dump::all(&mut self.out, s, self.sent, received, self.records);
         Ok(())
     }
 
-    fn on_state(&mut self, s: State, call: OnState, received: &mut [u8]) -> Result<(), Refusal> {
+    fn on_state(&mut self, s: &State, call: OnState, received: &mut [u8]) -> Result<(), Refusal> {
         let lent = self.lent;
         match call {
             OnState::Add(identity, trip, max, is_blocked, is_unconfirmed) => {
                 self.add(s, identity, trip, max, is_blocked, is_unconfirmed)
             }
-            OnState::Remove(slot) => self.change(engine::remove(s, slot)),
-            OnState::Confirm(slot) => self.change(engine::confirm(s, slot)),
-            OnState::Unconfirm(slot) => self.change(engine::unconfirm(s, slot)),
-            OnState::Block(slot, blocked) => self.change(engine::block(s, slot, blocked)),
-            OnState::Ping(slot, time) => self.change(engine::ping(s, slot, time)),
-            OnState::Flush(slot, time) => self.change(engine::flush(s, slot, time)),
-            OnState::Pong(slot, time) => self.change(engine::pong(s, slot, time)),
-            OnState::Mark(slot, seq) => self.change(engine::mark(s, slot, seq)),
-            OnState::Ack(slot, time, seq) => self.change(engine::ack(s, slot, time, seq)),
+            OnState::Remove(slot) => self.change(s, |s| engine::remove(s, slot)),
+            OnState::Confirm(slot) => self.change(s, |s| engine::confirm(s, slot)),
+            OnState::Unconfirm(slot) => self.change(s, |s| engine::unconfirm(s, slot)),
+            OnState::Block(slot, blocked) => self.change(s, |s| engine::block(s, slot, blocked)),
+            OnState::Ping(slot, time) => self.change(s, |s| engine::ping(s, slot, time)),
+            OnState::Flush(slot, time) => self.change(s, |s| engine::flush(s, slot, time)),
+            OnState::Pong(slot, time) => self.change(s, |s| engine::pong(s, slot, time)),
+            OnState::Mark(slot, seq) => self.change(s, |s| engine::mark(s, slot, seq)),
+            OnState::Ack(slot, time, seq) => self.change(s, |s| engine::ack(s, slot, time, seq)),
             OnState::TakeAck(slot) => self.take_ack(s, slot),
-            OnState::Due => self.told(u64::from(engine::is_consume_ack_required(s)?)),
-            OnState::Close => self.change(engine::close_reader(s)),
+            OnState::Due => self.due(s),
+            OnState::Close => self.change(s, engine::close_reader),
             OnState::Deadline(timeout, is_bad) => self.deadline(s, timeout, is_bad),
             OnState::Slow(rows) => self.slow(s, rows),
             OnState::LendSent(n) => self.lend(Lent {
@@ -327,7 +352,7 @@ impl End<'_> {
             Call::Read(n) => self.read(n),
             Call::Write(room, msg) => self.write(room, msg),
             Call::OnState(call) => match self.state {
-                Some(s) => self.on_state(s, call, received),
+                Some(s) => self.on_state(&s, call, received),
                 None => return self.unknown(),
             },
         };
