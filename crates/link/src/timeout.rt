@@ -45,15 +45,19 @@ impl AckTimeout {
             && self.max <= MAX_TIME
     }
 
-    // How long after a packet was definitely sent its acknowledgement may be in coming. A product too large for 64 bits is above any
-    // maximum.
+    // How long after a packet was definitely sent its acknowledgement may be in coming: within the maximum at each factor. A product too
+    // large for 64 bits is above any maximum.
     pub fn duration(self, roundtrip: u64, resent: bool, unreliable: bool) -> u64
         ensures { result ≡ duration_of self roundtrip resent unreliable }
     {
+        let most = self.max;
         let product = roundtrip
             .saturating_mul(self.roundtrip_factor)
+            .min(most)
             .saturating_mul(factor_if(resent, self.resent_factor))
-            .saturating_mul(factor_if(unreliable, self.unreliable_factor));
-        product.min(self.max).max(self.min)
+            .min(most)
+            .saturating_mul(factor_if(unreliable, self.unreliable_factor))
+            .min(most);
+        product.max(self.min)
     }
 }
