@@ -2,15 +2,19 @@
 -- call of every library crate has its line here under its path; docs/EXCEPTIONS.md has the exceptions, and .ci/unique holds both
 -- to the sources. `Reads.Learnt` of a call is its promise: what its `ensures` say of its arguments, its answer (with the next state
 -- in it) and what was lent to it at exit. The checker makes it of the source, so that no copy here can differ. Assumes nothing.
-use Rattle.std.specs.Prelude.{length, ◌≡◌, refl, List, ℕ, Bool, ◌&&◌, ◌||◌, Result}
+use Rattle.std.specs.Prelude.{length, ◌≡◌, refl, List, ℕ, ◌<◌, ◌≤◌, ◌⊎◌, Bool, ◌&&◌, ◌||◌, Result, Ok, Err}
 use Rattle.refusal.specs.declared.Refusal.{Refusal}
 use Rattle.engine.specs.declared.slowness.SlowLinks.{SlowLinks}
 use Rattle.engine.specs.Held.{HandOut}
-use Rattle.std.proofs.Common.{sym, ap, ◌∙◌}
+use Rattle.std.proofs.Common.{sym, ap, ◌∙◌, arith}
 use Rattle.std.specs.Borrow.{GName, Bor, MutBor}
 use contract.Lifetimes.{Lfts}
 use Rattle.seq.specs.declared.Seq.{Seq}
 use Rattle.msg.specs.declared.link_msg.LinkMsg.{LinkMsg}
+use Rattle.msg.specs.declared.link_msg.RefusedReason.{RefusedReason}
+use Rattle.msg.specs.declared.link_msg.RefusedReason.TheVariants.{Closed, NotListening, ConnectionRefused, LinkRefused}
+use Rattle.msg.specs.Messages.{reason_byte}
+use Rattle.msg.specs.Reasons.{Decodes}
 use Rattle.msg.specs.declared.reliable.ReliableMsg.{ReliableMsg}
 use Rattle.link.specs.declared.row.LinkRow.{LinkRow}
 use Rattle.engine.specs.declared.state.State.{State}
@@ -65,6 +69,43 @@ pub seq-lib :
     × Unique seq.Seq.is_before.Reads.Learnt
     × Unique seq.Seq.past.Reads.Learnt
 seq-lib = (sole, sole, sole, sole, sole, sole, sole)
+
+-- crates/msg/src/link_msg.rt: the conversion of a byte. It promises no equation: a byte is that of one reason, or of none
+reason-small : (a : RefusedReason) → (1 ≤ reason_byte a) × (reason_byte a ≤ 4)
+reason-small Closed = omega arith
+reason-small NotListening = omega arith
+reason-small ConnectionRefused = omega arith
+reason-small LinkRefused = omega arith
+
+same-reason : (a b : RefusedReason) → reason_byte a ≡ reason_byte b → a ≡ b
+same-reason Closed Closed e = refl
+same-reason Closed NotListening e = absurd (omega arith)
+same-reason Closed ConnectionRefused e = absurd (omega arith)
+same-reason Closed LinkRefused e = absurd (omega arith)
+same-reason NotListening Closed e = absurd (omega arith)
+same-reason NotListening NotListening e = refl
+same-reason NotListening ConnectionRefused e = absurd (omega arith)
+same-reason NotListening LinkRefused e = absurd (omega arith)
+same-reason ConnectionRefused Closed e = absurd (omega arith)
+same-reason ConnectionRefused NotListening e = absurd (omega arith)
+same-reason ConnectionRefused ConnectionRefused e = refl
+same-reason ConnectionRefused LinkRefused e = absurd (omega arith)
+same-reason LinkRefused Closed e = absurd (omega arith)
+same-reason LinkRefused NotListening e = absurd (omega arith)
+same-reason LinkRefused ConnectionRefused e = absurd (omega arith)
+same-reason LinkRefused LinkRefused e = refl
+
+no-reason : (byte : ℕ) (a : RefusedReason) → reason_byte a ≡ byte → ((byte ≡ 0) ⊎ (4 < byte)) → ⊥
+no-reason byte a e none = let small = reason-small a in omega (arith, small, none)
+
+one-decoded : (byte : ℕ) (r r' : Result RefusedReason Refusal) → Decodes byte r → Decodes byte r' → r ≡ r'
+one-decoded byte (Ok a) (Ok b) p q = ap Ok (same-reason a b (p ∙ sym q))
+one-decoded byte (Ok a) (Err e) p q = absurd (no-reason byte a p q.1)
+one-decoded byte (Err e) (Ok b) p q = absurd (no-reason byte b q p.1)
+one-decoded byte (Err e) (Err e') p q = ap Err (p.0 ∙ sym q.0)
+
+pub msg-reason : Unique msg.link_msg.RefusedReasonTryFromU8.try_from.Reads.Learnt
+msg-reason = record { equal = λ κs a r r' e e' p q. one-decoded _ r r' p q }
 
 -- crates/msg/src/reliable.rt
 pub msg-reliable :
